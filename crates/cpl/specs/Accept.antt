@@ -1,0 +1,75 @@
+-- Acceptance: codes 7 to 10 of document 01, each with its node. "8, 9, 10, 7 at each node, children first, left before right."
+use mathlib.Core.List.{List, [], _∷_, _++_, map}
+use mathlib.Core.Bool.{Bool, true, false, cond, not, _&&_, _||_}
+use mathlib.Core.Option.{Option, none, some}
+use Prim.Native.Nat.{ℕ, suc, _+_}
+use lib.Dec.{eqb, leb}
+use lib.ListN.{length}
+use Rattle.cpl.specs.Tests.{anyB, allB}
+use Rattle.cpl.specs.Limits.{maxFields}
+use Rattle.cpl.specs.Codes.{CLASH, UNKNOWN, WIDTH, FIELDS}
+use Rattle.cpl.specs.Plan.{Pair, pair, eqP, Expr, On, on, Unary, Binary, union, join, Plan, leaf, unary, binary, Catalogue}
+use Rattle.cpl.specs.Exprs.{known, unaryExprs, condExprs, planNodes}
+use Rattle.cpl.specs.Fields.{leafFields, unaryFields, binaryFields, fieldsOf}
+
+-- ── the tests ───────────────────────────────────────────────────────────────────────────────
+
+-- "one name both with and without qualifier"
+unfoldable pub halfNamed : Pair → Pair → Bool
+halfNamed (pair q n) (pair r m) = eqb n m && cond (eqb q 0) (not (eqb r 0)) (eqb r 0)
+
+-- "two equal pairs, or one name both with and without qualifier"
+unfoldable pub conflict : Pair → Pair → Bool
+conflict f g = eqP f g || halfNamed f g
+
+unfoldable pub clash : List Pair → Bool
+clash [] = false
+clash (f ∷ fs) = anyB (conflict f) fs || clash fs
+
+-- "of a join: pair halves each in their own side, the condition in both"
+unfoldable pub knownOn : List Pair → List Pair → On → Bool
+knownOn fl fr (on a b) = known fl a && known fr b
+
+unfoldable pub knownBinary : Binary → List Pair → List Pair → Bool
+knownBinary union fl fr = true
+knownBinary (join t os c) fl fr = allB (knownOn fl fr) os && allB (known (fl ++ fr)) (condExprs c)
+
+-- "WIDTH: Union inputs of unequal width"
+unfoldable pub even : Binary → List Pair → List Pair → Bool
+even union fl fr = eqb (length fl) (length fr)
+even (join t os c) fl fr = true
+
+-- "in a node's fields or in a join's two sides together"
+unfoldable pub together : Binary → List Pair → List Pair → List Pair
+together union fl fr = fl
+together (join t os c) fl fr = fl ++ fr
+
+-- ── the first fault ─────────────────────────────────────────────────────────────────────────
+
+pub data Fault : Type 0 where
+  fault : (code node : ℕ) → Fault
+
+unfoldable pub _then_ : Option Fault → Option Fault → Option Fault
+none then f = f
+some e then f = some e
+
+infixr 20 _then_
+unfoldable pub must : Bool → (code at : ℕ) → Option Fault
+must true code at = none
+must false code at = some (fault code at)
+
+-- of node `at`: its columns are known, its inputs even, its own fields fs few, and gs without a clash
+unfoldable pub nodeFault : (at : ℕ) (all-known inputs-even : Bool) (fs gs : List Pair) → Option Fault
+nodeFault at all-known inputs-even fs gs =
+    must all-known UNKNOWN at then must inputs-even WIDTH at then must (leb (length fs) maxFields) FIELDS at then must (not (clash gs)) CLASH at
+
+-- the first fault of a plan whose root is node `at`. "Nodes are numbered in prefix order from 0."
+unfoldable pub check : Catalogue → Plan → (at : ℕ) → Option Fault
+check C (leaf h) at = nodeFault at true true (leafFields C h) (leafFields C h)
+check C (unary h p) at =
+    let fs = fieldsOf C p in
+    check C p (suc at) then nodeFault at (allB (known fs) (unaryExprs h)) true (unaryFields h fs) (unaryFields h fs)
+check C (binary h p₁ p₂) at =
+    let fl = fieldsOf C p₁ in
+    let fr = fieldsOf C p₂ in
+    check C p₁ (suc at) then check C p₂ (suc (at + planNodes p₁)) then nodeFault at (knownBinary h fl fr) (even h fl fr) (binaryFields h fl fr) (together h fl fr)
