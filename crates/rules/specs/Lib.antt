@@ -1,0 +1,7 @@
+-- Requests, rules and answers, bottom up.
+pub mod Mask
+pub mod Request
+pub mod Merge
+pub mod Rules
+pub mod Rewrite
+pub mod Answer
