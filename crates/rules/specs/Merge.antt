@@ -78,12 +78,16 @@ unfoldable pub defOf : Pair → List Item → Expr
 defOf c [] = miss
 defOf c (i ∷ is) = cond (fits c (itemPair i)) (itemExpr i) (defOf c is)
 
-unfoldable pub replace : List Item → Expr → Expr
-replace is (col c) = defOf c is
-replace is (lit z) = lit z
-replace is miss = miss
-replace is (un o a) = un o (replace is a)
-replace is (bin o a b) = bin o (replace is a) (replace is b)
+-- each column replaced by what d says of it
+unfoldable pub replace : (d : Pair → Expr) → Expr → Expr
+replace d (col c) = d c
+replace d (lit z) = lit z
+replace d miss = miss
+replace d (un o a) = un o (replace d a)
+replace d (bin o a b) = bin o (replace d a) (replace d b)
+
+unfoldable pub define : (lower : List Item) → Expr → Expr
+define is e = replace (λ c. defOf c is) e
 
 -- "aliased only where its expression is not a column of that pair"
 unfoldable pub item : Pair → Expr → Item
@@ -96,8 +100,8 @@ item c (bin o a b) = named c (bin o a b)
 -- "each item keeps its pair", "an item aliased with a nonzero qualifier stays aliased"
 unfoldable pub replaceItem : List Item → Item → Item
 replaceItem is (bare c) = item c (defOf c is)
-replaceItem is (named (pair zero n) e) = item (pair zero n) (replace is e)
-replaceItem is (named (pair (suc q) n) e) = named (pair (suc q) n) (replace is e)
+replaceItem is (named (pair zero n) e) = item (pair zero n) (define is e)
+replaceItem is (named (pair (suc q) n) e) = named (pair (suc q) n) (define is e)
 
 -- ── the step ────────────────────────────────────────────────────────────────────────────────
 
