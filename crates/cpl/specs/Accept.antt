@@ -20,7 +20,7 @@ halfNamed (pair q n) (pair r m) = eqb n m && cond (eqb q 0) (not (eqb r 0)) (eqb
 
 -- "two equal pairs, or one name both with and without qualifier"
 unfoldable pub conflict : Pair → Pair → Bool
-conflict f g = eqP f g || halfNamed f g
+conflict f g = eqP g f || halfNamed f g
 
 unfoldable pub clash : List Pair → Bool
 clash [] = false

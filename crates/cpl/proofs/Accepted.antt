@@ -1,0 +1,106 @@
+-- What acceptance says of a plan, node by node and without node numbers: `check` finds no fault exactly where `Accepted` holds.
+use mathlib.Core.Path.{_≡_, refl, _∙_, ap, ap₂}
+use mathlib.Core.List.{List, [], _∷_, _++_, map}
+use mathlib.Core.Bool.{Bool, true, false, not, true≢false}
+use mathlib.Core.Option.{Option, none, some}
+use Prim.Native.Nat.{ℕ, suc, _+_, _≤_}
+use lib.Dec.{T, leb, leb→le, le→leb}
+use lib.ListN.{length}
+use Rattle.cpl.specs.Tests.{allB}
+use Rattle.cpl.specs.Limits.{maxFields}
+use Rattle.cpl.specs.Codes.{CLASH, UNKNOWN, WIDTH, FIELDS}
+use Rattle.cpl.specs.Plan.{Pair, Binary, union, join, Plan, leaf, unary, binary, Catalogue}
+use Rattle.cpl.specs.Exprs.{known, unaryExprs, planNodes}
+use Rattle.cpl.specs.Fields.{leafFields, unaryFields, binaryFields, fieldsOf}
+use Rattle.cpl.specs.Accept.{clash, knownBinary, even, together, Fault, fault, _then_, must, nodeFault, check}
+use Rattle.cpl.proofs.Clash.{Clear, clear, no-clash, clear-join}
+
+-- a node without a fault
+pub record NodeOk (all-known inputs-even : Bool) (fs gs : List Pair) : Type 0 where
+  pub all-found : T all-known
+  pub as-wide : T inputs-even
+  pub few : length fs ≤ maxFields
+  pub distinct : Clear gs
+
+unfoldable pub Accepted : Catalogue → Plan → Type 0
+Accepted C (leaf h) = NodeOk true true (leafFields C h) (leafFields C h)
+Accepted C (unary h p) = Accepted C p × NodeOk (allB (known (fieldsOf C p)) (unaryExprs h)) true (unaryFields h (fieldsOf C p)) (unaryFields h (fieldsOf C p))
+Accepted C (binary h p₁ p₂) =
+    Accepted C p₁ × Accepted C p₂
+    × NodeOk (knownBinary h (fieldsOf C p₁) (fieldsOf C p₂)) (even h (fieldsOf C p₁) (fieldsOf C p₂)) (binaryFields h (fieldsOf C p₁) (fieldsOf C p₂)) (together h (fieldsOf C p₁) (fieldsOf C p₂))
+
+-- ── one test after the other ────────────────────────────────────────────────────────────────
+
+then-none : (f g : Option Fault) → (f then g) ≡ none → (f ≡ none) × (g ≡ none)
+unfolding _then_
+then-none none g e = (refl, e)
+then-none (some x) g e = absurd (let z : true ≡ false = cc in true≢false z)
+
+none-then : {f g : Option Fault} → f ≡ none → g ≡ none → (f then g) ≡ none
+unfolding _then_
+none-then e h = ap₂ _then_ e h
+
+must-none : (b : Bool) (code at : ℕ) → must b code at ≡ none → T b
+unfolding must
+must-none true code at e = tt
+must-none false code at e = absurd (let z : true ≡ false = cc in true≢false z)
+
+none-must : (b : Bool) (code at : ℕ) → T b → must b code at ≡ none
+unfolding must
+none-must true code at t = refl
+none-must false code at t = absurd t
+
+node-ok : (at : ℕ) (k e : Bool) (fs gs : List Pair) → nodeFault at k e fs gs ≡ none → NodeOk k e fs gs
+unfolding nodeFault
+node-ok at k e fs gs n =
+    let h₁ = then-none (must k UNKNOWN at) _ n in
+    let h₂ = then-none (must e WIDTH at) _ (h₁ .1) in
+    let h₃ = then-none (must (leb (length fs) maxFields) FIELDS at) _ (h₂ .1) in
+    record {
+      all-found = must-none k UNKNOWN at (h₁ .0);
+      as-wide = must-none e WIDTH at (h₂ .0);
+      few = leb→le (length fs) maxFields (must-none (leb (length fs) maxFields) FIELDS at (h₃ .0));
+      distinct = clear gs (must-none (not (clash gs)) CLASH at (h₃ .1));
+    }
+
+ok-node : (at : ℕ) {k e : Bool} {fs gs : List Pair} → NodeOk k e fs gs → nodeFault at k e fs gs ≡ none
+unfolding nodeFault
+ok-node at {k} {e} {fs} {gs} o =
+    none-then (none-must k UNKNOWN at (o .all-found))
+    (none-then (none-must e WIDTH at (o .as-wide))
+    (none-then (none-must (leb (length fs) maxFields) FIELDS at (le→leb (length fs) maxFields (o .few))) (none-must (not (clash gs)) CLASH at (no-clash (o .distinct)))))
+
+-- ── plans ───────────────────────────────────────────────────────────────────────────────────
+
+pub accepted : (C : Catalogue) (p : Plan) (at : ℕ) → check C p at ≡ none → Accepted C p
+unfolding check Accepted
+accepted C (leaf h) at n = node-ok at _ _ _ _ n
+accepted C (unary h p) at n = let k = then-none (check C p (suc at)) _ n in (accepted C p (suc at) (k .0), node-ok at _ _ _ _ (k .1))
+accepted C (binary h p₁ p₂) at n =
+    let k = then-none (check C p₁ (suc at)) _ n in
+    let l = then-none (check C p₂ (suc (at + planNodes p₁))) _ (k .1) in
+    (accepted C p₁ (suc at) (k .0), accepted C p₂ (suc (at + planNodes p₁)) (l .0), node-ok at _ _ _ _ (l .1))
+
+pub no-fault : (C : Catalogue) (p : Plan) (at : ℕ) → Accepted C p → check C p at ≡ none
+unfolding check Accepted
+no-fault C (leaf h) at o = ok-node at o
+no-fault C (unary h p) at o = none-then (no-fault C p (suc at) (o .0)) (ok-node at (o .1))
+no-fault C (binary h p₁ p₂) at o = none-then (no-fault C p₁ (suc at) (o .0)) (none-then (no-fault C p₂ (suc (at + planNodes p₁)) (o .1)) (ok-node at (o .2)))
+
+-- the fields of an accepted plan are few and distinct
+pub few-fields : (C : Catalogue) (p : Plan) → Accepted C p → length (fieldsOf C p) ≤ maxFields
+unfolding Accepted fieldsOf
+few-fields C (leaf h) o = o .few
+few-fields C (unary h p) o = o .1 .few
+few-fields C (binary h p₁ p₂) o = o .2 .few
+
+own-clear : (h : Binary) (fl fr : List Pair) → Clear (together h fl fr) → Clear (binaryFields h fl fr)
+unfolding together binaryFields
+own-clear union fl fr k = k
+own-clear (join t os c) fl fr k = clear-join t fl fr k
+
+pub distinct-fields : (C : Catalogue) (p : Plan) → Accepted C p → Clear (fieldsOf C p)
+unfolding Accepted fieldsOf
+distinct-fields C (leaf h) o = o .distinct
+distinct-fields C (unary h p) o = o .1 .distinct
+distinct-fields C (binary h p₁ p₂) o = own-clear h (fieldsOf C p₁) (fieldsOf C p₂) (o .2 .distinct)

@@ -1,0 +1,6 @@
+-- Laws and theorems of the plan language.
+pub mod Bools
+pub mod Lists
+pub mod Pairs
+pub mod Clash
+pub mod Accepted

@@ -1,0 +1,2 @@
+-- Laws and theorems of the rules.
+pub mod Masks

@@ -1,0 +1,196 @@
+-- Laws of masks: selecting, containment, and masks that keep what a test wants (`Cov`).
+use mathlib.Core.Path.{_≡_, refl, sym, _∙_, ap, ap₂}
+use mathlib.Core.List.{List, [], _∷_, _++_, map}
+use mathlib.Core.Bool.{Bool, true, false, cond, _||_}
+use Prim.Native.Nat.{ℕ, zero, suc, _≤_}
+use native.Mathlib.Omega.{arith}
+use lib.Dec.{T}
+use lib.ListN.{length, take, drop, take-append-drop}
+use Rattle.cpl.specs.Lists.{All, a[], _a∷_, All2, z[], _z∷_, Fit}
+use Rattle.cpl.proofs.Lists.{Fit-map}
+use Rattle.rules.specs.Mask.{Mask, select, orM, ones, zeros, count, LeB, LeM}
+
+-- the mask keeps every element that passes the test
+pub data Cov {A : Type 0} (P : A → Bool) : List A → Mask → Type 0 where
+  c[] : Cov P [] []
+  _c∷_ : {x : A} {k : Bool} {xs : List A} {ks : Mask} → LeB (P x) k → Cov P xs ks → Cov P (x ∷ xs) (k ∷ ks)
+
+infixr 30 _c∷_
+-- ── containment ─────────────────────────────────────────────────────────────────────────────
+
+pub LeB-refl : (b : Bool) → LeB b b
+LeB-refl true = tt
+LeB-refl false = tt
+
+pub LeB-trans : (a b c : Bool) → LeB a b → LeB b c → LeB a c
+LeB-trans true true c h k = k
+LeB-trans true false c h k = absurd h
+LeB-trans false b c h k = tt
+
+pub LeB-left : (a b : Bool) → LeB a (a || b)
+LeB-left true b = tt
+LeB-left false b = tt
+
+pub LeB-right : (a b : Bool) → LeB b (a || b)
+LeB-right true true = tt
+LeB-right true false = tt
+LeB-right false true = tt
+LeB-right false false = tt
+
+pub LeB-true : (b : Bool) → LeB b true
+LeB-true true = tt
+LeB-true false = tt
+
+pub LeM-refl : (ks : Mask) → LeM ks ks
+LeM-refl [] = z[]
+LeM-refl (k ∷ ks) = LeB-refl k z∷ LeM-refl ks
+
+pub LeM-trans : {rs bs cs : Mask} → LeM rs bs → LeM bs cs → LeM rs cs
+LeM-trans z[] z[] = z[]
+LeM-trans (_z∷_ {x = a} {y = b} h hs) (_z∷_ {y = c} k ks) = LeB-trans a b c h k z∷ LeM-trans hs ks
+
+pub LeM-++ : {R S K L : Mask} → LeM R K → LeM S L → LeM (R ++ S) (K ++ L)
+LeM-++ z[] k = k
+LeM-++ (h z∷ hs) k = h z∷ LeM-++ hs k
+
+pub LeM-fit : {A : Type 0} {R K : Mask} {xs : List A} → LeM R K → Fit R xs → Fit K xs
+LeM-fit z[] z[] = z[]
+LeM-fit (h z∷ hs) (k z∷ ks) = tt z∷ LeM-fit hs ks
+
+-- a mask of two parts, whose first part is kept
+pub LeM-parts : (n : ℕ) (R : Mask) {K L : Mask} → LeM (take n R) K → LeM (drop n R) L → LeM R (K ++ L)
+LeM-parts n R {K} {L} h k = mathlib.Core.Path.subst (λ M. LeM M (K ++ L)) (take-append-drop n R) (LeM-++ h k)
+
+-- ── all, and as many ────────────────────────────────────────────────────────────────────────
+
+pub fit-ones : {A : Type 0} {R : Mask} {xs : List A} → Fit R xs → LeM R (ones xs)
+unfolding ones
+fit-ones z[] = z[]
+fit-ones (_z∷_ {x = r} _ hs) = LeB-true r z∷ fit-ones hs
+
+pub ones-le : {A : Type 0} (xs : List A) {K : Mask} → LeM (ones xs) K → K ≡ ones xs
+unfolding ones
+ones-le [] z[] = refl
+ones-le (x ∷ xs) (_z∷_ {y = true} h hs) = ap (true ∷_) (ones-le xs hs)
+ones-le (x ∷ xs) (_z∷_ {y = false} h hs) = absurd h
+
+count-le : {R K : Mask} → LeM R K → count R ≤ count K
+unfolding count
+count-le z[] = omega arith
+count-le (_z∷_ {x = true} {y = true} h hs) = let k = count-le hs in omega arith
+count-le (_z∷_ {x = true} {y = false} h hs) = absurd h
+count-le (_z∷_ {x = false} {y = true} h hs) = let k = count-le hs in omega arith
+count-le (_z∷_ {x = false} {y = false} h hs) = count-le hs
+
+-- a larger mask that has no more is the same
+pub count-eq : {R K : Mask} → LeM R K → count K ≤ count R → K ≡ R
+unfolding count
+count-eq z[] k = refl
+count-eq (_z∷_ {x = true} {y = true} h hs) k = ap (true ∷_) (count-eq hs (omega arith))
+count-eq (_z∷_ {x = true} {y = false} h hs) k = absurd h
+count-eq (_z∷_ {x = false} {y = true} h hs) k = let l = count-le hs in absurd (omega arith)
+count-eq (_z∷_ {x = false} {y = false} h hs) k = ap (false ∷_) (count-eq hs k)
+
+module _ {A : Type 0} where
+  pub length-select : {K : Mask} {xs : List A} → Fit K xs → length (select K xs) ≡ count K
+  unfolding select count
+  length-select z[] = refl
+  length-select (_z∷_ {x = true} _ hs) = ap suc (length-select hs)
+  length-select (_z∷_ {x = false} _ hs) = length-select hs
+
+  -- a selection is no longer than the list
+  pub select-short : (K : Mask) (xs : List A) → length (select K xs) ≤ length xs
+  unfolding select
+  select-short [] xs = omega arith
+  select-short (k ∷ K) [] = omega arith
+  select-short (true ∷ K) (x ∷ xs) = let h = select-short K xs in omega arith
+  select-short (false ∷ K) (x ∷ xs) = let h = select-short K xs in omega arith
+
+  -- ── a request with the columns that pass a test ───────────────────────────────────────────
+
+  pub LeM-or : (P : A → Bool) {rs : Mask} {xs : List A} → Fit rs xs → LeM rs (orM rs (map P xs))
+  unfolding orM
+  LeM-or P z[] = z[]
+  LeM-or P (_z∷_ {x = r} {y = x} _ hs) = LeB-left r (P x) z∷ LeM-or P hs
+
+  pub Cov-or : (P : A → Bool) {rs : Mask} {xs : List A} → Fit rs xs → Cov P xs (orM rs (map P xs))
+  unfolding orM
+  Cov-or P z[] = c[]
+  Cov-or P (_z∷_ {x = r} {y = x} _ hs) = LeB-right r (P x) c∷ Cov-or P hs
+
+  pub Fit-or : (P : A → Bool) {rs : Mask} {xs : List A} → Fit rs xs → Fit (orM rs (map P xs)) xs
+  unfolding orM
+  Fit-or P z[] = z[]
+  Fit-or P (_ z∷ hs) = tt z∷ Fit-or P hs
+
+  pub Cov-used : (P : A → Bool) (xs : List A) → Cov P xs (map P xs)
+  Cov-used P [] = c[]
+  Cov-used P (x ∷ xs) = LeB-refl (P x) c∷ Cov-used P xs
+
+  -- a mask that keeps more, or a test that passes less
+  pub Cov-le : {P : A → Bool} {xs : List A} {rs ks : Mask} → Cov P xs rs → LeM rs ks → Cov P xs ks
+  Cov-le c[] z[] = c[]
+  Cov-le {P} (_c∷_ {x = x} {k = r} h hs) (_z∷_ {y = k} l ls) = LeB-trans (P x) r k h l c∷ Cov-le hs ls
+
+  pub Cov-sub : {P Q : A → Bool} {xs : List A} {ks : Mask} → ((x : A) → LeB (P x) (Q x)) → Cov Q xs ks → Cov P xs ks
+  Cov-sub s c[] = c[]
+  Cov-sub {P} {Q} s (_c∷_ {x = x} {k = k} h hs) = LeB-trans (P x) (Q x) k (s x) h c∷ Cov-sub s hs
+
+  pub Cov-++ : {P : A → Bool} {xs ys : List A} {ks ls : Mask} → Cov P xs ks → Cov P ys ls → Cov P (xs ++ ys) (ks ++ ls)
+  Cov-++ c[] k = k
+  Cov-++ (h c∷ hs) k = h c∷ Cov-++ hs k
+
+  pub Cov-ones : (P : A → Bool) (xs : List A) → Cov P xs (ones xs)
+  unfolding ones
+  Cov-ones P [] = c[]
+  Cov-ones P (x ∷ xs) = LeB-true (P x) c∷ Cov-ones P xs
+
+  -- ── selecting ─────────────────────────────────────────────────────────────────────────────
+
+  pub select-map : {B : Type 0} (f : A → B) (ks : Mask) (xs : List A) → select ks (map f xs) ≡ map f (select ks xs)
+  unfolding select
+  select-map f [] xs = refl
+  select-map f (k ∷ ks) [] = refl
+  select-map f (true ∷ ks) (x ∷ xs) = ap (f x ∷_) (select-map f ks xs)
+  select-map f (false ∷ ks) (x ∷ xs) = select-map f ks xs
+
+  pub select-nil : (ks : Mask) → select {A = A} ks [] ≡ []
+  unfolding select
+  select-nil [] = refl
+  select-nil (k ∷ ks) = refl
+
+  -- to select twice
+  pub select-select : {rs ks : Mask} → LeM rs ks → (xs : List A) → select (select ks rs) (select ks xs) ≡ select rs xs
+  unfolding select
+  select-select z[] xs = refl
+  select-select {rs} {ks} (_z∷_ {x = r} {y = k} {xs = rs′} {ys = ks′} h hs) [] = select-nil (select (k ∷ ks′) (r ∷ rs′))
+  select-select (_z∷_ {x = true} {y = true} h hs) (x ∷ xs) = ap (x ∷_) (select-select hs xs)
+  select-select (_z∷_ {x = false} {y = true} h hs) (x ∷ xs) = select-select hs xs
+  select-select (_z∷_ {x = true} {y = false} h hs) (x ∷ xs) = absurd h
+  select-select (_z∷_ {x = false} {y = false} h hs) (x ∷ xs) = select-select hs xs
+
+  pub Fit-select : {B : Type 0} (ks : Mask) {xs : List A} {ys : List B} → Fit xs ys → Fit (select ks xs) (select ks ys)
+  unfolding select
+  Fit-select [] h = z[]
+  Fit-select (k ∷ ks) z[] = z[]
+  Fit-select (true ∷ ks) (h z∷ hs) = tt z∷ Fit-select ks hs
+  Fit-select (false ∷ ks) (h z∷ hs) = Fit-select ks hs
+
+  pub select-ones : {B : Type 0} {xs : List A} {ys : List B} → Fit xs ys → select (ones ys) xs ≡ xs
+  unfolding select ones
+  select-ones z[] = refl
+  select-ones (_z∷_ {x = x} _ hs) = ap (x ∷_) (select-ones hs)
+
+  -- a mask of two parts
+  pub select-++ : {ks : Mask} {xs : List A} → Fit ks xs → (ls : Mask) (ys : List A) → select (ks ++ ls) (xs ++ ys) ≡ select ks xs ++ select ls ys
+  unfolding select
+  select-++ z[] ls ys = refl
+  select-++ (_z∷_ {x = true} {y = x} _ hs) ls ys = ap (x ∷_) (select-++ hs ls ys)
+  select-++ (_z∷_ {x = false} _ hs) ls ys = select-++ hs ls ys
+
+  pub All-select : {P : A → Type 0} (ks : Mask) {xs : List A} → All P xs → All P (select ks xs)
+  unfolding select
+  All-select [] h = a[]
+  All-select (k ∷ ks) a[] = a[]
+  All-select (true ∷ ks) (h a∷ hs) = h a∷ All-select ks hs
+  All-select (false ∷ ks) (h a∷ hs) = All-select ks hs
