@@ -5,3 +5,4 @@ pub mod Pairs
 pub mod Clash
 pub mod Accepted
 pub mod FitFields
+pub mod Refusals
