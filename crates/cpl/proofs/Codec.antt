@@ -18,7 +18,7 @@ pub record Reads {A : Type 0} (p : Reader A) (a : A) (bs : List ℕ) (tags nodes
   pub are-bytes : AreBytes bs
   pub read : (file : List ℕ) (at t n : ℕ) → Stands file at bs → t + tags ≤ maxTags → n + nodes ≤ maxNodes → p file at t n ≡ ok a (at + length bs) (t + tags) (n + nodes)
 
-same-ok : {A : Type 0} (a : A) {at at′ t t′ n n′ : ℕ} → at ≡ at′ → t ≡ t′ → n ≡ n′ → ok a at t n ≡ ok a at′ t′ n′
+pub same-ok : {A : Type 0} (a : A) {at at′ t t′ n n′ : ℕ} → at ≡ at′ → t ≡ t′ → n ≡ n′ → ok a at t n ≡ ok a at′ t′ n′
 same-ok a e f g = cc
 
 pub reads-give : {A : Type 0} {a : A} → Reads (give a) a [] 0 0
@@ -33,7 +33,8 @@ reads-then k {b = b} {xs} {ys} {t} {t′} {n} {n′} r q =
           λ file at u m s l j.
           rw (r .read file at u m (stands-first file xs ys at s) (omega arith) (omega arith))
           (q .read file (at + length xs) (u + t) (m + n) (stands-rest file xs ys at s) (omega arith) (omega arith)
-          ∙ same-ok b (omega (arith, length-append xs ys)) (omega arith) (omega arith)) }
+          ∙ same-ok b (omega (arith, length-append xs ys)) (omega arith) (omega arith));
+    }
 
 -- p, and what was read put into f
 pub reads-map : {A B : Type 0} {p : Reader A} (f : A → B) {a : A} {bs : List ℕ} {t n : ℕ} → Reads p a bs t n → Reads (p >>= λ x. give (f x)) (f a) bs t n
@@ -112,7 +113,8 @@ stood-then {file} {at} {xs = xs} {ys} s r =
       tags-read = omega arith;
       nodes-read = omega arith;
       few-tags = r .few-tags;
-      few-nodes = r .few-nodes }
+      few-nodes = r .few-nodes;
+    }
 
 found-stood : {A : Type 0} {Good : A → Type 0} {w : A → List ℕ} {tags nodes : A → ℕ} {file : List ℕ} {at t n : ℕ} {a : A} {at′ t′ n′ : ℕ} →
     Found (Spelled Good w tags nodes) file at t n a at′ t′ n′ → Stood file at t n (w a) (tags a) (nodes a) at′ t′ n′
@@ -127,7 +129,8 @@ only-give i =
     record {
       found =
           λ file b at t n h l m.
-          record { bs = []; tags = 0; nodes = 0; is = i; stood = record { stands = h; next = omega arith; tags-read = omega arith; nodes-read = omega arith; few-tags = l; few-nodes = m } } }
+          record { bs = []; tags = 0; nodes = 0; is = i; stood = record { stands = h; next = omega arith; tags-read = omega arith; nodes-read = omega arith; few-tags = l; few-nodes = m } };
+    }
 
 pub only-refuse : {A : Type 0} {S : Form A} {code place : ℕ} → Only S (refuse code place)
 only-refuse = record { found = λ file b at t n h l m. tt }
@@ -142,7 +145,8 @@ only-then {w = w} {tags} {nodes} {p} {S} k c f =
           let s = found-stood z in
           holds-map (Found (λ y bs t n. S y (w a ++ bs) (tags a + t) (nodes a + n)) file at′ t′ n′) (Found S file at t n) (k a file at′ t′ n′)
           (λ y at″ t″ n″ z′. record { bs = w a ++ z′ .bs; tags = tags a + z′ .tags; nodes = nodes a + z′ .nodes; is = z′ .is; stood = stood-then s (z′ .stood) })
-          (f a (z .is .0) .found file b at′ t′ n′ (omega (arith, s .next, stands-fits file (w a) at (s .stands))) (s .few-tags) (s .few-nodes)) }
+          (f a (z .is .0) .found file b at′ t′ n′ (omega (arith, s .next, stands-fits file (w a) at (s .stands))) (s .few-tags) (s .few-nodes));
+    }
 
 pub only-map : {A B : Type 0} {Good : A → Type 0} {w : A → List ℕ} {tags nodes : A → ℕ} {p : Reader A} {S : Form B} (f : A → B) → Codec Good w tags nodes p →
     ((a : A) → Good a → S (f a) (w a) (tags a) (nodes a)) → Only S (p >>= λ x. give (f x))
@@ -151,7 +155,8 @@ only-map {w = w} {tags} {nodes} {p} {S} f c g =
       found =
           λ file b at t n h l m.
           holds-then _ (Found S file at t n) (p file at t n) _ (c .only .found file b at t n h l m) λ a at′ t′ n′ z.
-          record { bs = w a; tags = tags a; nodes = nodes a; is = g a (z .is .0); stood = found-stood z } }
+          record { bs = w a; tags = tags a; nodes = nodes a; is = g a (z .is .0); stood = found-stood z };
+    }
 
 pub only-here : {A : Type 0} {S : Form A} (k : ℕ → Reader A) → ((at : ℕ) → Only S (k at)) → Only S (here >>= k)
 only-here k o = record { found = λ file b at t n h l m. o at .found file b at t n h l m }
@@ -167,7 +172,8 @@ only-as {S = S} {S′} {p} f o =
           λ file b at t n h l m.
           holds-map (Found S file at t n) (Found S′ file at t n) (p file at t n)
           (λ y at″ t″ n″ z. record { bs = z .bs; tags = z .tags; nodes = z .nodes; is = f y (z .bs) (z .tags) (z .nodes) (z .is); stood = z .stood })
-          (o .found file b at t n h l m) }
+          (o .found file b at t n h l m);
+    }
 
 -- ── both ────────────────────────────────────────────────────────────────────────────────────
 
@@ -175,10 +181,15 @@ only-as {S = S} {S′} {p} f o =
 abbrev pub none : {A : Type 0} → A → ℕ
 none a = 0
 
--- the same, where good is said in other words
-pub codec-good : {A : Type 0} {Good Good′ : A → Type 0} {w : A → List ℕ} {tags nodes : A → ℕ} {p : Reader A} → ((a : A) → Good′ a → Good a) → ((a : A) → Good a → Good′ a) →
-    Codec Good w tags nodes p → Codec Good′ w tags nodes p
-codec-good f g c = record { reads = λ a h. c .reads a (f a h); only = only-as (λ a bs t n i. (g a (i .0), i .1, i .2, i .3)) (c .only) }
+-- the same, where what is good and its bytes are said in other words
+pub codec-as : {A : Type 0} {Good Good′ : A → Type 0} {w w′ : A → List ℕ} {tags nodes : A → ℕ} {p : Reader A} →
+    ((a : A) → Good′ a → Good a) → ((a : A) → Good a → Good′ a) → ((a : A) → Good a → w a ≡ w′ a) →
+    Codec Good w tags nodes p → Codec Good′ w′ tags nodes p
+codec-as f g e c =
+    record {
+      reads = λ a h. reads-as refl (e a (f a h)) refl refl (c .reads a (f a h));
+      only = only-as (λ a bs t n i. (g a (i .0), i .1 ∙ e a (i .0), i .2, i .3)) (c .only);
+    }
 
 -- readers of things nested less than so deep: one that reads as deep as the limits let anything be nested
 pub codec-deep : {A : Type 0} {Good : A → Type 0} {w : A → List ℕ} {tags nodes : A → ℕ} (p : ℕ → Reader A) (depth : A → ℕ) (most : ℕ) →
@@ -190,5 +201,7 @@ codec-deep p depth most e c =
           λ a g.
           record {
             are-bytes = c (depth a) .reads a (g, omega arith) .are-bytes;
-            read = λ file at t n s l m. c most .reads a (g, e a (omega arith) (omega arith)) .read file at t n s l m };
-      only = only-as (λ a bs t n i. (i .0 .0, i .1, i .2, i .3)) (c most .only) }
+            read = λ file at t n s l m. c most .reads a (g, e a (omega arith) (omega arith)) .read file at t n s l m;
+          };
+      only = only-as (λ a bs t n i. (i .0 .0, i .1, i .2, i .3)) (c most .only);
+    }

@@ -1,3 +1,4 @@
 -- What is proved of the plan language: every plan that can be written is read back, and what is read was written.
 pub mod Stands
 pub mod Codec
+pub mod FieldTrip

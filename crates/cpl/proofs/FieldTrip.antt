@@ -1,0 +1,238 @@
+-- Numbers, tags, counts and lists: their readers and their bytes belong together. Assumes nothing.
+use Prim.Native.Nat.{ℕ, zero, suc, _+_, _*_, _/_, _%_, _^_, _≤_, _<_}
+use mathlib.Core.Path.{_≡_, refl, sym, ap, _∙_}
+use mathlib.Core.Bool.{Bool, true, false, true≢false}
+use mathlib.Core.List.{List, [], _∷_, _++_, append-nil}
+use native.Mathlib.Omega.{arith}
+use native.Mathlib.Nat.{pow-succ'}
+use lib.ListN.{length, getD}
+use lib.Dec.{ltb, leb, eqb, eqb·suc-zero}
+use borrow.Author.Tests.{ltb-true, leb-true, lt-ltb, le-leb}
+use Rattle.cpl.specs.Limits.{maxNodes, maxTags}
+use Rattle.cpl.specs.Lists.{All, a[], _a∷_}
+use Rattle.cpl.specs.Tests.{concatMap, sumOf}
+use Rattle.cpl.specs.AreBytes.{AreBytes}
+use Rattle.cpl.specs.Read.{Res, ok, bad, Reader, _>>=_, give, refuse, pick, here, little, field, value, isNot, nonzero, below, count, any, tag, nodeTag, times, counted}
+use Rattle.cpl.specs.Bytes.{bytes, countedBytes}
+use Rattle.cpl.specs.Writable.{FitList, FitName}
+use Rattle.cpl.proofs.Stands.{Stands, stands-fits, byte-at}
+use Rattle.cpl.proofs.Codec.{same-ok, Reads, reads-give, reads-then, reads-map, reads-here, reads-yes, reads-as, Holds, holds-pick, Found, Spelled, Only, only-give, only-refuse, only-then, only-map, only-here, only-pick, only-as, Codec, none, codec-as}
+
+-- ── numbers ─────────────────────────────────────────────────────────────────────────────────
+
+bytes-length : (k x : ℕ) → length (bytes k x) ≡ k
+unfolding bytes
+bytes-length zero x = refl
+bytes-length (suc k) x = ap suc (bytes-length k (x / 256))
+
+bytes-small : (k x : ℕ) → AreBytes (bytes k x)
+unfolding bytes
+bytes-small zero x = a[]
+bytes-small (suc k) x = let h : x % 256 < 256 = omega arith in h a∷ bytes-small k (x / 256)
+
+little-bytes : (k x : ℕ) (file : List ℕ) (at : ℕ) → x < 256 ^ k → Stands file at (bytes k x) → little k file at ≡ x
+unfolding little bytes
+little-bytes zero x file at h s = omega arith
+little-bytes (suc k) x file at h s = omega (arith, s .1, little-bytes k (x / 256) file (at + 1) (omega (arith, pow-succ' 256 k)) (s .2))
+
+little-small : (k : ℕ) (file : List ℕ) (at : ℕ) → AreBytes file → little k file at < 256 ^ k
+unfolding little
+little-small zero file at b = omega arith
+little-small (suc k) file at b = omega (arith, byte-at file b at, little-small k file (at + 1) b, pow-succ' 256 k)
+
+little-stands : (k : ℕ) (file : List ℕ) (at : ℕ) → AreBytes file → at + k ≤ length file → Stands file at (bytes k (little k file at))
+unfolding little bytes
+little-stands zero file at b h = omega arith
+little-stands (suc k) file at b h =
+    let l : (getD file at 0 + 256 * little k file (at + 1)) / 256 ≡ little k file (at + 1) = omega (arith, byte-at file b at) in
+    (omega arith, omega (arith, byte-at file b at), rw l (little-stands k file (at + 1) b (omega arith)))
+
+pub field-codec : (k : ℕ) → Codec (λ x. x < 256 ^ k) (bytes k) none none (field k)
+unfolding field
+field-codec k =
+    record {
+      reads =
+          λ x h.
+          record {
+            are-bytes = bytes-small k x;
+            read =
+                λ file at t n s l m.
+                rw (le-leb (at + k) (length file) (omega (arith, bytes-length k x, stands-fits file (bytes k x) at s)), little-bytes k x file at h s, bytes-length k x) (same-ok x refl (omega arith) (omega arith));
+          };
+      only =
+          record {
+            found =
+                λ file b at t n h l m.
+                holds-pick (Found _ file at t n) (leb (at + k) (length file)) (ok (little k file at) (at + k) t n) _
+                (λ e.
+                record {
+                  bs = bytes k (little k file at);
+                  tags = 0;
+                  nodes = 0;
+                  is = (little-small k file at b, refl, refl, refl);
+                  stood =
+                      record {
+                        stands = little-stands k file at b (leb-true (at + k) (length file) e);
+                        next = omega (arith, bytes-length k (little k file at));
+                        tags-read = omega arith;
+                        nodes-read = omega arith;
+                        few-tags = l;
+                        few-nodes = m;
+                      };
+                })
+                (λ e. tt);
+          };
+    }
+
+-- a field of which only some numbers are allowed
+pub value-codec : (k : ℕ) (allowed : ℕ → Bool) → Codec (λ x. (x < 256 ^ k) × (allowed x ≡ true)) (bytes k) none none (value k allowed)
+unfolding value
+value-codec k allowed =
+    record {
+      reads = λ x h. reads-here _ λ at. reads-as refl (append-nil (bytes k x)) refl refl (reads-then _ (field-codec k .reads x (h .0)) (reads-yes (allowed x) _ (h .1) reads-give));
+      only = only-here _ λ at. only-then _ (field-codec k) λ x h. only-pick (allowed x) (λ e. only-give ((h, e), append-nil (bytes k x), refl, refl)) (λ e. only-refuse);
+    }
+
+is-not-zero : (x : ℕ) → isNot 0 x ≡ true → 0 < x
+unfolding isNot
+is-not-zero zero e = absurd (true≢false (sym e))
+is-not-zero (suc x) e = omega arith
+
+not-zero : (x : ℕ) → 0 < x → isNot 0 x ≡ true
+unfolding isNot
+not-zero zero h = absurd (omega arith)
+not-zero (suc x) h = rw (eqb·suc-zero x)
+
+pub name-codec : Codec FitName (bytes 2) none none (nonzero 2)
+unfolding nonzero FitName
+name-codec = codec-as (λ x h. (h .1, not-zero x (h .0))) (λ x h. (is-not-zero x (h .1), h .0)) (λ x h. refl) (value-codec 2 (isNot 0))
+
+-- a byte of which only some numbers are allowed
+one-byte : (x : ℕ) → x < 256 → bytes 1 x ≡ x ∷ []
+unfolding bytes
+one-byte x h = ap (λ (y : ℕ). y ∷ []) (omega arith)
+
+pub byte-codec : (n : ℕ) → n ≤ 256 → Codec (λ x. x < n) (λ x. x ∷ []) none none (below n)
+unfolding below
+byte-codec n h =
+    codec-as (λ x l. (omega arith, lt-ltb x n l)) (λ x l. ltb-true x n (l .1)) (λ x l. one-byte x (l .0)) (value-codec 1 (λ x. ltb x n))
+
+-- ── tags ────────────────────────────────────────────────────────────────────────────────────
+
+-- a byte that counts as so many tags and nodes
+byte-found : (tags nodes : ℕ) (file : List ℕ) → AreBytes file → (at t n t′ n′ : ℕ) → at < length file → t′ ≡ t + tags → n′ ≡ n + nodes → t′ ≤ maxTags → n′ ≤ maxNodes →
+    Found (Spelled (λ x. x < 256) (λ x. x ∷ []) (λ x. tags) (λ x. nodes)) file at t n (getD file at 0) (at + 1) t′ n′
+byte-found tags nodes file b at t n t′ n′ h e f l m =
+    record {
+      bs = getD file at 0 ∷ [];
+      tags = tags;
+      nodes = nodes;
+      is = (byte-at file b at, refl, refl, refl);
+      stood = record { stands = (h, refl, omega arith); next = refl; tags-read = e; nodes-read = f; few-tags = l; few-nodes = m };
+    }
+
+pub tag-codec : Codec (λ t. t < 256) (λ t. t ∷ []) (λ t. 1) none tag
+unfolding tag
+tag-codec =
+    record {
+      reads =
+          λ x h.
+          record {
+            are-bytes = h a∷ a[];
+            read =
+                λ file at t n s l m.
+                rw (le-leb (at + 1) (length file) (omega (arith, s .2)), lt-ltb t maxTags (omega arith), s .1) (same-ok x refl refl (omega arith));
+          };
+      only =
+          record {
+            found =
+                λ file b at t n h l m.
+                holds-pick (Found _ file at t n) (leb (at + 1) (length file)) _ _
+                (λ e.
+                holds-pick (Found _ file at t n) (ltb t maxTags) (ok (getD file at 0) (at + 1) (t + 1) n) _
+                (λ f. byte-found 1 0 file b at t n (t + 1) n (omega (arith, leb-true (at + 1) (length file) e)) refl (omega arith) (omega (arith, ltb-true t maxTags f)) m)
+                (λ f. tt))
+                (λ e. tt);
+          };
+    }
+
+pub node-tag-codec : Codec (λ t. t < 256) (λ t. t ∷ []) none (λ t. 1) nodeTag
+unfolding nodeTag
+node-tag-codec =
+    record {
+      reads =
+          λ x h.
+          record {
+            are-bytes = h a∷ a[];
+            read =
+                λ file at t n s l m.
+                rw (le-leb (at + 1) (length file) (omega (arith, s .2)), lt-ltb n maxNodes (omega arith), s .1) (same-ok x refl (omega arith) refl);
+          };
+      only =
+          record {
+            found =
+                λ file b at t n h l m.
+                holds-pick (Found _ file at t n) (leb (at + 1) (length file)) _ _
+                (λ e.
+                holds-pick (Found _ file at t n) (ltb n maxNodes) (ok (getD file at 0) (at + 1) t (n + 1)) _
+                (λ f. byte-found 0 1 file b at t n t (n + 1) (omega (arith, leb-true (at + 1) (length file) e)) (omega arith) refl l (omega (arith, ltb-true n maxNodes f)))
+                (λ f. tt))
+                (λ e. tt);
+          };
+    }
+
+-- ── lists ───────────────────────────────────────────────────────────────────────────────────
+
+count-codec : (allowed : ℕ → Bool) (limit : ℕ) → limit < 256 → Codec (λ n. (allowed n ≡ true) × (n ≤ limit)) (λ n. n ∷ []) none none (count allowed limit)
+unfolding count
+count-codec allowed limit h =
+    record {
+      reads =
+          λ n g.
+          reads-here _ λ at.
+          reads-as refl (one-byte-nil n (omega arith)) refl refl
+          (reads-then _ (value-codec 1 allowed .reads n (omega arith, g .0)) (reads-yes (leb n limit) _ (le-leb n limit (g .1)) reads-give));
+      only =
+          only-here _ λ at.
+          only-then _ (value-codec 1 allowed) λ n g.
+          only-pick (leb n limit) (λ e. only-give ((g .1, leb-true n limit e), one-byte-nil n (g .0), refl, refl)) (λ e. only-refuse);
+    }
+  where
+    one-byte-nil : (n : ℕ) → n < 256 → bytes 1 n ++ [] ≡ n ∷ []
+    one-byte-nil n l = append-nil (bytes 1 n) ∙ one-byte n l
+
+module _ {A : Type 0} {Good : A → Type 0} {w : A → List ℕ} {tags : A → ℕ} {p : Reader A} (c : Codec Good w tags none p) where
+  times-reads : (xs : List A) → All Good xs → Reads (times (length xs) p) xs (concatMap w xs) (sumOf tags xs) 0
+  unfolding times concatMap sumOf
+  times-reads [] a[] = reads-give
+  times-reads (x ∷ xs) (h a∷ hs) = reads-then _ (c .reads x h) (reads-map (λ (ys : List A). x ∷ ys) (times-reads xs hs))
+
+  -- n good elements
+  abbrev Many : ℕ → List A → Type 0
+  Many n xs = (length xs ≡ n) × All Good xs
+
+  times-both : (n : ℕ) → Only (Spelled (Many n) (concatMap w) (sumOf tags) none) (times n p) → Codec (Many n) (concatMap w) (sumOf tags) none (times n p)
+  times-both n o = record { reads = λ xs h. rw (← (h .0)) (times-reads xs (h .1)); only = o }
+
+  times-only : (n : ℕ) → Only (Spelled (Many n) (concatMap w) (sumOf tags) none) (times n p)
+  unfolding times concatMap sumOf
+  times-only zero = only-give ((refl, a[]), refl, refl, refl)
+  times-only (suc n) = only-then _ c λ x h. only-map (λ (xs : List A). x ∷ xs) (times-both n (times-only n)) λ xs g. ((ap suc (g .0), h a∷ (g .1)), refl, refl, refl)
+
+  pub counted-codec : (allowed : ℕ → Bool) (limit : ℕ) → limit < 256 →
+      Codec (λ xs. (allowed (length xs) ≡ true) × FitList Good limit xs) (countedBytes w) (sumOf tags) none (counted allowed limit p)
+  unfolding counted countedBytes FitList
+  counted-codec allowed limit h =
+      record {
+        reads = λ xs g. reads-as refl refl (omega arith) refl (reads-then _ (count-codec allowed limit h .reads (length xs) (g .0, g .1 .0)) (times-reads xs (g .1 .1)));
+        only =
+            only-then _ (count-codec allowed limit h) λ n g.
+            only-as (λ xs bs t ν i. ((rw (i .0 .0) (g .0), (rw (i .0 .0) (g .1), i .0 .1)), cc, omega arith, omega arith)) (times-only n);
+      }
+
+  pub list-codec : (limit : ℕ) → limit < 256 → Codec (FitList Good limit) (countedBytes w) (sumOf tags) none (counted any limit p)
+  unfolding any
+  list-codec limit h = codec-as (λ xs g. (refl, g)) (λ xs g. g .1) (λ xs g. refl) (counted-codec any limit h)
+
+  pub some-codec : (limit : ℕ) → limit < 256 → Codec (λ xs. (0 < length xs) × FitList Good limit xs) (countedBytes w) (sumOf tags) none (counted (isNot 0) limit p)
+  some-codec limit h = codec-as (λ xs g. (not-zero (length xs) (g .0), g .1)) (λ xs g. (is-not-zero (length xs) (g .0), g .1)) (λ xs g. refl) (counted-codec (isNot 0) limit h)
