@@ -148,23 +148,6 @@ only-then {w = w} {tags} {nodes} {p} {S} k c f =
           (f a (z .is .0) .found file b at′ t′ n′ (omega (arith, s .next, stands-fits file (w a) at (s .stands))) (s .few-tags) (s .few-nodes));
     }
 
-pub only-map : {A B : Type 0} {Good : A → Type 0} {w : A → List ℕ} {tags nodes : A → ℕ} {p : Reader A} {S : Form B} (f : A → B) → Codec Good w tags nodes p →
-    ((a : A) → Good a → S (f a) (w a) (tags a) (nodes a)) → Only S (p >>= λ x. give (f x))
-only-map {w = w} {tags} {nodes} {p} {S} f c g =
-    record {
-      found =
-          λ file b at t n h l m.
-          holds-then _ (Found S file at t n) (p file at t n) _ (c .only .found file b at t n h l m) λ a at′ t′ n′ z.
-          record { bs = w a; tags = tags a; nodes = nodes a; is = g a (z .is .0); stood = found-stood z };
-    }
-
-pub only-here : {A : Type 0} {S : Form A} (k : ℕ → Reader A) → ((at : ℕ) → Only S (k at)) → Only S (here >>= k)
-only-here k o = record { found = λ file b at t n h l m. o at .found file b at t n h l m }
-
-pub only-pick : {A : Type 0} {S : Form A} (b : Bool) {p q : Reader A} → (b ≡ true → Only S p) → (b ≡ false → Only S q) → Only S (pick b p q)
-only-pick true f g = f refl
-only-pick false f g = g refl
-
 pub only-as : {A : Type 0} {S S′ : Form A} {p : Reader A} → ((a : A) (bs : List ℕ) (t n : ℕ) → S a bs t n → S′ a bs t n) → Only S p → Only S′ p
 only-as {S = S} {S′} {p} f o =
     record {
@@ -175,21 +158,40 @@ only-as {S = S} {S′} {p} f o =
           (o .found file b at t n h l m);
     }
 
+-- p, and what was read put into f
+pub only-in : {A B : Type 0} {S : Form B} {p : Reader A} (f : A → B) → Only (λ a bs t n. S (f a) bs t n) p → Only S (p >>= λ x. give (f x))
+only-in {S = S} {p} f o =
+    record {
+      found =
+          λ file b at t n h l m.
+          holds-then _ (Found S file at t n) (p file at t n) _ (o .found file b at t n h l m) λ a at′ t′ n′ z.
+          record { bs = z .bs; tags = z .tags; nodes = z .nodes; is = z .is; stood = z .stood } }
+
+pub only-map : {A B : Type 0} {Good : A → Type 0} {w : A → List ℕ} {tags nodes : A → ℕ} {p : Reader A} {S : Form B} (f : A → B) → Codec Good w tags nodes p →
+    ((a : A) → Good a → S (f a) (w a) (tags a) (nodes a)) → Only S (p >>= λ x. give (f x))
+only-map {S = S} f c g = only-in f (only-as (λ a bs t n i. rw (i .1, i .2, i .3) (g a (i .0))) (c .only))
+
+pub only-here : {A : Type 0} {S : Form A} (k : ℕ → Reader A) → ((at : ℕ) → Only S (k at)) → Only S (here >>= k)
+only-here k o = record { found = λ file b at t n h l m. o at .found file b at t n h l m }
+
+pub only-pick : {A : Type 0} {S : Form A} (b : Bool) {p q : Reader A} → (b ≡ true → Only S p) → (b ≡ false → Only S q) → Only S (pick b p q)
+only-pick true f g = f refl
+only-pick false f g = g refl
+
 -- ── both ────────────────────────────────────────────────────────────────────────────────────
 
 -- no tags, or no nodes
-abbrev pub none : {A : Type 0} → A → ℕ
-none a = 0
+abbrev pub nought : {A : Type 0} → A → ℕ
+nought a = 0
 
--- the same, where what is good and its bytes are said in other words
-pub codec-as : {A : Type 0} {Good Good′ : A → Type 0} {w w′ : A → List ℕ} {tags nodes : A → ℕ} {p : Reader A} →
-    ((a : A) → Good′ a → Good a) → ((a : A) → Good a → Good′ a) → ((a : A) → Good a → w a ≡ w′ a) →
-    Codec Good w tags nodes p → Codec Good′ w′ tags nodes p
+-- the same, where what is good, its bytes and its tags are said in other words
+pub codec-as : {A : Type 0} {Good Good′ : A → Type 0} {w w′ : A → List ℕ} {tags tags′ nodes : A → ℕ} {p : Reader A} →
+    ((a : A) → Good′ a → Good a) → ((a : A) → Good a → Good′ a) → ((a : A) → Good a → (w a ≡ w′ a) × (tags a ≡ tags′ a)) →
+    Codec Good w tags nodes p → Codec Good′ w′ tags′ nodes p
 codec-as f g e c =
     record {
-      reads = λ a h. reads-as refl (e a (f a h)) refl refl (c .reads a (f a h));
-      only = only-as (λ a bs t n i. (g a (i .0), i .1 ∙ e a (i .0), i .2, i .3)) (c .only);
-    }
+      reads = λ a h. let k = e a (f a h) in reads-as refl (k .0) (k .1) refl (c .reads a (f a h));
+      only = only-as (λ a bs t n i. let k = e a (i .0) in (g a (i .0), i .1 ∙ k .0, i .2 ∙ k .1, i .3)) (c .only) }
 
 -- readers of things nested less than so deep: one that reads as deep as the limits let anything be nested
 pub codec-deep : {A : Type 0} {Good : A → Type 0} {w : A → List ℕ} {tags nodes : A → ℕ} (p : ℕ → Reader A) (depth : A → ℕ) (most : ℕ) →

@@ -16,7 +16,7 @@ use Rattle.cpl.specs.Read.{Res, ok, bad, Reader, _>>=_, give, refuse, pi
 use Rattle.cpl.specs.Bytes.{bytes, countedBytes}
 use Rattle.cpl.specs.Writable.{FitList, FitName}
 use Rattle.cpl.proofs.Stands.{Stands, stands-fits, byte-at}
-use Rattle.cpl.proofs.Codec.{same-ok, Reads, reads-give, reads-then, reads-map, reads-here, reads-yes, reads-as, Holds, holds-pick, Found, Spelled, Only, only-give, only-refuse, only-then, only-map, only-here, only-pick, only-as, Codec, none, codec-as}
+use Rattle.cpl.proofs.Codec.{same-ok, Reads, reads-give, reads-then, reads-map, reads-here, reads-yes, reads-as, Holds, holds-pick, Found, Spelled, Only, only-give, only-refuse, only-then, only-map, only-here, only-pick, only-as, Codec, nought, codec-as}
 
 -- ── numbers ─────────────────────────────────────────────────────────────────────────────────
 
@@ -47,7 +47,7 @@ little-stands (suc k) file at b h =
     let l : (getD file at 0 + 256 * little k file (at + 1)) / 256 ≡ little k file (at + 1) = omega (arith, byte-at file b at) in
     (omega arith, omega (arith, byte-at file b at), rw l (little-stands k file (at + 1) b (omega arith)))
 
-pub field-codec : (k : ℕ) → Codec (λ x. x < 256 ^ k) (bytes k) none none (field k)
+pub field-codec : (k : ℕ) → Codec (λ x. x < 256 ^ k) (bytes k) nought nought (field k)
 unfolding field
 field-codec k =
     record {
@@ -85,7 +85,7 @@ field-codec k =
     }
 
 -- a field of which only some numbers are allowed
-pub value-codec : (k : ℕ) (allowed : ℕ → Bool) → Codec (λ x. (x < 256 ^ k) × (allowed x ≡ true)) (bytes k) none none (value k allowed)
+pub value-codec : (k : ℕ) (allowed : ℕ → Bool) → Codec (λ x. (x < 256 ^ k) × (allowed x ≡ true)) (bytes k) nought nought (value k allowed)
 unfolding value
 value-codec k allowed =
     record {
@@ -103,19 +103,20 @@ unfolding isNot
 not-zero zero h = absurd (omega arith)
 not-zero (suc x) h = rw (eqb·suc-zero x)
 
-pub name-codec : Codec FitName (bytes 2) none none (nonzero 2)
+pub name-codec : Codec FitName (bytes 2) nought nought (nonzero 2)
 unfolding nonzero FitName
-name-codec = codec-as (λ x h. (h .1, not-zero x (h .0))) (λ x h. (is-not-zero x (h .1), h .0)) (λ x h. refl) (value-codec 2 (isNot 0))
+name-codec = codec-as (λ x h. (h .1, not-zero x (h .0))) (λ x h. (is-not-zero x (h .1), h .0)) (λ x h. (refl, refl)) (value-codec 2 (isNot 0))
 
--- a byte of which only some numbers are allowed
 one-byte : (x : ℕ) → x < 256 → bytes 1 x ≡ x ∷ []
 unfolding bytes
 one-byte x h = ap (λ (y : ℕ). y ∷ []) (omega arith)
 
-pub byte-codec : (n : ℕ) → n ≤ 256 → Codec (λ x. x < n) (λ x. x ∷ []) none none (below n)
+pub index-codec : (n : ℕ) → n ≤ 256 → Codec (λ x. x < n) (bytes 1) nought nought (below n)
 unfolding below
-byte-codec n h =
-    codec-as (λ x l. (omega arith, lt-ltb x n l)) (λ x l. ltb-true x n (l .1)) (λ x l. one-byte x (l .0)) (value-codec 1 (λ x. ltb x n))
+index-codec n h = codec-as (λ x l. (omega arith, lt-ltb x n l)) (λ x l. ltb-true x n (l .1)) (λ x l. (refl, refl)) (value-codec 1 (λ x. ltb x n))
+
+pub byte-codec : (n : ℕ) → n ≤ 256 → Codec (λ x. x < n) (λ x. x ∷ []) nought nought (below n)
+byte-codec n h = codec-as (λ x l. l) (λ x l. l) (λ x l. (one-byte x (omega arith), refl)) (index-codec n h)
 
 -- ── tags ────────────────────────────────────────────────────────────────────────────────────
 
@@ -131,7 +132,7 @@ byte-found tags nodes file b at t n t′ n′ h e f l m =
       stood = record { stands = (h, refl, omega arith); next = refl; tags-read = e; nodes-read = f; few-tags = l; few-nodes = m };
     }
 
-pub tag-codec : Codec (λ t. t < 256) (λ t. t ∷ []) (λ t. 1) none tag
+pub tag-codec : Codec (λ t. t < 256) (λ t. t ∷ []) (λ t. 1) nought tag
 unfolding tag
 tag-codec =
     record {
@@ -156,7 +157,7 @@ tag-codec =
           };
     }
 
-pub node-tag-codec : Codec (λ t. t < 256) (λ t. t ∷ []) none (λ t. 1) nodeTag
+pub node-tag-codec : Codec (λ t. t < 256) (λ t. t ∷ []) nought (λ t. 1) nodeTag
 unfolding nodeTag
 node-tag-codec =
     record {
@@ -183,7 +184,7 @@ node-tag-codec =
 
 -- ── lists ───────────────────────────────────────────────────────────────────────────────────
 
-count-codec : (allowed : ℕ → Bool) (limit : ℕ) → limit < 256 → Codec (λ n. (allowed n ≡ true) × (n ≤ limit)) (λ n. n ∷ []) none none (count allowed limit)
+count-codec : (allowed : ℕ → Bool) (limit : ℕ) → limit < 256 → Codec (λ n. (allowed n ≡ true) × (n ≤ limit)) (λ n. n ∷ []) nought nought (count allowed limit)
 unfolding count
 count-codec allowed limit h =
     record {
@@ -201,7 +202,7 @@ count-codec allowed limit h =
     one-byte-nil : (n : ℕ) → n < 256 → bytes 1 n ++ [] ≡ n ∷ []
     one-byte-nil n l = append-nil (bytes 1 n) ∙ one-byte n l
 
-module _ {A : Type 0} {Good : A → Type 0} {w : A → List ℕ} {tags : A → ℕ} {p : Reader A} (c : Codec Good w tags none p) where
+module _ {A : Type 0} {Good : A → Type 0} {w : A → List ℕ} {tags : A → ℕ} {p : Reader A} (c : Codec Good w tags nought p) where
   times-reads : (xs : List A) → All Good xs → Reads (times (length xs) p) xs (concatMap w xs) (sumOf tags xs) 0
   unfolding times concatMap sumOf
   times-reads [] a[] = reads-give
@@ -211,16 +212,16 @@ module _ {A : Type 0} {Good : A → Type 0} {w : A → List ℕ} {tags : A → �
   abbrev Many : ℕ → List A → Type 0
   Many n xs = (length xs ≡ n) × All Good xs
 
-  times-both : (n : ℕ) → Only (Spelled (Many n) (concatMap w) (sumOf tags) none) (times n p) → Codec (Many n) (concatMap w) (sumOf tags) none (times n p)
+  times-both : (n : ℕ) → Only (Spelled (Many n) (concatMap w) (sumOf tags) nought) (times n p) → Codec (Many n) (concatMap w) (sumOf tags) nought (times n p)
   times-both n o = record { reads = λ xs h. rw (← (h .0)) (times-reads xs (h .1)); only = o }
 
-  times-only : (n : ℕ) → Only (Spelled (Many n) (concatMap w) (sumOf tags) none) (times n p)
+  times-only : (n : ℕ) → Only (Spelled (Many n) (concatMap w) (sumOf tags) nought) (times n p)
   unfolding times concatMap sumOf
   times-only zero = only-give ((refl, a[]), refl, refl, refl)
   times-only (suc n) = only-then _ c λ x h. only-map (λ (xs : List A). x ∷ xs) (times-both n (times-only n)) λ xs g. ((ap suc (g .0), h a∷ (g .1)), refl, refl, refl)
 
   pub counted-codec : (allowed : ℕ → Bool) (limit : ℕ) → limit < 256 →
-      Codec (λ xs. (allowed (length xs) ≡ true) × FitList Good limit xs) (countedBytes w) (sumOf tags) none (counted allowed limit p)
+      Codec (λ xs. (allowed (length xs) ≡ true) × FitList Good limit xs) (countedBytes w) (sumOf tags) nought (counted allowed limit p)
   unfolding counted countedBytes FitList
   counted-codec allowed limit h =
       record {
@@ -230,9 +231,19 @@ module _ {A : Type 0} {Good : A → Type 0} {w : A → List ℕ} {tags : A → �
             only-as (λ xs bs t ν i. ((rw (i .0 .0) (g .0), (rw (i .0 .0) (g .1), i .0 .1)), cc, omega arith, omega arith)) (times-only n);
       }
 
-  pub list-codec : (limit : ℕ) → limit < 256 → Codec (FitList Good limit) (countedBytes w) (sumOf tags) none (counted any limit p)
+  pub list-codec : (limit : ℕ) → limit < 256 → Codec (FitList Good limit) (countedBytes w) (sumOf tags) nought (counted any limit p)
   unfolding any
-  list-codec limit h = codec-as (λ xs g. (refl, g)) (λ xs g. g .1) (λ xs g. refl) (counted-codec any limit h)
+  list-codec limit h = codec-as (λ xs g. (refl, g)) (λ xs g. g .1) (λ xs g. (refl, refl)) (counted-codec any limit h)
 
-  pub some-codec : (limit : ℕ) → limit < 256 → Codec (λ xs. (0 < length xs) × FitList Good limit xs) (countedBytes w) (sumOf tags) none (counted (isNot 0) limit p)
-  some-codec limit h = codec-as (λ xs g. (not-zero (length xs) (g .0), g .1)) (λ xs g. (is-not-zero (length xs) (g .0), g .1)) (λ xs g. refl) (counted-codec (isNot 0) limit h)
+  pub some-codec : (limit : ℕ) → limit < 256 → Codec (λ xs. (0 < length xs) × FitList Good limit xs) (countedBytes w) (sumOf tags) nought (counted (isNot 0) limit p)
+  some-codec limit h = codec-as (λ xs g. (not-zero (length xs) (g .0), g .1)) (λ xs g. (is-not-zero (length xs) (g .0), g .1)) (λ xs g. (refl, refl)) (counted-codec (isNot 0) limit h)
+
+sum-nought : {A : Type 0} (xs : List A) → sumOf nought xs ≡ 0
+unfolding sumOf
+sum-nought [] = refl
+sum-nought (x ∷ xs) = omega (arith, sum-nought xs)
+
+-- a list of things without tags
+pub plain-codec : {A : Type 0} {Good : A → Type 0} {w : A → List ℕ} {p : Reader A} → Codec Good w nought nought p → (limit : ℕ) → limit < 256 →
+    Codec (FitList Good limit) (countedBytes w) nought nought (counted any limit p)
+plain-codec c limit h = codec-as (λ xs g. g) (λ xs g. g) (λ xs g. (refl, sum-nought xs)) (list-codec c limit h)

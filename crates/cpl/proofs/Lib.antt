@@ -2,3 +2,6 @@
 pub mod Stands
 pub mod Codec
 pub mod FieldTrip
+pub mod CodeTrip
+pub mod ExprTrip
+pub mod HeadTrip

@@ -53,14 +53,17 @@ stands-get file (x ∷ xs) at s (suc i) h = stands-get file xs (at + 1) (s .2) i
 pub stands-all : (file bs : List ℕ) → Stands file 0 bs → length bs ≡ length file → bs ≡ file
 stands-all file bs s e = ext-getD 0 bs file e (λ i h. stands-get file bs 0 s i h ∙ ap (λ (k : ℕ). getD file k 0) (omega arith))
 
--- ── bytes ───────────────────────────────────────────────────────────────────────────────────
+-- ── each element ────────────────────────────────────────────────────────────────────────────
 
 pub all-append : {A : Type 0} {P : A → Type 0} {xs ys : List A} → All P xs → All P ys → All P (xs ++ ys)
 all-append a[] r = r
 all-append (h a∷ hs) r = h a∷ all-append hs r
 
--- each place of a file holds a byte
+-- what holds of each element and of the default holds at each place
+pub all-at : {A : Type 0} {P : A → Type 0} {xs : List A} (d : A) → All P xs → P d → (i : ℕ) → P (getD xs i d)
+all-at d a[] h i = h
+all-at d (g a∷ gs) h zero = g
+all-at d (g a∷ gs) h (suc i) = all-at d gs h i
+
 pub byte-at : (file : List ℕ) → AreBytes file → (at : ℕ) → getD file at 0 < 256
-byte-at file a[] at = omega arith
-byte-at file (h a∷ hs) zero = h
-byte-at file (_a∷_ {xs = xs} h hs) (suc at) = byte-at xs hs at
+byte-at file b at = all-at 0 b (omega arith) at
