@@ -18,11 +18,11 @@ gives-back : (f : ℕ → ℕ) (from n : ℕ) → Bool
 gives-back f from zero = true
 gives-back f from (suc n) = eqb (f from) from && gives-back f (suc from) n
 
-and-left : (a b : Bool) → (a && b) ≡ true → a ≡ true
+pub and-left : (a b : Bool) → (a && b) ≡ true → a ≡ true
 and-left true b e = refl
 and-left false b e = e
 
-and-right : (a b : Bool) → (a && b) ≡ true → b ≡ true
+pub and-right : (a b : Bool) → (a && b) ≡ true → b ≡ true
 and-right true b e = e
 and-right false b e = absurd (true≢false (sym e))
 
@@ -66,6 +66,7 @@ literal-number v h = go (ltb v (2 ^ 63)) refl
   where
     z : Bool → ℤ
     z b = cond b (pos v) (negsuc (2 ^ 64 - 1 - v))
+
     go : (b : Bool) → ltb v (2 ^ 63) ≡ b → (mag (z b) < 2 ^ 63) × (unsigned (z b) ≡ v)
     go true e = (ltb-true v (2 ^ 63) e, refl)
     go false e = let l = ltb-false v (2 ^ 63) e in omega arith

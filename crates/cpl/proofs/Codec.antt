@@ -104,7 +104,10 @@ pub record Codec {A : Type 0} (Good : A → Type 0) (w : A → List ℕ) (tags n
   pub reads : (a : A) → Good a → Reads p a (w a) (tags a) (nodes a)
   pub only : Only (Spelled Good w tags nodes) p
 
-stood-then : {file : List ℕ} {at t n : ℕ} {xs ys : List ℕ} {τ τ′ ν ν′ at′ t′ n′ at″ t″ n″ : ℕ} →
+pub stood-inside : {file : List ℕ} {at t n : ℕ} {bs : List ℕ} {tags nodes at′ t′ n′ : ℕ} → Stood file at t n bs tags nodes at′ t′ n′ → at′ ≤ length file
+stood-inside {file} {at} {bs = bs} s = omega (arith, s .next, stands-fits file bs at (s .stands))
+
+pub stood-then : {file : List ℕ} {at t n : ℕ} {xs ys : List ℕ} {τ τ′ ν ν′ at′ t′ n′ at″ t″ n″ : ℕ} →
     Stood file at t n xs τ ν at′ t′ n′ → Stood file at′ t′ n′ ys τ′ ν′ at″ t″ n″ → Stood file at t n (xs ++ ys) (τ + τ′) (ν + ν′) at″ t″ n″
 stood-then {file} {at} {xs = xs} {ys} s r =
     record {
@@ -116,7 +119,7 @@ stood-then {file} {at} {xs = xs} {ys} s r =
       few-nodes = r .few-nodes;
     }
 
-found-stood : {A : Type 0} {Good : A → Type 0} {w : A → List ℕ} {tags nodes : A → ℕ} {file : List ℕ} {at t n : ℕ} {a : A} {at′ t′ n′ : ℕ} →
+pub found-stood : {A : Type 0} {Good : A → Type 0} {w : A → List ℕ} {tags nodes : A → ℕ} {file : List ℕ} {at t n : ℕ} {a : A} {at′ t′ n′ : ℕ} →
     Found (Spelled Good w tags nodes) file at t n a at′ t′ n′ → Stood file at t n (w a) (tags a) (nodes a) at′ t′ n′
 found-stood z = rw (z .is .1, z .is .2, z .is .3) at (z .stood)
 
@@ -145,7 +148,7 @@ only-then {w = w} {tags} {nodes} {p} {S} k c f =
           let s = found-stood z in
           holds-map (Found (λ y bs t n. S y (w a ++ bs) (tags a + t) (nodes a + n)) file at′ t′ n′) (Found S file at t n) (k a file at′ t′ n′)
           (λ y at″ t″ n″ z′. record { bs = w a ++ z′ .bs; tags = tags a + z′ .tags; nodes = nodes a + z′ .nodes; is = z′ .is; stood = stood-then s (z′ .stood) })
-          (f a (z .is .0) .found file b at′ t′ n′ (omega (arith, s .next, stands-fits file (w a) at (s .stands))) (s .few-tags) (s .few-nodes));
+          (f a (z .is .0) .found file b at′ t′ n′ (stood-inside s) (s .few-tags) (s .few-nodes));
     }
 
 pub only-as : {A : Type 0} {S S′ : Form A} {p : Reader A} → ((a : A) (bs : List ℕ) (t n : ℕ) → S a bs t n → S′ a bs t n) → Only S p → Only S′ p
@@ -165,7 +168,8 @@ only-in {S = S} {p} f o =
       found =
           λ file b at t n h l m.
           holds-then _ (Found S file at t n) (p file at t n) _ (o .found file b at t n h l m) λ a at′ t′ n′ z.
-          record { bs = z .bs; tags = z .tags; nodes = z .nodes; is = z .is; stood = z .stood } }
+          record { bs = z .bs; tags = z .tags; nodes = z .nodes; is = z .is; stood = z .stood };
+    }
 
 pub only-map : {A B : Type 0} {Good : A → Type 0} {w : A → List ℕ} {tags nodes : A → ℕ} {p : Reader A} {S : Form B} (f : A → B) → Codec Good w tags nodes p →
     ((a : A) → Good a → S (f a) (w a) (tags a) (nodes a)) → Only S (p >>= λ x. give (f x))
@@ -191,7 +195,8 @@ pub codec-as : {A : Type 0} {Good Good′ : A → Type 0} {w w′ : A → List �
 codec-as f g e c =
     record {
       reads = λ a h. let k = e a (f a h) in reads-as refl (k .0) (k .1) refl (c .reads a (f a h));
-      only = only-as (λ a bs t n i. let k = e a (i .0) in (g a (i .0), i .1 ∙ k .0, i .2 ∙ k .1, i .3)) (c .only) }
+      only = only-as (λ a bs t n i. let k = e a (i .0) in (g a (i .0), i .1 ∙ k .0, i .2 ∙ k .1, i .3)) (c .only);
+    }
 
 -- readers of things nested less than so deep: one that reads as deep as the limits let anything be nested
 pub codec-deep : {A : Type 0} {Good : A → Type 0} {w : A → List ℕ} {tags nodes : A → ℕ} (p : ℕ → Reader A) (depth : A → ℕ) (most : ℕ) →

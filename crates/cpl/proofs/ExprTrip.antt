@@ -111,7 +111,8 @@ expr-to zero = record { reads = λ e h. absurd (omega (arith, depth-some e)); on
 expr-to (suc deep) =
     record {
       reads = λ e h. reads-here _ λ p. step-reads deep (exprTo deep) (expr-to deep) p e h;
-      only = only-here _ λ p. step-only deep (exprTo deep) (expr-to deep) p }
+      only = only-here _ λ p. step-only deep (exprTo deep) (expr-to deep) p;
+    }
 
 pub expr-codec : Codec FitExpr exprBytes exprTags nought readExpr
 expr-codec = codec-deep exprTo depth (suc maxTags) (λ e l m. omega (arith, depth-tags e)) expr-to
@@ -130,7 +131,8 @@ item-codec =
           (λ z.
           only-pick (eqb t aliasTag)
           (λ o. only-then _ pair-codec λ c g. only-map (named c) expr-codec λ e f. ((g, f), ap (λ (x : ℕ). x ∷ (pairBytes c ++ exprBytes e)) (eqb-true t aliasTag o), omega arith, refl))
-          (λ o. only-refuse)) }
+          (λ o. only-refuse));
+    }
   where
     reads : (p : ℕ) (i : Item) → FitItem i → Reads (tag >>= λ t. pick (eqb t 0) readBare (pick (eqb t aliasTag) readAlias (refuse VALUE p))) i (itemBytes i) (itemTags i) 0
     reads p (bare c) h = reads-then _ (tag-codec .reads 0 (omega arith)) (reads-map bare (pair-codec .reads c h))
@@ -144,7 +146,8 @@ key-codec =
       reads = reads;
       only =
           only-then _ (byte-codec 4 (omega arith)) λ x h.
-          only-map (λ (e : Expr). key (eqb (x % 2) 1) (eqb (x / 2) 1) e) expr-codec λ e g. (g, ap (λ (y : ℕ). y ∷ exprBytes e) (sym (flags-number x h)), omega arith, refl) }
+          only-map (λ (e : Expr). key (eqb (x % 2) 1) (eqb (x / 2) 1) e) expr-codec λ e g. (g, ap (λ (y : ℕ). y ∷ exprBytes e) (sym (flags-number x h)), omega arith, refl);
+    }
   where
     reads : (k : Key) → FitKey k → Reads readKey k (keyBytes k) (keyTags k) 0
     reads (key d m e) h =
@@ -163,7 +166,8 @@ call-codec x l =
       reads = λ g h. rw (← (h .1)) (reads g (h .0));
       only =
           only-pick (eqb x 0) (λ z. only-give ((tt, sym (eqb-true x 0 z)), refl, refl, refl))
-          (λ z. let n = eqb-false x 0 z in only-map (over (fnOf x)) expr-codec λ e h. ((h, fn-number x (omega arith) l), refl, omega arith, refl)) }
+          (λ z. let n = eqb-false x 0 z in only-map (over (fnOf x)) expr-codec λ e h. ((h, fn-number x (omega arith) l), refl, omega arith, refl));
+    }
   where
     reads : (g : Call) → FitCall g → Reads (readCall (callNumber g)) g (callBytes g) (callTags g) 0
     reads rows h = reads-give
@@ -185,7 +189,8 @@ agg-codec =
       only =
           only-then _ pair-codec λ c h.
           only-then _ (byte-codec 5 (omega arith)) λ x l.
-          only-map (agg c) (call-codec x l) λ g i. ((h, i .0), ap (λ (y : ℕ). pairBytes c ++ y ∷ callBytes g) (sym (i .1)), omega arith, refl) }
+          only-map (agg c) (call-codec x l) λ g i. ((h, i .0), ap (λ (y : ℕ). pairBytes c ++ y ∷ callBytes g) (sym (i .1)), omega arith, refl);
+    }
   where
     reads : (a : Agg) → FitAgg a → Reads readAgg a (aggBytes a) (aggTags a) 0
     reads (agg c g) h =
@@ -204,7 +209,8 @@ win-codec =
           only-then _ (list-codec expr-codec maxKeys (omega arith)) λ ps i.
           only-then _ (list-codec key-codec maxKeys (omega arith)) λ ks j.
           only-map (λ (g : Call). win c g ps ks) (call-codec x l) λ g m.
-          ((h, m .0, i, j), ap (λ (y : ℕ). pairBytes c ++ y ∷ (countedBytes exprBytes ps ++ (countedBytes keyBytes ks ++ callBytes g))) (sym (m .1)), omega arith, refl) }
+          ((h, m .0, i, j), ap (λ (y : ℕ). pairBytes c ++ y ∷ (countedBytes exprBytes ps ++ (countedBytes keyBytes ks ++ callBytes g))) (sym (m .1)), omega arith, refl);
+    }
   where
     reads : (w : Win) → FitWin w → Reads readWin w (winBytes w) (winTags w) 0
     reads (win c g ps ks) h =

@@ -89,7 +89,8 @@ module _ {A : Type 0} {Good : A → Type 0} {w : A → List ℕ} {tags : A → �
         only =
             only-then _ (byte-codec 2 (omega arith)) λ x l.
             only-pick (eqb x 0) (λ z. only-give (tt, ap (λ (y : ℕ). y ∷ []) (eqb-true x 0 z), refl, refl))
-            (λ z. only-map some c λ a h. (h, ap (λ (y : ℕ). y ∷ w a) (omega (arith, eqb-false x 0 z)), omega arith, refl)) }
+            (λ z. only-map some c λ a h. (h, ap (λ (y : ℕ). y ∷ w a) (omega (arith, eqb-false x 0 z)), omega arith, refl));
+      }
 
 abbrev condTags : Option Expr → ℕ
 condTags c = sumOf exprTags (condExprs c)
@@ -109,6 +110,7 @@ columns-codec n s =
   where
     list : Codec (FitList (λ i. i < n) maxColumns) (countedBytes (bytes 1)) nought nought (counted any maxColumns (below n))
     list = plain-codec (index-codec n s) maxColumns (omega arith)
+
     same : (is : Option (List ℕ)) → ifTags list is ≡ 0
     same none = refl
     same (some is) = refl
@@ -242,4 +244,5 @@ module _ (C : Catalogue) (tables : FitCatalogue C) (p : ℕ) where
             (only-then _ (byte-codec 2 (omega arith)) λ x l.
             only-map (empty (eqb x 1)) (plain-codec pair-codec maxItems (omega arith)) λ cs g.
             ((g, sym (eqb-true t 12 e)), ap (λ (y : ℕ). y ∷ countedBytes pairBytes cs) (sym (bit-number x l)), refl, refl)))
-            λ _. only-refuse }
+            λ _. only-refuse;
+      }

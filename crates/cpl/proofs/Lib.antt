@@ -5,3 +5,5 @@ pub mod FieldTrip
 pub mod CodeTrip
 pub mod ExprTrip
 pub mod HeadTrip
+pub mod PlanTrip
+pub mod RoundTrip

@@ -35,7 +35,7 @@ stands-both file [] ys at s r = stands-at file ys (omega arith) r
 stands-both file (x ∷ xs) ys at s r = (s .0, s .1, stands-both file xs ys (at + 1) (s .2) (stands-at file ys (omega arith) r))
 
 -- one byte further on in a file that has one byte more
-stands-cons : (file bs : List ℕ) (at x : ℕ) → Stands file at bs → Stands (x ∷ file) (suc at) bs
+pub stands-cons : (file bs : List ℕ) (at x : ℕ) → Stands file at bs → Stands (x ∷ file) (suc at) bs
 stands-cons file [] at x s = omega arith
 stands-cons file (y ∷ ys) at x s = (omega arith, s .1, stands-at (x ∷ file) ys (omega arith) (stands-cons file ys (at + 1) x (s .2)))
 
