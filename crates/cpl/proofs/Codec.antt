@@ -1,12 +1,12 @@
 -- A reader and a writer that belong together, and how they are put together from smaller ones. Assumes nothing.
-use Prim.Native.Nat.{ℕ, zero, suc, _+_, _≤_, _<_}
-use mathlib.Core.Path.{_≡_, refl, sym, ap, _∙_}
+use Prim.Native.Nat.{ℕ, _+_, _≤_}
+use mathlib.Core.Path.{_≡_, refl, _∙_}
 use mathlib.Core.Bool.{Bool, true, false}
-use mathlib.Core.List.{List, [], _∷_, _++_}
+use mathlib.Core.List.{List, [], _++_}
 use native.Mathlib.Omega.{arith}
-use lib.ListN.{length, getD, length-append}
+use lib.ListN.{length, length-append}
 use Rattle.cpl.specs.Limits.{maxNodes, maxTags}
-use Rattle.cpl.specs.Lists.{All, a[], _a∷_}
+use Rattle.cpl.specs.Lists.{a[]}
 use Rattle.cpl.specs.AreBytes.{AreBytes}
 use Rattle.cpl.specs.Read.{Res, ok, bad, Reader, andThen, _>>=_, give, refuse, pick, here}
 use Rattle.cpl.proofs.Stands.{Stands, stands-fits, stands-first, stands-rest, stands-both, all-append}

@@ -1,21 +1,21 @@
 -- Expressions and the other parts of a node are read as they are written. Assumes nothing.
-use Prim.Native.Nat.{ℕ, zero, suc, _+_, _*_, _/_, _%_, _^_, _≤_, _<_, max}
-use mathlib.Core.Path.{_≡_, refl, sym, ap, ap₂, _∙_}
-use mathlib.Core.Bool.{Bool, true, false}
-use mathlib.Core.List.{List, [], _∷_, _++_}
+use Prim.Native.Nat.{ℕ, zero, suc, _+_, _*_, _/_, _%_, _≤_, _<_, max}
+use mathlib.Core.Path.{_≡_, refl, sym, ap, ap₂}
+use mathlib.Core.Bool.{Bool}
+use mathlib.Core.List.{[], _∷_, _++_}
 use native.Mathlib.Omega.{arith}
-use lib.Dec.{ltb, leb, eqb}
+use lib.Dec.{ltb, eqb}
 use borrow.Author.Tests.{eqb-true, eqb-false, ltb-true, ltb-false, ne-eqb, lt-ltb, le-ltb}
 use Rattle.cpl.specs.Limits.{maxTags, maxKeys}
 use Rattle.cpl.specs.Tests.{sumOf}
 use Rattle.cpl.specs.Plan.{Pair, pair, Fn, Op1, Op2, Expr, col, lit, miss, un, bin, Item, bare, named, Key, key, Call, rows, over, Agg, agg, Win, win, On, on, keyExpr}
 use Rattle.cpl.specs.Codes.{VALUE, op1Tag, op1Of, op2Tag, op2Of, aliasTag, signed, unsigned, fnNumber, fnOf, bit}
 use Rattle.cpl.specs.Exprs.{callExprs, aggExprs, exprTags, itemTags, keyTags, aggTags, winTags, onTags}
-use Rattle.cpl.specs.Read.{Reader, _>>=_, refuse, pick, tag, counted}
+use Rattle.cpl.specs.Read.{Reader, _>>=_, refuse, pick, tag}
 use Rattle.cpl.specs.ReadExpr.{readPair, readColumn, readLiteral, leafRest, exprRest, exprTo, readExpr, readAlias, readBare, readItem, readKey, readCall, readAgg, readWin, readOn}
-use Rattle.cpl.specs.Bytes.{bytes, countedBytes, pairBytes, exprBytes, itemBytes, keyBytes, callNumber, callBytes, aggBytes, winBytes, onBytes}
+use Rattle.cpl.specs.Bytes.{countedBytes, pairBytes, exprBytes, itemBytes, keyBytes, callNumber, callBytes, aggBytes, winBytes, onBytes}
 use Rattle.cpl.specs.Writable.{FitPair, FitExpr, FitItem, FitKey, FitCall, FitAgg, FitWin, FitOn}
-use Rattle.cpl.proofs.Codec.{Reads, reads-give, reads-then, reads-map, reads-here, reads-yes, reads-no, reads-as, Spelled, Only, only-give, only-refuse, only-then, only-map, only-here, only-pick, only-as, Codec, nought, codec-as, codec-deep}
+use Rattle.cpl.proofs.Codec.{Reads, reads-give, reads-then, reads-map, reads-here, reads-yes, reads-no, reads-as, Spelled, Only, only-give, only-refuse, only-then, only-map, only-here, only-pick, Codec, nought, codec-deep}
 use Rattle.cpl.proofs.FieldTrip.{field-codec, name-codec, byte-codec, tag-codec, list-codec}
 use Rattle.cpl.proofs.CodeTrip.{op1-number, op2-number, fn-number, flags-number, literal-number, number-op1, number-op2, number-fn, number-flags, number-literal}
 

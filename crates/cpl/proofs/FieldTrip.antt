@@ -1,22 +1,22 @@
 -- Numbers, tags, counts and lists: their readers and their bytes belong together. Assumes nothing.
 use Prim.Native.Nat.{ℕ, zero, suc, _+_, _*_, _/_, _%_, _^_, _≤_, _<_}
 use mathlib.Core.Path.{_≡_, refl, sym, ap, _∙_}
-use mathlib.Core.Bool.{Bool, true, false, true≢false}
+use mathlib.Core.Bool.{Bool, true, true≢false}
 use mathlib.Core.List.{List, [], _∷_, _++_, append-nil}
 use native.Mathlib.Omega.{arith}
 use native.Mathlib.Nat.{pow-succ'}
 use lib.ListN.{length, getD}
-use lib.Dec.{ltb, leb, eqb, eqb·suc-zero}
+use lib.Dec.{ltb, leb, eqb·suc-zero}
 use borrow.Author.Tests.{ltb-true, leb-true, lt-ltb, le-leb}
 use Rattle.cpl.specs.Limits.{maxNodes, maxTags}
 use Rattle.cpl.specs.Lists.{All, a[], _a∷_}
 use Rattle.cpl.specs.Tests.{concatMap, sumOf}
 use Rattle.cpl.specs.AreBytes.{AreBytes}
-use Rattle.cpl.specs.Read.{Res, ok, bad, Reader, _>>=_, give, refuse, pick, here, little, field, value, isNot, nonzero, below, count, any, tag, nodeTag, times, counted}
+use Rattle.cpl.specs.Read.{ok, Reader, little, field, value, isNot, nonzero, below, count, any, tag, nodeTag, times, counted}
 use Rattle.cpl.specs.Bytes.{bytes, countedBytes}
 use Rattle.cpl.specs.Writable.{FitList, FitName}
 use Rattle.cpl.proofs.Stands.{Stands, stands-fits, byte-at}
-use Rattle.cpl.proofs.Codec.{same-ok, Reads, reads-give, reads-then, reads-map, reads-here, reads-yes, reads-as, Holds, holds-pick, Found, Spelled, Only, only-give, only-refuse, only-then, only-map, only-here, only-pick, only-as, Codec, nought, codec-as}
+use Rattle.cpl.proofs.Codec.{same-ok, Reads, reads-give, reads-then, reads-map, reads-here, reads-yes, reads-as, holds-pick, Found, Spelled, Only, only-give, only-refuse, only-then, only-map, only-here, only-pick, only-as, Codec, nought, codec-as}
 
 -- ── numbers ─────────────────────────────────────────────────────────────────────────────────
 

@@ -1,26 +1,25 @@
 -- A node without its inputs is read as it is written. Assumes nothing.
 use Prim.Native.Nat.{ℕ, zero, suc, _+_, _^_, _≤_, _<_}
-use mathlib.Core.Path.{_≡_, refl, sym, ap, _∙_}
+use mathlib.Core.Path.{_≡_, refl, sym, ap}
 use mathlib.Core.Bool.{Bool, true, false, not, _&&_, true≢false}
 use mathlib.Core.List.{List, [], _∷_, _++_}
 use mathlib.Core.Option.{Option, none, some}
 use native.Mathlib.Omega.{arith}
 use lib.ListN.{length, getD, drop}
-use lib.Dec.{ltb, leb, eqb, eqb·suc-zero}
+use lib.Dec.{eqb, eqb·suc-zero}
 use borrow.Author.Tests.{eqb-true, eqb-false, ne-eqb}
 use Rattle.cpl.specs.Limits.{maxTables, maxColumns, maxItems, maxKeys, noFetch}
-use Rattle.cpl.specs.Lists.{All, a[], _a∷_}
+use Rattle.cpl.specs.Lists.{a[]}
 use Rattle.cpl.specs.Tests.{sumOf}
-use Rattle.cpl.specs.Plan.{Pair, Expr, Item, Key, Agg, Win, Leaf, scan, empty, Unary, projection, filter, sort, limit, aggregate, window, subqueryAlias, distinct, JoinType, Binary, union, join, Catalogue}
-use Rattle.cpl.specs.Codes.{VALUE, bit, joinNumber, joinOf}
+use Rattle.cpl.specs.Plan.{Expr, Item, Key, Win, scan, empty, projection, filter, sort, limit, aggregate, window, subqueryAlias, distinct, JoinType, union, join, Catalogue}
+use Rattle.cpl.specs.Codes.{bit, joinNumber, joinOf}
 use Rattle.cpl.specs.Exprs.{condExprs, exprTags, unaryTags, binaryTags}
-use Rattle.cpl.specs.Read.{Reader, _>>=_, give, refuse, pick, below, any, counted}
-use Rattle.cpl.specs.ReadExpr.{readExpr, readItem, readAgg}
+use Rattle.cpl.specs.Read.{Reader, _>>=_, give, pick, below, any, counted}
 use Rattle.cpl.specs.ReadPlan.{Head, h0, h1, h2, fetchOf, readLimit, readAggregate, readCond, readJoin, readColumns, readScan, readEmpty, readHead, readCatalogue}
-use Rattle.cpl.specs.Bytes.{bytes, countedBytes, pairBytes, exprBytes, onBytes, condBytes, columnsBytes, fetchNumber, leafBytes, unaryBytes, binaryBytes, catalogueBytes}
-use Rattle.cpl.specs.Writable.{FitList, FitName, FitPair, FitCond, FitFetch, FitColumns, FitLeaf, FitUnary, FitBinary, FitCatalogue}
+use Rattle.cpl.specs.Bytes.{bytes, countedBytes, pairBytes, onBytes, condBytes, columnsBytes, fetchNumber, leafBytes, unaryBytes, binaryBytes, catalogueBytes}
+use Rattle.cpl.specs.Writable.{FitList, FitCond, FitFetch, FitColumns, FitLeaf, FitUnary, FitBinary, FitCatalogue}
 use Rattle.cpl.proofs.Stands.{all-at}
-use Rattle.cpl.proofs.Codec.{Reads, reads-give, reads-then, reads-map, reads-yes, reads-no, reads-as, Spelled, Only, only-give, only-refuse, only-then, only-map, only-in, only-pick, Codec, nought, codec-as}
+use Rattle.cpl.proofs.Codec.{Reads, reads-give, reads-then, reads-map, reads-as, only-give, only-refuse, only-then, only-map, only-in, only-pick, Codec, nought, codec-as}
 use Rattle.cpl.proofs.FieldTrip.{field-codec, name-codec, index-codec, byte-codec, counted-codec, list-codec, some-codec, plain-codec}
 use Rattle.cpl.proofs.CodeTrip.{join-number, bit-number, number-join, number-bit}
 use Rattle.cpl.proofs.ExprTrip.{pair-codec, expr-codec, item-codec, key-codec, agg-codec, win-codec, on-codec}

@@ -1,16 +1,16 @@
 -- A plan is read as it is written. Assumes nothing.
 use Prim.Native.Nat.{ℕ, zero, suc, _+_, _≤_, _<_, max}
 use mathlib.Core.Path.{_≡_, refl, sym, ap, _∙_}
-use mathlib.Core.List.{List, [], _∷_, _++_, append-nil, append-assoc}
+use mathlib.Core.List.{List, [], _∷_, _++_, append-nil}
 use native.Mathlib.Omega.{arith}
 use Rattle.cpl.specs.Limits.{maxNodes}
-use Rattle.cpl.specs.Plan.{Leaf, Unary, Binary, Plan, leaf, unary, binary, Catalogue}
+use Rattle.cpl.specs.Plan.{Plan, leaf, unary, binary, Catalogue}
 use Rattle.cpl.specs.Exprs.{planTags, planNodes}
-use Rattle.cpl.specs.Read.{Reader, _>>=_, nodeTag}
-use Rattle.cpl.specs.ReadPlan.{Head, h0, h1, h2, readHead, readInputs, planTo}
+use Rattle.cpl.specs.Read.{Reader}
+use Rattle.cpl.specs.ReadPlan.{Head, h0, h1, h2, readInputs, planTo}
 use Rattle.cpl.specs.Bytes.{planBytes}
 use Rattle.cpl.specs.Writable.{FitPlan, FitCatalogue}
-use Rattle.cpl.proofs.Codec.{Reads, reads-give, reads-then, reads-map, reads-here, reads-as, Form, Spelled, Only, only-give, only-refuse, only-then, only-map, only-here, Codec, nought, codec-deep}
+use Rattle.cpl.proofs.Codec.{Reads, reads-give, reads-then, reads-map, reads-here, reads-as, Form, Only, only-give, only-refuse, only-then, only-map, only-here, Codec, codec-deep}
 use Rattle.cpl.proofs.FieldTrip.{node-tag-codec}
 use Rattle.cpl.proofs.HeadTrip.{headBytes, headTags, headTag, headRest, head-bytes, FitHead, head-codec}
 

@@ -1,24 +1,24 @@
 -- The round trip: what can be written is read back, and what is read was written. Assumes nothing.
-use Prim.Native.Nat.{ℕ, zero, suc, _+_, _≤_, _<_}
-use mathlib.Core.Path.{_≡_, refl, sym, ap, _∙_}
-use mathlib.Core.Bool.{Bool, true, false, _&&_, true≢false}
+use Prim.Native.Nat.{ℕ, suc, _+_}
+use mathlib.Core.Path.{_≡_, refl, sym, _∙_}
+use mathlib.Core.Bool.{true, true≢false}
 use mathlib.Core.List.{List, [], _∷_, _++_}
 use native.Mathlib.Omega.{arith}
 use native.Mathlib.Nat.{zero-add}
-use lib.ListN.{length, getD, length-append}
+use lib.ListN.{length, length-append}
 use lib.Dec.{eqb, lit<}
 use borrow.Author.Tests.{eqb-true, eq-eqb}
-use Rattle.cpl.specs.Limits.{maxNodes, maxTags}
-use Rattle.cpl.specs.Lists.{All, a[], _a∷_}
+use Rattle.cpl.specs.Limits.{maxNodes}
+use Rattle.cpl.specs.Lists.{a[], _a∷_}
 use Rattle.cpl.specs.AreBytes.{AreBytes}
 use Rattle.cpl.specs.Plan.{Plan, Catalogue, Source}
 use Rattle.cpl.specs.Exprs.{planTags, planNodes}
-use Rattle.cpl.specs.Read.{Res, ok, bad, _>>=_, give}
+use Rattle.cpl.specs.Read.{ok, _>>=_, give}
 use Rattle.cpl.specs.ReadPlan.{markBytes, starts, readMark, readCatalogue, planTo, readEnd, readSource, readFile}
 use Rattle.cpl.specs.Bytes.{planBytes, catalogueBytes, bytesOf}
 use Rattle.cpl.specs.Writable.{FitPlan, FitCatalogue, Writable}
-use Rattle.cpl.proofs.Stands.{Stands, stands-cons, stands-self, stands-first, stands-rest, stands-both, stands-fits, stands-all, all-append}
-use Rattle.cpl.proofs.Codec.{same-ok, Reads, Holds, holds-then, holds-pick, holds-ok, Found, Spelled, Stood, stood-inside, stood-then, found-stood, Codec}
+use Rattle.cpl.proofs.Stands.{Stands, stands-cons, stands-self, stands-first, stands-rest, stands-all, all-append}
+use Rattle.cpl.proofs.Codec.{same-ok, Holds, holds-then, holds-pick, holds-ok, Stood, stood-inside, stood-then, found-stood}
 use Rattle.cpl.proofs.CodeTrip.{and-left, and-right}
 use Rattle.cpl.proofs.HeadTrip.{catalogue-codec}
 use Rattle.cpl.proofs.PlanTrip.{plan-codec}
