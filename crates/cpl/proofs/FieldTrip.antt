@@ -10,9 +10,10 @@ use lib.Dec.{ltb, leb, eqb·suc-zero}
 use borrow.Author.Tests.{ltb-true, leb-true, lt-ltb, le-leb}
 use Rattle.cpl.specs.Limits.{maxNodes, maxTags}
 use Rattle.cpl.specs.Lists.{All, a[], _a∷_}
+use Rattle.cpl.specs.Codes.{CUT, MANY}
 use Rattle.cpl.specs.Tests.{concatMap, sumOf}
 use Rattle.cpl.specs.AreBytes.{AreBytes}
-use Rattle.cpl.specs.Read.{ok, Reader, little, field, value, isNot, nonzero, below, count, any, tag, nodeTag, times, counted}
+use Rattle.cpl.specs.Read.{ok, bad, Reader, pick, little, field, value, isNot, nonzero, below, count, any, tag, nodeTag, times, counted}
 use Rattle.cpl.specs.Bytes.{bytes, countedBytes}
 use Rattle.cpl.specs.Writable.{FitList, FitName}
 use Rattle.cpl.proofs.Stands.{Stands, stands-fits, byte-at}
@@ -85,7 +86,7 @@ field-codec k =
     }
 
 -- a field of which only some numbers are allowed
-pub value-codec : (k : ℕ) (allowed : ℕ → Bool) → Codec (λ x. (x < 256 ^ k) × (allowed x ≡ true)) (bytes k) nought nought (value k allowed)
+value-codec : (k : ℕ) (allowed : ℕ → Bool) → Codec (λ x. (x < 256 ^ k) × (allowed x ≡ true)) (bytes k) nought nought (value k allowed)
 unfolding value
 value-codec k allowed =
     record {
@@ -120,67 +121,62 @@ byte-codec n h = codec-as (λ x l. l) (λ x l. l) (λ x l. (one-byte x (omega ar
 
 -- ── tags ────────────────────────────────────────────────────────────────────────────────────
 
--- a byte that counts as so many tags and nodes
-byte-found : (tags nodes : ℕ) (file : List ℕ) → AreBytes file → (at t n t′ n′ : ℕ) → at < length file → t′ ≡ t + tags → n′ ≡ n + nodes → t′ ≤ maxTags → n′ ≤ maxNodes →
-    Found (Spelled (λ x. x < 256) (λ x. x ∷ []) (λ x. tags) (λ x. nodes)) file at t n (getD file at 0) (at + 1) t′ n′
-byte-found tags nodes file b at t n t′ n′ h e f l m =
+-- a byte that counts as so many tags and nodes, read where `few` says that there is room for them
+counted-byte : (tags nodes : ℕ) (few : ℕ → ℕ → Bool) (t⁺ n⁺ : ℕ → ℕ) → ((t : ℕ) → t⁺ t ≡ t + tags) → ((n : ℕ) → n⁺ n ≡ n + nodes) →
+    ((t n : ℕ) → t + tags ≤ maxTags → n + nodes ≤ maxNodes → few t n ≡ true) →
+    ((t n : ℕ) → t ≤ maxTags → n ≤ maxNodes → few t n ≡ true → (t + tags ≤ maxTags) × (n + nodes ≤ maxNodes)) →
+    Codec (λ x. x < 256) (λ x. x ∷ []) (λ x. tags) (λ x. nodes)
+    (λ file at t n. pick (leb (at + 1) (length file)) (pick (few t n) (ok (getD file at 0) (at + 1) (t⁺ t) (n⁺ n)) (bad MANY at)) (bad CUT at))
+counted-byte tags nodes few t⁺ n⁺ et en room left =
     record {
-      bs = getD file at 0 ∷ [];
-      tags = tags;
-      nodes = nodes;
-      is = (byte-at file b at, refl, refl, refl);
-      stood = record { stands = (h, refl, omega arith); next = refl; tags-read = e; nodes-read = f; few-tags = l; few-nodes = m };
+      reads =
+          λ x h.
+          record {
+            are-bytes = h a∷ a[];
+            read =
+                λ file at t n s l m.
+                rw (le-leb (at + 1) (length file) (omega (arith, s .2)), room t n l m, s .1) (same-ok x refl (et t) (en n));
+          };
+      only =
+          record {
+            found =
+                λ file b at t n h l m.
+                holds-pick (Found _ file at t n) (leb (at + 1) (length file)) _ _
+                (λ e.
+                holds-pick (Found _ file at t n) (few t n) (ok (getD file at 0) (at + 1) (t⁺ t) (n⁺ n)) _
+                (λ f.
+                let k = left t n l m f in
+                record {
+                  bs = getD file at 0 ∷ [];
+                  tags = tags;
+                  nodes = nodes;
+                  is = (byte-at file b at, refl, refl, refl);
+                  stood =
+                      record {
+                        stands = (omega (arith, leb-true (at + 1) (length file) e), refl, leb-true (at + 1) (length file) e);
+                        next = refl;
+                        tags-read = et t;
+                        nodes-read = en n;
+                        few-tags = omega (arith, et t, k .0);
+                        few-nodes = omega (arith, en n, k .1);
+                      };
+                })
+                (λ f. tt))
+                (λ e. tt);
+          };
     }
 
 pub tag-codec : Codec (λ t. t < 256) (λ t. t ∷ []) (λ t. 1) nought tag
 unfolding tag
 tag-codec =
-    record {
-      reads =
-          λ x h.
-          record {
-            are-bytes = h a∷ a[];
-            read =
-                λ file at t n s l m.
-                rw (le-leb (at + 1) (length file) (omega (arith, s .2)), lt-ltb t maxTags (omega arith), s .1) (same-ok x refl refl (omega arith));
-          };
-      only =
-          record {
-            found =
-                λ file b at t n h l m.
-                holds-pick (Found _ file at t n) (leb (at + 1) (length file)) _ _
-                (λ e.
-                holds-pick (Found _ file at t n) (ltb t maxTags) (ok (getD file at 0) (at + 1) (t + 1) n) _
-                (λ f. byte-found 1 0 file b at t n (t + 1) n (omega (arith, leb-true (at + 1) (length file) e)) refl (omega arith) (omega (arith, ltb-true t maxTags f)) m)
-                (λ f. tt))
-                (λ e. tt);
-          };
-    }
+    counted-byte 1 0 (λ t n. ltb t maxTags) (λ t. t + 1) (λ n. n) (λ t. refl) (λ n. omega arith) (λ t n l m. lt-ltb t maxTags (omega arith))
+    (λ t n l m e. omega (arith, ltb-true t maxTags e))
 
 pub node-tag-codec : Codec (λ t. t < 256) (λ t. t ∷ []) nought (λ t. 1) nodeTag
 unfolding nodeTag
 node-tag-codec =
-    record {
-      reads =
-          λ x h.
-          record {
-            are-bytes = h a∷ a[];
-            read =
-                λ file at t n s l m.
-                rw (le-leb (at + 1) (length file) (omega (arith, s .2)), lt-ltb n maxNodes (omega arith), s .1) (same-ok x refl (omega arith) refl);
-          };
-      only =
-          record {
-            found =
-                λ file b at t n h l m.
-                holds-pick (Found _ file at t n) (leb (at + 1) (length file)) _ _
-                (λ e.
-                holds-pick (Found _ file at t n) (ltb n maxNodes) (ok (getD file at 0) (at + 1) t (n + 1)) _
-                (λ f. byte-found 0 1 file b at t n t (n + 1) (omega (arith, leb-true (at + 1) (length file) e)) (omega arith) refl l (omega (arith, ltb-true n maxNodes f)))
-                (λ f. tt))
-                (λ e. tt);
-          };
-    }
+    counted-byte 0 1 (λ t n. ltb n maxNodes) (λ t. t) (λ n. n + 1) (λ t. omega arith) (λ n. refl) (λ t n l m. lt-ltb n maxNodes (omega arith))
+    (λ t n l m e. omega (arith, ltb-true n maxNodes e))
 
 -- ── lists ───────────────────────────────────────────────────────────────────────────────────
 

@@ -1,118 +1,25 @@
 -- A node without its inputs is read as it is written. Assumes nothing.
-use Prim.Native.Nat.{ℕ, zero, suc, _+_, _^_, _≤_, _<_}
+use Prim.Native.Nat.{ℕ, _≤_, _<_}
 use mathlib.Core.Path.{_≡_, refl, sym, ap}
-use mathlib.Core.Bool.{Bool, true, false, not, _&&_, true≢false}
+use mathlib.Core.Bool.{Bool}
 use mathlib.Core.List.{List, [], _∷_, _++_}
-use mathlib.Core.Option.{Option, none, some}
 use native.Mathlib.Omega.{arith}
 use lib.ListN.{length, getD, drop}
-use lib.Dec.{eqb, eqb·suc-zero}
-use borrow.Author.Tests.{eqb-true, eqb-false, ne-eqb}
-use Rattle.cpl.specs.Limits.{maxTables, maxColumns, maxItems, maxKeys, noFetch}
-use Rattle.cpl.specs.Lists.{a[]}
-use Rattle.cpl.specs.Tests.{sumOf}
+use lib.Dec.{eqb}
+use borrow.Author.Tests.{eqb-true}
+use Rattle.cpl.specs.Limits.{maxItems, maxKeys}
 use Rattle.cpl.specs.Plan.{Expr, Item, Key, Win, scan, empty, projection, filter, sort, limit, aggregate, window, subqueryAlias, distinct, JoinType, union, join, Catalogue}
 use Rattle.cpl.specs.Codes.{bit, joinNumber, joinOf}
-use Rattle.cpl.specs.Exprs.{condExprs, exprTags, unaryTags, binaryTags}
-use Rattle.cpl.specs.Read.{Reader, _>>=_, give, pick, below, any, counted}
-use Rattle.cpl.specs.ReadPlan.{Head, h0, h1, h2, fetchOf, readLimit, readAggregate, readCond, readJoin, readColumns, readScan, readEmpty, readHead, readCatalogue}
-use Rattle.cpl.specs.Bytes.{bytes, countedBytes, pairBytes, onBytes, condBytes, columnsBytes, fetchNumber, leafBytes, unaryBytes, binaryBytes, catalogueBytes}
-use Rattle.cpl.specs.Writable.{FitList, FitCond, FitFetch, FitColumns, FitLeaf, FitUnary, FitBinary, FitCatalogue}
-use Rattle.cpl.proofs.Stands.{all-at}
-use Rattle.cpl.proofs.Codec.{Reads, reads-give, reads-then, reads-map, reads-as, only-give, only-refuse, only-then, only-map, only-in, only-pick, Codec, nought, codec-as}
+use Rattle.cpl.specs.Exprs.{unaryTags, binaryTags}
+use Rattle.cpl.specs.ReadPlan.{Head, h0, h1, h2, fetchOf, readLimit, readAggregate, readJoin, readScan, readEmpty, readHead}
+use Rattle.cpl.specs.Bytes.{bytes, countedBytes, pairBytes, onBytes, condBytes, fetchNumber, leafBytes, unaryBytes, binaryBytes}
+use Rattle.cpl.specs.Writable.{FitList, FitLeaf, FitUnary, FitBinary, FitCatalogue}
+use Rattle.cpl.proofs.Codec.{Reads, reads-give, reads-then, reads-map, reads-as, only-give, only-refuse, only-then, only-map, only-in, only-pick, Codec, nought}
 use Rattle.cpl.proofs.FieldTrip.{field-codec, name-codec, index-codec, byte-codec, counted-codec, list-codec, some-codec, plain-codec}
 use Rattle.cpl.proofs.CodeTrip.{join-number, bit-number, number-join, number-bit}
-use Rattle.cpl.proofs.ExprTrip.{pair-codec, expr-codec, item-codec, key-codec, agg-codec, win-codec, on-codec}
-
--- ── the catalogue ───────────────────────────────────────────────────────────────────────────
-
-pub catalogue-codec : Codec FitCatalogue catalogueBytes nought nought readCatalogue
-unfolding FitCatalogue catalogueBytes readCatalogue
-catalogue-codec = plain-codec (plain-codec name-codec maxColumns (omega arith)) maxTables (omega arith)
-
--- a table, there or not, has few columns
-few-columns : (C : Catalogue) → FitCatalogue C → (t : ℕ) → length (getD C t []) ≤ maxColumns
-unfolding FitCatalogue FitList
-few-columns C h t = all-at [] (h .1) (omega arith, a[]) t .0
-
--- ── parts ───────────────────────────────────────────────────────────────────────────────────
-
-number-fetch : (f : Option ℕ) → FitFetch f → (fetchNumber f < 2 ^ 32) × (fetchOf (fetchNumber f) ≡ f)
-unfolding FitFetch fetchNumber fetchOf
-number-fetch none h = (omega arith, refl)
-number-fetch (some n) h = (omega arith, rw (ne-eqb n noFetch (λ e. omega arith)))
-
-fetch-number : (x : ℕ) → x < 2 ^ 32 → FitFetch (fetchOf x) × (fetchNumber (fetchOf x) ≡ x)
-unfolding FitFetch fetchNumber fetchOf
-fetch-number x h = go (eqb x noFetch) refl
-  where
-    go : (b : Bool) → eqb x noFetch ≡ b → FitFetch (pick b none (some x)) × (fetchNumber (pick b none (some x)) ≡ x)
-    go true e = (tt, sym (eqb-true x noFetch e))
-    go false e = let d = eqb-false x noFetch e in (omega arith, refl)
-
-not-both : (x y : ℕ) → not (eqb x 0 && eqb y 0) ≡ true → 0 < x + y
-not-both zero zero e = absurd (true≢false (sym e))
-not-both zero (suc y) e = omega arith
-not-both (suc x) y e = omega arith
-
-some-of : (x y : ℕ) → 0 < x + y → not (eqb x 0 && eqb y 0) ≡ true
-some-of zero zero h = absurd (omega arith)
-some-of zero (suc y) h = rw (eqb·suc-zero y)
-some-of (suc x) y h = rw (eqb·suc-zero x)
-
--- "u8 0 or 1", then something if 1
-module _ {A : Type 0} {Good : A → Type 0} {w : A → List ℕ} {tags : A → ℕ} {p : Reader A} (c : Codec Good w tags nought p) where
-  abbrev IfGood : Option A → Type 0
-  IfGood none = Unit {0}
-  IfGood (some a) = Good a
-
-  abbrev ifBytes : Option A → List ℕ
-  ifBytes none = 0 ∷ []
-  ifBytes (some a) = 1 ∷ w a
-
-  abbrev ifTags : Option A → ℕ
-  ifTags none = 0
-  ifTags (some a) = tags a
-
-  abbrev readIf : Reader (Option A)
-  readIf = below 2 >>= λ x. pick (eqb x 0) (give none) (p >>= λ a. give (some a))
-
-  if-reads : (a : Option A) → IfGood a → Reads readIf a (ifBytes a) (ifTags a) 0
-  if-reads none h = reads-then _ (byte-codec 2 (omega arith) .reads 0 (omega arith)) reads-give
-  if-reads (some a) h = reads-as refl refl (omega arith) refl (reads-then _ (byte-codec 2 (omega arith) .reads 1 (omega arith)) (reads-map some (c .reads a h)))
-
-  if-codec : Codec IfGood ifBytes ifTags nought readIf
-  if-codec =
-      record {
-        reads = if-reads;
-        only =
-            only-then _ (byte-codec 2 (omega arith)) λ x l.
-            only-pick (eqb x 0) (λ z. only-give (tt, ap (λ (y : ℕ). y ∷ []) (eqb-true x 0 z), refl, refl))
-            (λ z. only-map some c λ a h. (h, ap (λ (y : ℕ). y ∷ w a) (omega (arith, eqb-false x 0 z)), omega arith, refl));
-      }
-
-abbrev condTags : Option Expr → ℕ
-condTags c = sumOf exprTags (condExprs c)
-
-cond-codec : Codec FitCond condBytes condTags nought readCond
-unfolding FitCond condBytes readCond condExprs sumOf
-cond-codec = codec-as (λ c h. h) (λ c h. h) (λ c h. (refl, same c)) (if-codec expr-codec)
-  where
-    same : (c : Option Expr) → ifTags expr-codec c ≡ condTags c
-    same none = refl
-    same (some e) = omega arith
-
-columns-codec : (n : ℕ) → n ≤ 256 → Codec (FitColumns n) columnsBytes nought nought (readColumns n)
-unfolding FitColumns columnsBytes readColumns
-columns-codec n s =
-    codec-as {Good = IfGood list} (λ is. elim is [ none ↦ λ h. h | some xs ↦ λ h. h ]) (λ is. elim is [ none ↦ λ h. h | some xs ↦ λ h. h ]) (λ is h. (refl, same is)) (if-codec list)
-  where
-    list : Codec (FitList (λ i. i < n) maxColumns) (countedBytes (bytes 1)) nought nought (counted any maxColumns (below n))
-    list = plain-codec (index-codec n s) maxColumns (omega arith)
-
-    same : (is : Option (List ℕ)) → ifTags list is ≡ 0
-    same none = refl
-    same (some is) = refl
+use Rattle.cpl.proofs.ExprTrip.{pair-codec, expr-codec}
+use Rattle.cpl.proofs.PartTrip.{item-codec, key-codec, agg-codec, win-codec, on-codec, cond-codec, columns-codec, number-fetch, fetch-number, not-both, some-of}
+use Rattle.cpl.proofs.CatalogueTrip.{few-columns}
 
 -- ── heads ───────────────────────────────────────────────────────────────────────────────────
 

@@ -4,6 +4,8 @@ pub mod Codec
 pub mod FieldTrip
 pub mod CodeTrip
 pub mod ExprTrip
+pub mod PartTrip
+pub mod CatalogueTrip
 pub mod HeadTrip
 pub mod PlanTrip
 pub mod RoundTrip

@@ -20,7 +20,7 @@ use Rattle.cpl.specs.Writable.{FitPlan, FitCatalogue, Writable}
 use Rattle.cpl.proofs.Stands.{Stands, stands-cons, stands-self, stands-first, stands-rest, stands-all, all-append}
 use Rattle.cpl.proofs.Codec.{same-ok, Holds, holds-then, holds-pick, holds-ok, Stood, stood-inside, stood-then, found-stood}
 use Rattle.cpl.proofs.CodeTrip.{and-left, and-right}
-use Rattle.cpl.proofs.HeadTrip.{catalogue-codec}
+use Rattle.cpl.proofs.CatalogueTrip.{catalogue-codec}
 use Rattle.cpl.proofs.PlanTrip.{plan-codec}
 
 -- ── the mark ────────────────────────────────────────────────────────────────────────────────

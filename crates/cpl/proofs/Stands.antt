@@ -16,7 +16,7 @@ pub stands-fits : (file : List ℕ) (bs : List ℕ) (at : ℕ) → Stands file a
 stands-fits file [] at s = omega arith
 stands-fits file (x ∷ xs) at s = omega (arith, stands-fits file xs (at + 1) (s .2))
 
-pub stands-at : (file bs : List ℕ) {at at′ : ℕ} → at ≡ at′ → Stands file at bs → Stands file at′ bs
+stands-at : (file bs : List ℕ) {at at′ : ℕ} → at ≡ at′ → Stands file at bs → Stands file at′ bs
 stands-at file bs e s = rw e at s
 
 -- what stands in a row stands apart, and the other way
