@@ -1,0 +1,3 @@
+-- That narrowing keeps rows, bottom up; demand 3; samples.
+pub mod Commute
+pub mod Wide
