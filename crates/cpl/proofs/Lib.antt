@@ -4,3 +4,4 @@ pub mod Lists
 pub mod Pairs
 pub mod Clash
 pub mod Accepted
+pub mod FitFields

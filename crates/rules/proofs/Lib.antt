@@ -1,2 +1,4 @@
 -- Laws and theorems of the rules.
 pub mod Masks
+pub mod Known
+pub mod Inputs

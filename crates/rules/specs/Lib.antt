@@ -4,4 +4,5 @@ pub mod Request
 pub mod Merge
 pub mod Rules
 pub mod Rewrite
+pub mod Kept
 pub mod Answer

@@ -1,0 +1,96 @@
+-- What is proved of every step of the pass: the fields are kept, the new plan is accepted, and it can be written. Then: a topped-up input has exactly
+-- the fields that were requested.
+use mathlib.Core.Path.{_≡_, refl, sym, _∙_, ap, subst, subst⁻¹}
+use mathlib.Core.List.{List, [], _∷_, _++_, map}
+use mathlib.Core.Bool.{Bool, true, false, cond, not}
+use Prim.Native.Nat.{ℕ, _≤_}
+use native.Mathlib.Omega.{arith}
+use lib.Dec.{T, ltb, nltb→le}
+use lib.ListN.{length, length-map}
+use Rattle.cpl.specs.Tests.{allB}
+use Rattle.cpl.specs.Limits.{maxItems, maxFields}
+use Rattle.cpl.specs.Lists.{All, Fit}
+use Rattle.cpl.specs.Plan.{Pair, Item, bare, Unary, projection, Plan, leaf, unary, Catalogue, itemPair, itemExpr}
+use Rattle.cpl.specs.Exprs.{known, unaryExprs}
+use Rattle.cpl.specs.Fields.{unaryFields, fieldsOf}
+use Rattle.cpl.specs.Writable.{FitList, FitPair, FitItem, FitUnary, FitPlan}
+use Rattle.cpl.proofs.Lists.{All-mapped}
+use Rattle.cpl.proofs.Clash.{Clear}
+use Rattle.cpl.proofs.Accepted.{NodeOk, Accepted}
+use Rattle.rules.specs.Mask.{Mask, select, count, LeM}
+use Rattle.rules.specs.Rules.{topUp}
+use Rattle.rules.specs.Rewrite.{Walked, Go}
+use Rattle.rules.specs.Kept.{Kept}
+use Rattle.rules.proofs.Masks.{LeM-fit, count-eq, length-select, select-select, select-short, All-select}
+use Rattle.rules.proofs.Known.{known-own, bare-fields, clear-select}
+
+-- ── what is known of a field list, and of a result ──────────────────────────────────────────
+
+-- the fields of an accepted, writable plan
+pub record Fields (fs : List Pair) : Type 0 where
+  pub few : length fs ≤ maxFields
+  pub distinct : Clear fs
+  pub pairs : All FitPair fs
+
+pub record Result (C : Catalogue) (fs : List Pair) (R : Mask) (w : Walked) : Type 0 where
+  pub kept : Kept C fs R w
+  pub accepted : Accepted C (w .plan)
+  pub fit : FitPlan C (w .plan)
+
+-- what the pass over an input with these fields does
+abbrev pub Good : Catalogue → List Pair → Go → Type 0
+Good C fs go = (b : Bool) (R : Mask) → Fit R fs → Result C fs R (go b R)
+
+-- a rewritten input whose fields are the old ones at K
+pub record Input (C : Catalogue) (fs : List Pair) (K : Mask) (p′ : Plan) : Type 0 where
+  pub fields : fieldsOf C p′ ≡ select K fs
+  pub accepted : Accepted C p′
+  pub fit : FitPlan C p′
+
+-- ── top-up ──────────────────────────────────────────────────────────────────────────────────
+
+bare-fit : {cs : List Pair} → All FitPair cs → All FitItem (map bare cs)
+unfolding FitItem
+bare-fit h = All-mapped bare (λ c k. k) h
+
+module _ (C : Catalogue) {fs : List Pair} (known-fields : Fields fs) {Q : Mask} (fits-fields : Fit Q fs) {w : Walked} (r : Result C fs Q w) where
+  -- the requested columns over the input
+  topped-fields : unaryFields (projection (map bare (select Q fs))) (fieldsOf C (w .plan)) ≡ select Q fs
+  unfolding unaryFields
+  topped-fields = bare-fields (select Q fs)
+
+  topped-known : T (allB (known (fieldsOf C (w .plan))) (unaryExprs (projection (map bare (select Q fs)))))
+  unfolding unaryExprs
+  topped-known =
+      subst (λ gs. T (allB (known gs) (map itemExpr (map bare (select Q fs))))) (sym (r .kept .fields))
+      (subst (λ cs. T (allB (known (select (w .kept) fs)) (map itemExpr (map bare cs)))) (select-select (r .kept .keeps) fs) (known-own (select (w .kept) Q) (select (w .kept) fs)))
+
+  topped-ok : NodeOk (allB (known (fieldsOf C (w .plan))) (unaryExprs (projection (map bare (select Q fs))))) true
+      (unaryFields (projection (map bare (select Q fs))) (fieldsOf C (w .plan))) (unaryFields (projection (map bare (select Q fs))) (fieldsOf C (w .plan)))
+  topped-ok =
+      record {
+        all-found = topped-known;
+        as-wide = tt;
+        few = rw topped-fields (let h = select-short Q fs in let k = known-fields .few in omega arith);
+        distinct = rw topped-fields (clear-select Q (known-fields .distinct));
+      }
+
+  topped-fit : FitUnary (projection (map bare (select Q fs)))
+  unfolding FitUnary FitList
+  topped-fit = (rw (length-map (select Q fs) bare) (let h = select-short Q fs in let k = known-fields .few in omega arith), bare-fit (All-select Q (known-fields .pairs)))
+
+  pub topped : Input C fs Q (topUp C fs Q (w .plan))
+  unfolding topUp fieldsOf Accepted FitPlan
+  topped = go (ltb (count Q) (length (fieldsOf C (w .plan)))) (λ t. t)
+    where
+      go : (b : Bool) → (T (not b) → T (not (ltb (count Q) (length (fieldsOf C (w .plan)))))) → Input C fs Q (cond b (unary (projection (map bare (select Q fs))) (w .plan)) (w .plan))
+      go true t = record { fields = topped-fields; accepted = (r .accepted, topped-ok); fit = (topped-fit, r .fit) }
+      go false t =
+          let h : length (fieldsOf C (w .plan)) ≤ count Q = nltb→le _ _ (t tt) in
+          let l : length (fieldsOf C (w .plan)) ≡ count (w .kept) = ap length (r .kept .fields) ∙ length-select (LeM-fit (r .kept .keeps) fits-fields) in
+          let e : w .kept ≡ Q = count-eq (r .kept .keeps) (omega arith) in
+          record { fields = r .kept .fields ∙ ap (λ k. select k fs) e; accepted = r .accepted; fit = r .fit }
+
+-- without a top-up
+pub as-it-is : (C : Catalogue) {fs : List Pair} {Q : Mask} {w : Walked} → Result C fs Q w → Input C fs (w .kept) (w .plan)
+as-it-is C r = record { fields = r .kept .fields; accepted = r .accepted; fit = r .fit }
