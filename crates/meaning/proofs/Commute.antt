@@ -14,6 +14,7 @@ use Rattle.cpl.proofs.Bools.{cond-ap}
 use Rattle.cpl.proofs.Lists.{map-cong, map-map, map-++, always}
 use Rattle.rules.specs.Mask.{Mask, select, LeB}
 use Rattle.rules.proofs.Masks.{Cov, c[], _c∷_, Cov-sub, LeB-left, LeB-right, select-nil}
+use Rattle.rules.proofs.Known.{used-head, used-tail}
 use Rattle.meaning.specs.Value.{Val, missing, num, Row, op1, op2}
 use Rattle.meaning.specs.Eval.{valueAt, lookup, eval, evalAll}
 use Rattle.meaning.specs.Lists.{filterB, page, around, orElse}
@@ -31,6 +32,10 @@ module _ {A B : Type 0} (f : A → B) where
 
   pub filter-map : (p : A → Bool) (q : B → Bool) → ((x : A) → q (f x) ≡ p x) → (xs : List A) → filterB q (map f xs) ≡ map f (filterB p xs)
   filter-map p q h xs = filter-mapA p q (always h xs)
+
+  -- as many pass
+  pub count-map : (p : A → Bool) (q : B → Bool) → ((x : A) → q (f x) ≡ p x) → (xs : List A) → length (filterB q (map f xs)) ≡ length (filterB p xs)
+  count-map p q h xs = ap length (filter-map p q h xs) ∙ length-map (filterB p xs) f
 
   pub any-mapA : (p : A → Bool) (q : B → Bool) {xs : List A} → All (λ x. q (f x) ≡ p x) xs → anyB q (map f xs) ≡ anyB p xs
   unfolding anyB
@@ -127,14 +132,6 @@ any-++ p (x ∷ xs) ys = ap (p x ||_) (any-++ p xs ys) ∙ or-assoc (p x) (anyB 
     or-assoc false b c = refl
 
 module _ {fs : List Pair} {ks : Mask} where
-  pub used-head : (e : Expr) (es : List Expr) → Cov (usesAny (e ∷ es)) fs ks → Cov (uses e) fs ks
-  unfolding usesAny anyB
-  used-head e es v = Cov-sub (λ f. LeB-left (uses e f) (usesAny es f)) v
-
-  pub used-tail : (e : Expr) (es : List Expr) → Cov (usesAny (e ∷ es)) fs ks → Cov (usesAny es) fs ks
-  unfolding usesAny anyB
-  used-tail e es v = Cov-sub (λ f. LeB-right (uses e f) (usesAny es f)) v
-
   pub used-left : (ds es : List Expr) → Cov (usesAny (ds ++ es)) fs ks → Cov (usesAny ds) fs ks
   unfolding usesAny
   used-left ds es v = Cov-sub (λ f. rw (any-++ (λ e. uses e f) ds es) (LeB-left (usesAny ds f) (usesAny es f))) v

@@ -1,3 +1,5 @@
 -- That narrowing keeps rows, bottom up; demand 3; samples.
 pub mod Commute
 pub mod Wide
+pub mod Groups
+pub mod Joins
