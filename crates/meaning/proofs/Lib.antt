@@ -3,3 +3,4 @@ pub mod Commute
 pub mod Wide
 pub mod Groups
 pub mod Joins
+pub mod Columns
