@@ -1,11 +1,12 @@
 -- The fields of a writable plan are writable pairs.
-use mathlib.Core.Path.{_≡_, refl}
+use mathlib.Core.Path.{_≡_, refl, ap}
 use mathlib.Core.List.{List, [], _∷_, _++_, map}
 use mathlib.Core.Option.{Option, none, some}
 use Prim.Native.Nat.{ℕ, zero, suc, _+_, _<_, _≤_}
 use native.Mathlib.Omega.{arith}
 use lib.ListN.{length, getD}
 use Rattle.cpl.specs.Tests.{iota}
+use Rattle.cpl.specs.Limits.{maxColumns}
 use Rattle.cpl.specs.Lists.{All, a[], _a∷_}
 use Rattle.cpl.specs.Plan.{Pair, pair, Item, bare, named, Agg, agg, Win, win, JoinType, j-inner, j-left, j-right, j-full, j-lsemi, j-lanti, j-rsemi, j-ranti, Leaf, scan, empty, Unary, projection, filter, sort, limit, aggregate, window, subqueryAlias, distinct, Binary, union, join, Plan, leaf, unary, binary, Catalogue, itemPair, aggPair, winPair}
 use Rattle.cpl.specs.Fields.{columnsOf, scanField, leafFields, requalify, unaryFields, joinFields, binaryFields, fieldsOf}
@@ -27,6 +28,17 @@ pub columns-below : (names : List ℕ) (is : Option (List ℕ)) → FitColumns (
 unfolding FitColumns FitList columnsOf
 columns-below names none h = All-map (λ i k. omega arith) (iota-below 0 (length names))
 columns-below names (some is) h = h .1
+
+pub iota-length : (from n : ℕ) → length (iota from n) ≡ n
+unfolding iota
+iota-length from zero = refl
+iota-length from (suc n) = ap suc (iota-length (suc from) n)
+
+-- and as few as a table may have
+pub columns-few : (C : Catalogue) → FitCatalogue C → (t : ℕ) → t < length C → (is : Option (List ℕ)) → FitColumns (length (getD C t [])) is → length (columnsOf (getD C t []) is) ≤ maxColumns
+unfolding FitCatalogue FitList FitColumns columnsOf
+columns-few C k t l none h = let m = All-getD [] t (k .1) l .0 in let e = iota-length 0 (length (getD C t [])) in omega arith
+columns-few C k t l (some is) h = h .0
 
 item-pair-fits : (i : Item) → FitItem i → FitPair (itemPair i)
 unfolding FitItem itemPair

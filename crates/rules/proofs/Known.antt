@@ -12,7 +12,7 @@ use Rattle.cpl.proofs.Lists.{All-map, All-mapped, T-all, map-map, map-id}
 use Rattle.cpl.proofs.Pairs.{eqP-refl, find-any}
 use Rattle.cpl.proofs.Clash.{Clear, n[], _n∷_}
 use Rattle.rules.specs.Mask.{Mask, select, LeB, LeM}
-use Rattle.rules.proofs.Masks.{Cov, c[], _c∷_, Cov-sub, LeB-left, LeB-right, All-select}
+use Rattle.rules.proofs.Masks.{Cov, c[], _c∷_, Cov-sub, LeB-refl, LeB-trans, LeB-left, LeB-right, All-select}
 
 -- what passes is still there
 any-select : {A : Type 0} (P : A → Bool) {xs : List A} {K : Mask} → Cov P xs K → T (anyB P xs) → T (anyB P (select K xs))
@@ -29,7 +29,28 @@ any-select P (_c∷_ {x = x} {k = false} {xs = xs} {ks = K} h hs) t = go (P x) h
     go true h t f = absurd h
     go false h t f = f t
 
+-- what the first of two lists uses, both use; and so of the second
+uses-left : (es ds : List Expr) (f : Pair) → LeB (usesAny es f) (usesAny (es ++ ds) f)
+unfolding usesAny anyB
+uses-left [] ds f = tt
+uses-left (e ∷ es) ds f = go (uses e f) (uses-left es ds f)
+  where
+    go : (b : Bool) → LeB (usesAny es f) (usesAny (es ++ ds) f) → LeB (b || usesAny es f) (b || usesAny (es ++ ds) f)
+    go true h = tt
+    go false h = h
+
+uses-right : (es ds : List Expr) (f : Pair) → LeB (usesAny ds f) (usesAny (es ++ ds) f)
+unfolding usesAny anyB
+uses-right [] ds f = LeB-refl (usesAny ds f)
+uses-right (e ∷ es) ds f = LeB-trans (usesAny ds f) (usesAny (es ++ ds) f) _ (uses-right es ds f) (LeB-right (uses e f) (usesAny (es ++ ds) f))
+
 module _ {fs : List Pair} {K : Mask} where
+  pub used-left : (es ds : List Expr) → Cov (usesAny (es ++ ds)) fs K → Cov (usesAny es) fs K
+  used-left es ds v = Cov-sub (uses-left es ds) v
+
+  pub used-right : (es ds : List Expr) → Cov (usesAny (es ++ ds)) fs K → Cov (usesAny ds) fs K
+  used-right es ds v = Cov-sub (uses-right es ds) v
+
   pub known-select : (e : Expr) → Cov (uses e) fs K → T (known fs e) → T (known (select K fs) e)
   unfolding known uses
   known-select (col c) v t = subst⁻¹ T (find-any c (select K fs)) (any-select (fits c) v (subst T (find-any c fs) t))

@@ -2,3 +2,7 @@
 pub mod Masks
 pub mod Known
 pub mod Inputs
+pub mod UnaryKinds
+pub mod BinaryKinds
+pub mod MergeTidy
+pub mod Results

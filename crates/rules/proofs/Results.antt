@@ -1,0 +1,133 @@
+-- The pass over a whole plan, in either mode: what it makes of an accepted, writable plan keeps the fields, is accepted and can be written.
+use mathlib.Core.Path.{_≡_, refl, sym, _∙_, ap, subst, subst⁻¹}
+use mathlib.Core.List.{List, [], _∷_, _++_, map}
+use mathlib.Core.Bool.{Bool, true, false, _||_}
+use mathlib.Core.Option.{Option, none, some}
+use Prim.Native.Nat.{ℕ, _≤_}
+use native.Mathlib.Omega.{arith}
+use lib.Dec.{T}
+use lib.ListN.{length, getD, length-map}
+use Rattle.cpl.specs.Tests.{allB}
+use Rattle.cpl.specs.Lists.{All, Fit}
+use Rattle.cpl.specs.Plan.{Pair, Item, Leaf, scan, empty, Unary, projection, filter, sort, limit, aggregate, window, subqueryAlias, distinct, Binary, Plan, leaf, unary, binary, Catalogue, itemPair, itemExpr}
+use Rattle.cpl.specs.Exprs.{known, unaryExprs}
+use Rattle.cpl.specs.Fields.{columnsOf, scanField, leafFields, unaryFields, binaryFields, fieldsOf}
+use Rattle.cpl.specs.Writable.{FitList, FitItem, FitColumns, FitLeaf, FitUnary, FitPlan, FitCatalogue}
+use Rattle.cpl.proofs.Lists.{map-map, fit-self}
+use Rattle.cpl.proofs.Accepted.{NodeOk, Accepted, few-fields, distinct-fields}
+use Rattle.cpl.proofs.FitFields.{leaf-pairs, unary-pairs, binary-pairs, field-pairs, columns-below, columns-few}
+use Rattle.rules.specs.Mask.{Mask, select, ones, LeM}
+use Rattle.rules.specs.Merge.{Merge, mergeStep}
+use Rattle.rules.specs.Rules.{leafRule, leafKept, projectionJob, unaryJob}
+use Rattle.rules.specs.Rewrite.{Walked, Go, runJob, pend, tooLong, counted, merged, leafWalk, nodeWalk, unaryWalk, binaryWalk, walk}
+use Rattle.rules.specs.Kept.{Kept}
+use Rattle.rules.proofs.Masks.{LeM-refl, fit-ones, select-map, select-ones, select-short, All-select}
+use Rattle.rules.proofs.Known.{clear-select}
+use Rattle.rules.proofs.Inputs.{Fields, Result, Good}
+use Rattle.rules.proofs.UnaryKinds.{projection-good, unary-good}
+use Rattle.rules.proofs.BinaryKinds.{binary-good}
+use Rattle.rules.proofs.MergeTidy.{Step, step, step-pairs, step-known, step-fits}
+
+-- ── what is asked of a projection that is still to be put on top ─────────────────────────────
+
+-- over these fields: its columns are known, its pairs few and distinct, its items writable
+pub record Items (fs : List Pair) (is : List Item) : Type 0 where
+  pub all-found : T (allB (known fs) (map itemExpr is))
+  pub own : Fields (map itemPair is)
+  pub fit : FitList FitItem 128 is
+
+abbrev pub Pending : List Pair → Option (List Item) → Type 0
+Pending fs none = Unit {0}
+Pending fs (some is) = Items fs is
+
+-- the fields with the pending projection on top
+abbrev pub pendingFields : List Pair → Option (List Item) → List Pair
+pendingFields fs none = fs
+pendingFields fs (some is) = map itemPair is
+
+pub pend-good : (C : Catalogue) (q : Option (List Item)) {fs : List Pair} → Pending fs q → (go : Go) → Good C fs go → Good C (pendingFields fs q) (pend C q fs go)
+unfolding pend
+pend-good C none k go g = g
+pend-good C (some is) k go g = λ b R f. projection-good C is (k .all-found) (k .own) (k .fit) go g R f
+
+-- ── nodes ───────────────────────────────────────────────────────────────────────────────────
+
+-- the fields of a plan that is accepted and can be written
+pub plan-fields : (C : Catalogue) → FitCatalogue C → (p : Plan) → Accepted C p → FitPlan C p → Fields (fieldsOf C p)
+plan-fields C k p o f = record { few = few-fields C p o; distinct = distinct-fields C p o; pairs = field-pairs C k p f }
+
+leaf-good : (C : Catalogue) → FitCatalogue C → (h : Leaf) → Accepted C (leaf h) → FitLeaf C h → Good C (leafFields C h) (leafWalk C h)
+unfolding leafWalk leafRule leafKept leafFields fieldsOf Accepted FitPlan FitLeaf FitColumns FitList columnsOf
+leaf-good C k (scan t q is) o fit b R f =
+    let names = getD C t [] in
+    let cs = columnsOf names is in
+    let e = select-map (scanField names q) R cs in
+    record {
+      kept = record { keeps = LeM-refl R; fields = sym e };
+      accepted = record {
+        all-found = tt;
+        as-wide = tt;
+        few = rw (← e) (let s = select-short R (map (scanField names q) cs) in let m = o .few in omega arith);
+        distinct = rw (← e) (clear-select R (o .distinct));
+      };
+      fit = (fit .0, fit .1, (let s = select-short R cs in let m = columns-few C k t (fit .0) is (fit .2) in omega arith, All-select R (columns-below names is (fit .2))));
+    }
+leaf-good C k (empty one cs) o fit b R f = record { kept = record { keeps = fit-ones f; fields = sym (select-ones (fit-self cs)) }; accepted = o; fit = fit }
+
+-- a merged list in place of the upper list
+merged-items : {house : Bool} {fs : List Pair} {js is ks : List Item} → Items (map itemPair is) js → Items fs is → Step house js is ks → Items fs ks
+unfolding FitList
+merged-items {fs} {js} {is} {ks} u l s =
+    record {
+      all-found = step-known fs (u .all-found) (l .all-found) s;
+      own = subst⁻¹ Fields (step-pairs s) (u .own);
+      fit = (let e = ap length (step-pairs s) in let m = u .fit .0 in omega (arith, length-map ks itemPair, length-map js itemPair), step-fits (u .fit .1) (l .fit .1) s);
+    }
+
+counted-result : (C : Catalogue) {fs : List Pair} {R : Mask} (ks : List Item) {w : Walked} → Result C fs R w → Result C fs R (counted ks w)
+unfolding counted
+counted-result C ks r = record { kept = record { keeps = r .kept .keeps; fields = r .kept .fields }; accepted = r .accepted; fit = r .fit }
+
+-- a node that is no projection
+node-good : (C : Catalogue) (h : Unary) {fs : List Pair} → Fields fs → T (allB (known fs) (unaryExprs h)) → Fields (unaryFields h fs) → FitUnary h
+    → (go : Option (List Item) → Go) → Good C fs (go none) → (q : Option (List Item)) → Pending (unaryFields h fs) q → Good C (pendingFields (unaryFields h fs) q) (nodeWalk C h fs go q)
+unfolding nodeWalk
+node-good C h below k own fit go g q pq = pend-good C q pq _ (unary-good C below (go none) g h k own fit)
+
+module _ (house : Bool) (m : ℕ) (C : Catalogue) where
+  -- the list goes on down where the step made one, and stops over the lower list where it did not
+  merged-good : (js is : List Item) {fs : List Pair} → Items (map itemPair is) js → Items fs is → (go : Option (List Item) → Go)
+      → ((ks : List Item) → Items fs ks → Good C (map itemPair ks) (go (some ks)))
+      → (r : Option (List Item)) → mergeStep house m js is ≡ r → Good C (map itemPair js) (merged r (λ ks. go (some ks)) (pend C (some js) (map itemPair is) (go (some is))))
+  unfolding merged
+  merged-good js is u l go g none e = pend-good C (some js) u (go (some is)) (g is l)
+  merged-good js is {fs} u l go g (some ks) e = λ b R f.
+      let s = step house m js is ks e in
+      counted-result C ks (subst (λ fs′. Result C fs′ R (go (some ks) b R)) (step-pairs s) (g ks (merged-items u l s) b R (subst⁻¹ (Fit R) (step-pairs s) f)))
+
+  unary-walk : (h : Unary) {fs : List Pair} → Fields fs → T (allB (known fs) (unaryExprs h)) → Fields (unaryFields h fs) → FitUnary h
+      → (go : Option (List Item) → Go) → ((q : Option (List Item)) → Pending fs q → Good C (pendingFields fs q) (go q))
+      → (q : Option (List Item)) → Pending (unaryFields h fs) q → Good C (pendingFields (unaryFields h fs) q) (unaryWalk (mergeStep house m) C h fs go q)
+  unfolding unaryWalk unaryFields unaryExprs FitUnary
+  unary-walk (projection is) below k own fit go g none pq = g (some is) (record { all-found = k; own = own; fit = fit })
+  unary-walk (projection is) below k own fit go g (some js) pq =
+      merged-good js is pq (record { all-found = k; own = own; fit = fit }) go (λ ks i. g (some ks) i) (mergeStep house m js is) refl
+  unary-walk (filter e) below k own fit go g q pq = node-good C (filter e) below k own fit go (g none tt) q pq
+  unary-walk (sort ks) below k own fit go g q pq = node-good C (sort ks) below k own fit go (g none tt) q pq
+  unary-walk (limit s n) below k own fit go g q pq = node-good C (limit s n) below k own fit go (g none tt) q pq
+  unary-walk (aggregate gs vs) below k own fit go g q pq = node-good C (aggregate gs vs) below k own fit go (g none tt) q pq
+  unary-walk (window ws) below k own fit go g q pq = node-good C (window ws) below k own fit go (g none tt) q pq
+  unary-walk (subqueryAlias x) below k own fit go g q pq = node-good C (subqueryAlias x) below k own fit go (g none tt) q pq
+  unary-walk distinct below k own fit go g q pq = node-good C distinct below k own fit go (g none tt) q pq
+
+  -- ── plans ─────────────────────────────────────────────────────────────────────────────────
+
+  pub walk-good : FitCatalogue C → (p : Plan) → Accepted C p → FitPlan C p → (q : Option (List Item)) → Pending (fieldsOf C p) q → Good C (pendingFields (fieldsOf C p) q) (walk (mergeStep house m) C p q)
+  unfolding walk fieldsOf Accepted FitPlan
+  walk-good k (leaf h) o fit q pq = pend-good C q pq _ (leaf-good C k h o fit)
+  walk-good k (unary h p) o fit q pq =
+      unary-walk h (plan-fields C k p (o .0) (fit .1)) (o .1 .all-found) (record { few = o .1 .few; distinct = o .1 .distinct; pairs = unary-pairs h (fit .0) (fieldsOf C p) (field-pairs C k p (fit .1)) }) (fit .0) _
+      (λ q pq. walk-good k p (o .0) (fit .1) q pq) q pq
+  walk-good k (binary h p₁ p₂) o fit q pq =
+      pend-good C q pq _
+      (binary-good C h (plan-fields C k p₁ (o .0) (fit .1)) (plan-fields C k p₂ (o .1) (fit .2)) (o .2) (fit .0) _ _ (λ b R f. walk-good k p₁ (o .0) (fit .1) none tt b R f) (λ b R f. walk-good k p₂ (o .1) (fit .2) none tt b R f))

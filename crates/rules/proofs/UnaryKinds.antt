@@ -1,0 +1,253 @@
+-- Each kind of node with one input: the rule keeps the fields, and its result is accepted and can be written.
+use mathlib.Core.Path.{_≡_, refl, sym, _∙_, ap, ap₂, subst, subst⁻¹}
+use mathlib.Core.List.{List, [], _∷_, _++_, map, append-nil}
+use mathlib.Core.Bool.{Bool, true, false, cond, not, _&&_}
+use mathlib.Core.Option.{Option, none, some}
+use Prim.Native.Nat.{ℕ, zero, suc, _+_, _≤_, _<_}
+use native.Mathlib.Omega.{arith}
+use lib.Dec.{T}
+use lib.ListN.{length, take, drop}
+use Rattle.cpl.specs.Tests.{allB, concatMap}
+use Rattle.cpl.specs.Lists.{All, a[], _a∷_, z[], _z∷_, Fit}
+use Rattle.cpl.specs.Plan.{Pair, eqP, Expr, Item, bare, named, Agg, Win, Leaf, empty, Unary, projection, filter, sort, limit, aggregate, window, subqueryAlias, distinct, Plan, leaf, unary, Catalogue, itemPair, itemExpr, keyExpr, aggPair, winPair}
+use Rattle.cpl.specs.Exprs.{known, uses, usesAny, aggExprs, winExprs, unaryExprs}
+use Rattle.cpl.specs.Fields.{leafFields, unaryFields, requalify, fieldsOf}
+use Rattle.cpl.specs.Writable.{FitList, FitItem, FitAgg, FitWin, FitLeaf, FitUnary, FitPlan}
+use Rattle.cpl.proofs.Bools.{halves}
+use Rattle.cpl.proofs.Lists.{All-left, All-right, All-++, all-T, T-all, Fit-map, Fit-maps, Fit-trans, take-fit, drop-fit}
+use Rattle.cpl.proofs.Pairs.{eqP-eq}
+use Rattle.cpl.proofs.Clash.{Clear, n[]}
+use Rattle.cpl.proofs.Accepted.{NodeOk, Accepted}
+use Rattle.rules.specs.Mask.{Mask, select, orM, ones, LeM}
+use Rattle.rules.specs.Rules.{used, plus, sameColumns, overChild, Job, done, ask, projectionJob, aggregateJob, windowJob, unaryJob}
+use Rattle.rules.specs.Rewrite.{Walked, Go, input, runJob}
+use Rattle.rules.specs.Kept.{Kept}
+use Rattle.rules.proofs.Masks.{Cov, Cov-or, Cov-used, Cov-le, LeM-or, LeM-refl, LeM-trans, LeM-fit, LeM-parts, LeB-true, Fit-or, fit-ones, select-map, select-ones, select-++, select-short, All-select}
+use Rattle.rules.proofs.Known.{known-all, bare-fields, clear-select}
+use Rattle.rules.proofs.Inputs.{Fields, Result, Good, Input, topped, as-it-is}
+
+-- ── a node over a rewritten input ───────────────────────────────────────────────────────────
+
+-- the node h′ over an input with the fields fs at K stands for the old node h, whose fields are left at L
+module _ (C : Catalogue) {fs : List Pair} (h h′ : Unary) (own : Fields (unaryFields h fs)) {K : Mask} (L : Mask) {p′ : Plan} (i : Input C fs K p′)
+    (same : unaryFields h′ (select K fs) ≡ select L (unaryFields h fs)) where
+  node-fields : unaryFields h′ (fieldsOf C p′) ≡ select L (unaryFields h fs)
+  node-fields = ap (unaryFields h′) (i .fields) ∙ same
+
+  pub node : {R : Mask} (overlong : Bool) → LeM R L → T (allB (known (select K fs)) (unaryExprs h′)) → FitUnary h′
+      → Result C (unaryFields h fs) R (record { plan = unary h′ p′; kept = L; overlong = overlong })
+  unfolding fieldsOf Accepted FitPlan
+  node o k t f =
+      record {
+        kept = record { keeps = k; fields = node-fields };
+        accepted = (
+          i .accepted,
+          record {
+            all-found = subst⁻¹ (λ gs. T (allB (known gs) (unaryExprs h′))) (i .fields) t;
+            as-wide = tt;
+            few = rw node-fields (let s = select-short L (unaryFields h fs) in let m = own .few in omega arith);
+            distinct = rw node-fields (clear-select L (own .distinct));
+          },
+        );
+        fit = (f, i .fit);
+      }
+
+-- ── parts of lists ──────────────────────────────────────────────────────────────────────────
+
+concat-select : {A B : Type 0} {P : B → Type 0} (f : A → List B) (K : Mask) (xs : List A) → All P (concatMap f xs) → All P (concatMap f (select K xs))
+unfolding concatMap select
+concat-select f [] xs h = a[]
+concat-select f (k ∷ K) [] h = a[]
+concat-select f (true ∷ K) (x ∷ xs) h = All-++ (All-left (f x) (concatMap f xs) h) (concat-select f K xs (All-right (f x) (concatMap f xs) h))
+concat-select f (false ∷ K) (x ∷ xs) h = concat-select f K xs (All-right (f x) (concatMap f xs) h)
+
+fit-select : {A : Type 0} (P : A → Type 0) (most : ℕ) (K : Mask) (xs : List A) → FitList P most xs → FitList P most (select K xs)
+unfolding FitList
+fit-select P most K xs h = (let s = select-short K xs in let m = h .0 in omega arith, All-select K (h .1))
+
+-- the columns used are kept, and known
+used-known : (es : List Expr) (fs : List Pair) {K : Mask} → LeM (used es fs) K → T (allB (known fs) es) → T (allB (known (select K fs)) es)
+unfolding used
+used-known es fs l t = known-all es (Cov-le (Cov-used (usesAny es) fs) l) t
+
+plus-known : (es : List Expr) {fs : List Pair} {R : Mask} → Fit R fs → T (allB (known fs) es) → T (allB (known (select (plus es fs R) fs)) es)
+unfolding plus used
+plus-known es f t = known-all es (Cov-or (usesAny es) f) t
+
+plus-keeps : (es : List Expr) {fs : List Pair} {R : Mask} → Fit R fs → LeM R (plus es fs R)
+unfolding plus used
+plus-keeps es f = LeM-or (usesAny es) f
+
+plus-fit : (es : List Expr) {fs : List Pair} {R : Mask} → Fit R fs → Fit (plus es fs R) fs
+unfolding plus used
+plus-fit es f = Fit-or (usesAny es) f
+
+used-fit : (es : List Expr) (fs : List Pair) → Fit (used es fs) fs
+unfolding used
+used-fit es fs = Fit-map (usesAny es) fs
+
+-- ── Projection ──────────────────────────────────────────────────────────────────────────────
+
+pub same-columns : (is : List Item) (fs : List Pair) → T (sameColumns is fs) → is ≡ map bare fs
+unfolding sameColumns
+same-columns [] [] t = refl
+same-columns [] (f ∷ fs) t = absurd t
+same-columns (bare c ∷ is) [] t = absurd t
+same-columns (named c e ∷ is) [] t = absurd t
+same-columns (bare c ∷ is) (f ∷ fs) t = let h = halves (eqP c f) (sameColumns is fs) t in ap₂ (λ c js. bare c ∷ js) (eqP-eq c f (h .0)) (same-columns is fs (h .1))
+same-columns (named c e ∷ is) (f ∷ fs) t = absurd t
+
+selected-known : (R : Mask) (is : List Item) (fs : List Pair) → T (allB (known fs) (map itemExpr is)) → T (allB (known fs) (map itemExpr (select R is)))
+selected-known R is fs t = T-all (known fs) (subst (All (λ e. T (known fs e))) (select-map itemExpr R is) (All-select R (all-T (known fs) (map itemExpr is) t)))
+
+module _ (C : Catalogue) (is : List Item) {fs : List Pair} (known-items : T (allB (known fs) (map itemExpr is))) (own : Fields (map itemPair is)) (few : FitList FitItem 128 is)
+    (go : Go) (g : Good C fs go) (R : Mask) (f : Fit R (map itemPair is)) where
+  pub projection-good : Result C (map itemPair is) R (runJob C fs (projectionJob C is fs R) go)
+  unfolding projectionJob runJob input overChild unaryFields unaryExprs FitUnary fieldsOf
+  projection-good = choose (sameColumns js (fieldsOf C (w .plan))) (λ t. t)
+    where
+      js : List Item
+      js = select R is
+
+      Q : Mask
+      Q = used (map itemExpr js) fs
+
+      w : Walked
+      w = go false Q
+
+      r : Result C fs Q w
+      r = g false Q (used-fit (map itemExpr js) fs)
+
+      choose : (b : Bool) → (T b → T (sameColumns js (fieldsOf C (w .plan)))) → Result C (map itemPair is) R (record { plan = cond b (w .plan) (unary (projection js) (w .plan)); kept = R; overlong = w .overlong })
+      choose true t =
+          let e = same-columns js (fieldsOf C (w .plan)) (t tt) in
+          record {
+            kept = record { keeps = LeM-refl R; fields = sym (select-map itemPair R is ∙ (ap (map itemPair) e ∙ bare-fields (fieldsOf C (w .plan)))) };
+            accepted = r .accepted;
+            fit = r .fit;
+          }
+      choose false t =
+          node C (projection is) (projection js) own R (as-it-is C r) (sym (select-map itemPair R is)) (w .overlong) (LeM-refl R)
+          (used-known (map itemExpr js) fs (r .kept .keeps) (selected-known R is fs known-items)) (fit-select FitItem 128 R is few)
+
+-- ── Aggregate ───────────────────────────────────────────────────────────────────────────────
+
+all-groups : (gs : List Item) (fs : List Pair) {R : Mask} → Fit R (map itemPair gs ++ fs) → LeM R (ones gs ++ drop (length gs) R)
+unfolding ones
+all-groups [] fs {R} h = LeM-refl R
+all-groups (g ∷ gs) fs (_z∷_ {x = r} _ hs) = LeB-true r z∷ all-groups gs fs hs
+
+aggregate-fields : (gs : List Item) (A : Mask) (vs : List Agg) → map itemPair gs ++ map aggPair (select A vs) ≡ select (ones gs ++ A) (map itemPair gs ++ map aggPair vs)
+unfolding ones
+aggregate-fields gs A vs = sym (select-++ (Fit-maps (λ g. true) itemPair gs) A (map aggPair vs) ∙ ap₂ _++_ (select-ones (Fit-map itemPair gs)) (select-map aggPair A vs))
+
+module _ (C : Catalogue) {fs : List Pair} (below : Fields fs) (gs : List Item) (vs : List Agg) (known-exprs : T (allB (known fs) (unaryExprs (aggregate gs vs))))
+    (own : Fields (unaryFields (aggregate gs vs) fs)) (fit : FitUnary (aggregate gs vs)) (go : Go) (g : Good C fs go) (R : Mask) (f : Fit R (unaryFields (aggregate gs vs) fs)) where
+  abbrev A : Mask
+  A = drop (length gs) R
+
+  kept-known : T (allB (known fs) (unaryExprs (aggregate gs (select A vs))))
+  unfolding unaryExprs
+  kept-known =
+      let h = all-T (known fs) (map itemExpr gs ++ concatMap aggExprs vs) known-exprs in
+      T-all (known fs) (All-++ (All-left (map itemExpr gs) (concatMap aggExprs vs) h) (concat-select aggExprs A vs (All-right (map itemExpr gs) (concatMap aggExprs vs) h)))
+
+  -- some group or aggregate is left
+  some-left : (ws : List Agg) → ws ≡ select A vs → 0 < length gs + length ws
+      → let Q = used (unaryExprs (aggregate gs ws)) fs in
+      Result C (unaryFields (aggregate gs vs) fs) R (runJob C fs (ask false Q true (unary (aggregate gs ws)) (λ L. ones gs ++ A)) go)
+  unfolding runJob input unaryFields FitUnary
+  some-left ws e m =
+      let h = aggregate gs ws in
+      let Q = used (unaryExprs h) fs in
+      let r = g false Q (used-fit (unaryExprs h) fs) in
+      node C (aggregate gs vs) h own (ones gs ++ A) (topped C below (used-fit (unaryExprs h) fs) r) (ap (λ us. map itemPair gs ++ map aggPair us) e ∙ aggregate-fields gs A vs) _
+      (all-groups gs (map aggPair vs) f) (used-known (unaryExprs h) fs (LeM-refl Q) (subst⁻¹ (λ us. T (allB (known fs) (unaryExprs (aggregate gs us)))) e kept-known))
+      (m, fit .1, subst⁻¹ (FitList FitAgg 128) e (fit-select FitAgg 128 A vs (fit .2)))
+
+  pub aggregate-good : Result C (unaryFields (aggregate gs vs) fs) R (runJob C fs (aggregateJob gs (select A vs) fs (ones gs ++ A)) go)
+  unfolding aggregateJob runJob unaryFields fieldsOf leafFields Accepted FitPlan FitLeaf FitList
+  aggregate-good = cases gs (select A vs) refl refl
+    where
+      cases : (gs′ : List Item) (ws : List Agg) → gs′ ≡ gs → ws ≡ select A vs → Result C (unaryFields (aggregate gs vs) fs) R (runJob C fs (aggregateJob gs′ ws fs (ones gs ++ A)) go)
+      cases [] [] eg e =
+          record {
+            kept = record { keeps = all-groups gs (map aggPair vs) f; fields = ap₂ (λ g w. map itemPair g ++ map aggPair w) eg e ∙ aggregate-fields gs A vs };
+            accepted = record { all-found = tt; as-wide = tt; few = omega arith; distinct = n[] };
+            fit = (omega arith, a[]);
+          }
+      cases [] (w ∷ ws) eg e = subst⁻¹ (λ g. Result C (unaryFields (aggregate gs vs) fs) R (runJob C fs (ask false (used (unaryExprs (aggregate g (w ∷ ws))) fs) true (unary (aggregate g (w ∷ ws))) (λ L. ones gs ++ A)) go)) eg (some-left (w ∷ ws) e (omega arith))
+      cases (x ∷ xs) ws eg e =
+          let m : 0 < length gs + length ws = subst (λ g. 0 < length g + length ws) eg (omega arith) in
+          subst⁻¹ (λ g. Result C (unaryFields (aggregate gs vs) fs) R (runJob C fs (ask false (used (unaryExprs (aggregate g ws)) fs) true (unary (aggregate g ws)) (λ L. ones gs ++ A)) go)) eg (some-left ws e m)
+
+-- ── Window ──────────────────────────────────────────────────────────────────────────────────
+
+module _ (C : Catalogue) {fs : List Pair} (below : Fields fs) (ws : List Win) (known-exprs : T (allB (known fs) (unaryExprs (window ws))))
+    (own : Fields (unaryFields (window ws) fs)) (fit : FitUnary (window ws)) (go : Go) (g : Good C fs go) (b : Bool) (R : Mask) (f : Fit R (unaryFields (window ws) fs)) where
+  -- the pass-through part, and the windows' part
+  abbrev R₀ : Mask
+  R₀ = take (length fs) R
+
+  abbrev S : Mask
+  S = drop (length fs) R
+
+  pass-fit : Fit R₀ fs
+  unfolding unaryFields
+  pass-fit = take-fit fs (map winPair ws) f
+
+  window-fields : {K : Mask} → Fit K fs → select K fs ++ map winPair (select S ws) ≡ select (K ++ S) (fs ++ map winPair ws)
+  window-fields {K} h = sym (select-++ h S (map winPair ws) ∙ ap (select K fs ++_) (select-map winPair S ws))
+
+  kept-windows : T (allB (known fs) (unaryExprs (window (select S ws))))
+  unfolding unaryExprs
+  kept-windows = T-all (known fs) (concat-select winExprs S ws (all-T (known fs) (concatMap winExprs ws) known-exprs))
+
+  pub window-good : Result C (unaryFields (window ws) fs) R (runJob C fs (windowJob (select S ws) fs b R₀ S) go)
+  unfolding windowJob runJob input unaryFields FitUnary
+  window-good = cases (select S ws) refl
+    where
+      cases : (vs : List Win) → vs ≡ select S ws → Result C (unaryFields (window ws) fs) R (runJob C fs (windowJob vs fs b R₀ S) go)
+      cases [] e =
+          let r = g b R₀ pass-fit in
+          let k = LeM-fit (r .kept .keeps) pass-fit in
+          record {
+            kept = record {
+              keeps = LeM-parts (length fs) R (r .kept .keeps) (LeM-refl S);
+              fields = r .kept .fields ∙ (sym (append-nil _) ∙ (ap (λ us. select (go b R₀ .kept) fs ++ map winPair us) e ∙ window-fields k));
+            };
+            accepted = r .accepted;
+            fit = r .fit;
+          }
+      cases (v ∷ vs) e =
+          let es = unaryExprs (window (v ∷ vs)) in
+          let Q = plus es fs R₀ in
+          let r = g b Q (plus-fit es pass-fit) in
+          node C (window ws) (window (v ∷ vs)) own (Q ++ S) (topped C below (plus-fit es pass-fit) r) (ap (λ us. select Q fs ++ map winPair us) e ∙ window-fields (plus-fit es pass-fit)) _
+          (LeM-parts (length fs) R (plus-keeps es pass-fit) (LeM-refl S)) (plus-known es pass-fit (subst⁻¹ (λ us. T (allB (known fs) (unaryExprs (window us)))) e kept-windows))
+          (omega arith, subst⁻¹ (FitList FitWin 128) e (fit-select FitWin 128 S ws (fit .1)))
+
+-- ── every kind ──────────────────────────────────────────────────────────────────────────────
+
+module _ (C : Catalogue) {fs : List Pair} (below : Fields fs) (go : Go) (g : Good C fs go) where
+  pub unary-good : (h : Unary) → T (allB (known fs) (unaryExprs h)) → Fields (unaryFields h fs) → FitUnary h → (b : Bool) (R : Mask) → Fit R (unaryFields h fs)
+      → Result C (unaryFields h fs) R (runJob C fs (unaryJob C h fs b R) go)
+  unfolding unaryJob runJob input unaryFields unaryExprs allB
+  unary-good (projection is) k own fit b R f = projection-good C is k own (unfold FitUnary in fit) go g R f
+  unary-good (filter e) k own fit b R f =
+      let q = plus-fit (e ∷ []) f in
+      node C (filter e) (filter e) own _ (topped C below q (g true _ q)) refl _ (plus-keeps (e ∷ []) f) (plus-known (e ∷ []) f k) fit
+  unary-good (sort ks) k own fit b R f =
+      let es = map keyExpr ks in
+      let q = plus-fit es f in
+      node C (sort ks) (sort ks) own _ (topped C below q (g true _ q)) refl _ (plus-keeps es f) (plus-known es f k) fit
+  unary-good (limit s n) k own fit true R f = node C (limit s n) (limit s n) own R (topped C below f (g true R f)) refl _ (LeM-refl R) tt fit
+  unary-good (limit s n) k own fit false R f = let r = g false R f in node C (limit s n) (limit s n) own _ (as-it-is C r) refl _ (r .kept .keeps) tt fit
+  unary-good (aggregate gs vs) k own fit b R f = aggregate-good C below gs vs k own fit go g R f
+  unary-good (window ws) k own fit b R f = window-good C below ws k own fit go g b R f
+  unary-good (subqueryAlias q) k own fit b R f =
+      let i = Fit-trans f (Fit-map (requalify q) fs) in
+      node C (subqueryAlias q) (subqueryAlias q) own R (topped C below i (g true R i)) (sym (select-map (requalify q) R fs)) _ (LeM-refl R) tt fit
+  unary-good distinct k own fit b R f =
+      let r = g false (ones fs) (unfold ones in Fit-map (λ x. true) fs) in
+      node C distinct distinct own _ (as-it-is C r) refl _ (LeM-trans (fit-ones f) (r .kept .keeps)) tt fit
