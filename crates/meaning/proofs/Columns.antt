@@ -4,17 +4,17 @@ use mathlib.Core.List.{List, [], _∷_, map}
 use mathlib.Core.Bool.{Bool, true, false, cond}
 use lib.Dec.{T}
 use Rattle.cpl.specs.Lists.{All, z[], _z∷_, Fit}
-use Rattle.cpl.specs.Plan.{Pair, eqP, Expr, col, Item, bare, named, projection, Plan, unary, Catalogue, itemExpr}
+use Rattle.cpl.specs.Plan.{Pair, Expr, col, Item, bare, projection, Plan, unary, Catalogue, itemExpr}
 use Rattle.cpl.specs.Exprs.{fits, usesAny}
 use Rattle.cpl.specs.Fields.{fieldsOf}
-use Rattle.cpl.proofs.Bools.{halves}
 use Rattle.cpl.proofs.Lists.{All-map, map-cong, map-congA, map-map, map-id, Fit-map, fit-self}
-use Rattle.cpl.proofs.Pairs.{eqP-refl, eqP-eq}
+use Rattle.cpl.proofs.Pairs.{eqP-refl}
 use Rattle.cpl.proofs.Clash.{Clear, n[], _n∷_, differ}
 use Rattle.rules.specs.Mask.{Mask, select, ones, LeM}
 use Rattle.rules.specs.Rules.{sameColumns, overChild}
 use Rattle.rules.proofs.Masks.{Cov, select-map, select-select, select-ones, Fit-select, All-select}
 use Rattle.rules.proofs.Known.{clear-select}
+use Rattle.rules.proofs.UnaryKinds.{same-columns}
 use Rattle.meaning.specs.Value.{Val, Row, Log}
 use Rattle.meaning.specs.Eval.{lookup, eval, evalAll}
 use Rattle.meaning.specs.Operators.{projectionRows, unaryRows}
@@ -38,6 +38,9 @@ own-columns (_n∷_ {f = f} {fs = fs} h hs) (_z∷_ {x = v} {xs = r} _ w) (_z∷
 pub all-columns : {fs : List Pair} {r : Row} → Clear fs → Fit r fs → map (lookup fs r) fs ≡ r
 unfolding ones
 all-columns {fs} {r} nd h = ap (map (lookup fs r)) (sym (select-ones (fit-self fs))) ∙ (own-columns nd h (Fit-map (λ f. true) fs) ∙ select-ones h)
+
+pub ones-rows : {fs : List Pair} {rs : List Row} → WideRows fs rs → map (select (ones fs)) rs ≡ rs
+ones-rows {rs} w = map-congA (All-map (λ r h. select-ones h) w) ∙ map-id rs
 
 bare-values : (cs fs : List Pair) (r : Row) → evalAll fs r (map itemExpr (map bare cs)) ≡ map (lookup fs r) cs
 unfolding evalAll eval itemExpr
@@ -64,16 +67,6 @@ columns-rows {fs} {rs} {R} {K} nd w f k = map-map (λ r. evalAll (select K fs) r
     each r h =
         bare-values (select R fs) (select K fs) (select K r)
         ∙ (ap (map (lookup (select K fs) (select K r))) (sym (select-select k fs)) ∙ (own-columns (clear-select K nd) (Fit-select K h) (Fit-select K f) ∙ select-select k r))
-
--- "all bare columns equal in number and, place by place, in pairs to the child's fields"
-same-columns : (is : List Item) (fs : List Pair) → T (sameColumns is fs) → is ≡ map bare fs
-unfolding sameColumns
-same-columns [] [] t = refl
-same-columns [] (f ∷ fs) t = absurd t
-same-columns (bare c ∷ is) [] t = absurd t
-same-columns (named c e ∷ is) [] t = absurd t
-same-columns (bare c ∷ is) (f ∷ fs) t = let h = halves (eqP c f) (sameColumns is fs) t in ap₂ (λ c js. bare c ∷ js) (eqP-eq c f (h .0)) (same-columns is fs (h .1))
-same-columns (named c e ∷ is) (f ∷ fs) t = absurd t
 
 projection-self : {fs : List Pair} {rs : List Row} → Clear fs → WideRows fs rs → projectionRows (map bare fs) fs rs ≡ rs
 unfolding projectionRows

@@ -122,24 +122,7 @@ lookup-select c (_c∷_ {x = f} {k = false} {xs = fs} h hs) (v ∷ r) = skip (fi
 
 -- ── expressions ─────────────────────────────────────────────────────────────────────────────
 
-any-++ : {A : Type 0} (p : A → Bool) (xs ys : List A) → anyB p (xs ++ ys) ≡ (anyB p xs || anyB p ys)
-unfolding anyB
-any-++ p [] ys = refl
-any-++ p (x ∷ xs) ys = ap (p x ||_) (any-++ p xs ys) ∙ or-assoc (p x) (anyB p xs) (anyB p ys)
-  where
-    or-assoc : (a b c : Bool) → (a || (b || c)) ≡ ((a || b) || c)
-    or-assoc true b c = refl
-    or-assoc false b c = refl
-
 module _ {fs : List Pair} {ks : Mask} where
-  pub used-left : (ds es : List Expr) → Cov (usesAny (ds ++ es)) fs ks → Cov (usesAny ds) fs ks
-  unfolding usesAny
-  used-left ds es v = Cov-sub (λ f. rw (any-++ (λ e. uses e f) ds es) (LeB-left (usesAny ds f) (usesAny es f))) v
-
-  pub used-right : (ds es : List Expr) → Cov (usesAny (ds ++ es)) fs ks → Cov (usesAny es) fs ks
-  unfolding usesAny
-  used-right ds es v = Cov-sub (λ f. rw (any-++ (λ e. uses e f) ds es) (LeB-right (usesAny ds f) (usesAny es f))) v
-
   pub eval-select : (e : Expr) → Cov (uses e) fs ks → (r : Row) → eval (select ks fs) (select ks r) e ≡ eval fs r e
   unfolding eval uses
   eval-select (col c) v r = lookup-select c v r

@@ -12,13 +12,14 @@ use Rattle.cpl.specs.Exprs.{usesAny, callExprs, aggExprs, winExprs}
 use Rattle.cpl.proofs.Lists.{All-map, map-cong, map-congA, map-map, Fit-map, Fit-trans, Fit-sym}
 use Rattle.rules.specs.Mask.{Mask, select, ones}
 use Rattle.rules.proofs.Masks.{Cov, select-map, select-ones, select-++}
+use Rattle.rules.proofs.Known.{used-left, used-right}
 use Rattle.meaning.specs.Value.{Val, num, Row, sameRow}
 use Rattle.meaning.specs.Eval.{evalAll}
 use Rattle.meaning.specs.Lists.{filterB, firsts, around}
 use Rattle.meaning.specs.Order.{before}
 use Rattle.meaning.specs.Functions.{callOver}
 use Rattle.meaning.specs.Operators.{groupKeys, members, aggValue, groupRow, aggregateRows, samePart, rowNumber, winValue, winRow, windowRows}
-use Rattle.meaning.proofs.Commute.{filter-map, count-map, around-mapA, used-left, used-right, evalAll-select, before-select, call-select}
+use Rattle.meaning.proofs.Commute.{filter-map, count-map, around-mapA, evalAll-select, before-select, call-select}
 use Rattle.meaning.proofs.Wide.{WideRows, wide-keys}
 
 module _ {fs : List Pair} {ks : Mask} where

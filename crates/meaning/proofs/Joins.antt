@@ -12,12 +12,12 @@ use Rattle.cpl.proofs.Lists.{All-map, always, map-cong, map-congA, map-map, map
 use Rattle.rules.specs.Mask.{Mask, select}
 use Rattle.rules.specs.Rules.{leftExprs, rightExprs}
 use Rattle.rules.proofs.Masks.{Cov, Cov-++, select-map, select-++}
-use Rattle.rules.proofs.Known.{used-head, used-tail}
+use Rattle.rules.proofs.Known.{used-head, used-tail, used-left, used-right}
 use Rattle.meaning.specs.Value.{Val, missing, Row, op2, yes?}
 use Rattle.meaning.specs.Eval.{eval}
 use Rattle.meaning.specs.Lists.{filterB, orElse}
 use Rattle.meaning.specs.Joins.{onMatch, condMatch, matches, missings, leftMajor, rightMajor, joinRows}
-use Rattle.meaning.proofs.Commute.{filter-map, filter-mapA, any-mapA, orElse-map, concat-mapA, used-left, used-right, eval-select}
+use Rattle.meaning.proofs.Commute.{filter-map, filter-mapA, any-mapA, orElse-map, concat-mapA, eval-select}
 use Rattle.meaning.proofs.Wide.{WideRows, All-filter, missings-fit}
 
 absent : (fs : List Pair) (ks : Mask) → missings (select ks fs) ≡ select ks (missings fs)
@@ -46,7 +46,7 @@ module _ (fl fr : List Pair) (kl kr : Mask) (fit : Fit kl fl) where
   condMatch-select (some e) v w l r h =
       ap₂ (λ fs s. yes? (eval fs s e)) (sym (select-++ fit kr fr)) (cut l r h) ∙ ap yes? (eval-select e (Cov-++ (used-head e [] v) (used-head e [] w)) (l ++ r))
 
-  matches-select : (os : List On) (c : Option Expr) → Cov (usesAny (leftExprs os c)) fl kl → Cov (usesAny (rightExprs os c)) fr kr → (l r : Row) → Fit l fl
+  pub matches-select : (os : List On) (c : Option Expr) → Cov (usesAny (leftExprs os c)) fl kl → Cov (usesAny (rightExprs os c)) fr kr → (l r : Row) → Fit l fl
       → matches os c (select kl fl) (select kr fr) (select kl l) (select kr r) ≡ matches os c fl fr l r
   unfolding matches leftExprs rightExprs
   matches-select os c v w l r h =

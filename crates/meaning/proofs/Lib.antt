@@ -4,3 +4,4 @@ pub mod Wide
 pub mod Groups
 pub mod Joins
 pub mod Columns
+pub mod Rows

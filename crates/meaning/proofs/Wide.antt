@@ -39,7 +39,7 @@ module _ {A : Type 0} {P : A → Type 0} where
   All-sort lt a[] = a[]
   All-sort lt (_a∷_ {x = x} h hs) = All-insert lt x h (All-sort lt hs)
 
-  All-firsts : (eq : A → A → Bool) {xs : List A} → All P xs → All P (firsts eq xs)
+  pub All-firsts : (eq : A → A → Bool) {xs : List A} → All P xs → All P (firsts eq xs)
   unfolding firsts
   All-firsts eq a[] = a[]
   All-firsts eq (_a∷_ {x = x} h hs) = h a∷ All-filter (λ y. not (eq x y)) (All-firsts eq hs)
@@ -136,7 +136,7 @@ unfolding binaryFields binaryRows
 binary-wide union fl fr t hl hr = All-++ hl (rewide (even-fit fl fr t) hr)
 binary-wide (join t os c) fl fr e hl hr = join-wide (matches os c fl fr) hl hr t
 
-leaf-wide : (C : Catalogue) (D : Log) (h : Leaf) → WideRows (leafFields C h) (leafRows C D h)
+pub leaf-wide : (C : Catalogue) (D : Log) (h : Leaf) → WideRows (leafFields C h) (leafRows C D h)
 unfolding leafFields leafRows rowAt emptyRows
 leaf-wide C D (scan t q is) = All-any _ (tableRows D t) (λ r. Fit-maps (λ i. getD r i missing) (scanField (getD C t []) q) (columnsOf (getD C t []) is))
 leaf-wide C D (empty true cs) = missings-fit cs a∷ a[]
