@@ -1,7 +1,22 @@
--- Laws and theorems of the plan language.
+-- What is proved of the plan language.
+-- laws of tests, lists and pairs
 pub mod Bools
 pub mod Lists
 pub mod Pairs
+-- acceptance
 pub mod Clash
 pub mod Accepted
 pub mod FitFields
+-- reading and writing are inverse
+pub mod Stands
+pub mod Codec
+pub mod FieldTrip
+pub mod CodeTrip
+pub mod ExprTrip
+pub mod PartTrip
+pub mod CatalogueTrip
+pub mod HeadTrip
+pub mod PlanTrip
+pub mod RoundTrip
+-- codes
+pub mod Refusals

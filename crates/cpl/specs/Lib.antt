@@ -12,3 +12,5 @@ pub mod Bytes
 pub mod Writable
 pub mod Fields
 pub mod Accept
+pub mod AreBytes
+pub mod Computes

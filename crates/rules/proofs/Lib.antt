@@ -6,3 +6,4 @@ pub mod UnaryKinds
 pub mod BinaryKinds
 pub mod MergeTidy
 pub mod Results
+pub mod Samples

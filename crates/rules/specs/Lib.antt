@@ -6,3 +6,5 @@ pub mod Rules
 pub mod Rewrite
 pub mod Kept
 pub mod Answer
+pub mod Samples
+pub mod Computes
