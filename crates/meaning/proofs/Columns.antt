@@ -4,16 +4,16 @@ use mathlib.Core.List.{List, [], _∷_, map}
 use mathlib.Core.Bool.{Bool, true, false, cond}
 use lib.Dec.{T}
 use Rattle.cpl.specs.Lists.{All, z[], _z∷_, Fit}
-use Rattle.cpl.specs.Plan.{Pair, Expr, col, Item, bare, projection, Plan, unary, Catalogue, itemExpr}
+use Rattle.cpl.specs.Plan.{Pair, Expr, col, Item, bare, projection, Plan, unary, Catalogue, itemPair, itemExpr}
 use Rattle.cpl.specs.Exprs.{fits, usesAny}
-use Rattle.cpl.specs.Fields.{fieldsOf}
+use Rattle.cpl.specs.Fields.{unaryFields, fieldsOf}
 use Rattle.cpl.proofs.Lists.{All-map, map-cong, map-congA, map-map, map-id, Fit-map, fit-self}
 use Rattle.cpl.proofs.Pairs.{eqP-refl}
 use Rattle.cpl.proofs.Clash.{Clear, n[], _n∷_, differ}
 use Rattle.rules.specs.Mask.{Mask, select, ones, LeM}
 use Rattle.rules.specs.Rules.{sameColumns, overChild}
 use Rattle.rules.proofs.Masks.{Cov, select-map, select-select, select-ones, Fit-select, All-select}
-use Rattle.rules.proofs.Known.{clear-select}
+use Rattle.rules.proofs.Known.{bare-fields, clear-select}
 use Rattle.rules.proofs.UnaryKinds.{same-columns}
 use Rattle.meaning.specs.Value.{Val, Row, Log}
 use Rattle.meaning.specs.Eval.{lookup, eval, evalAll}
@@ -72,12 +72,15 @@ projection-self : {fs : List Pair} {rs : List Row} → Clear fs → WideRows fs 
 unfolding projectionRows
 projection-self {fs} {rs} nd w = map-congA (All-map (λ r h. bare-values fs fs r ∙ all-columns nd h) w) ∙ map-id rs
 
--- dropped or not, the rows are the projection's
-pub overChild-rows : (C : Catalogue) (D : Log) (is : List Item) (p′ : Plan) → Clear (fieldsOf C p′) → WideRows (fieldsOf C p′) (meaning C D p′)
-    → meaning C D (overChild C is p′) ≡ projectionRows is (fieldsOf C p′) (meaning C D p′)
-unfolding overChild meaning unaryRows
-overChild-rows C D is p′ nd w = go (sameColumns is (fieldsOf C p′)) (λ t. t)
+-- dropped or not, the fields and the rows are the projection's
+pub over-child : (C : Catalogue) (D : Log) (is : List Item) (p′ : Plan) → Clear (fieldsOf C p′) → WideRows (fieldsOf C p′) (meaning C D p′)
+    → (fieldsOf C (overChild C is p′) ≡ map itemPair is) × (meaning C D (overChild C is p′) ≡ projectionRows is (fieldsOf C p′) (meaning C D p′))
+unfolding overChild fieldsOf meaning unaryFields unaryRows
+over-child C D is p′ nd w = go (sameColumns is (fieldsOf C p′)) (λ t. t)
   where
-    go : (b : Bool) → (T b → T (sameColumns is (fieldsOf C p′))) → meaning C D (cond b p′ (unary (projection is) p′)) ≡ projectionRows is (fieldsOf C p′) (meaning C D p′)
-    go true t = sym (ap (λ js. projectionRows js (fieldsOf C p′) (meaning C D p′)) (same-columns is (fieldsOf C p′) (t tt)) ∙ projection-self nd w)
-    go false t = refl
+    go : (b : Bool) → (T b → T (sameColumns is (fieldsOf C p′)))
+        → (fieldsOf C (cond b p′ (unary (projection is) p′)) ≡ map itemPair is) × (meaning C D (cond b p′ (unary (projection is) p′)) ≡ projectionRows is (fieldsOf C p′) (meaning C D p′))
+    go true t =
+        let e = same-columns is (fieldsOf C p′) (t tt) in
+        (sym (ap (map itemPair) e ∙ bare-fields (fieldsOf C p′)), sym (ap (λ js. projectionRows js (fieldsOf C p′) (meaning C D p′)) e ∙ projection-self nd w))
+    go false t = (refl, refl)

@@ -95,7 +95,7 @@ lookup-nil c fs = go (find c fs)
     go none = refl
     go (some i) = refl
 
-lookup-none : (c : Pair) (r : Row) → lookup [] r c ≡ missing
+pub lookup-none : (c : Pair) (r : Row) → lookup [] r c ≡ missing
 unfolding lookup find valueAt
 lookup-none c r = refl
 

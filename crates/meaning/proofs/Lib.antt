@@ -5,3 +5,7 @@ pub mod Groups
 pub mod Joins
 pub mod Columns
 pub mod Rows
+pub mod HouseMerge
+pub mod Preserve
+pub mod Logs
+pub mod Demand3

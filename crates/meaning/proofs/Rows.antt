@@ -1,7 +1,6 @@
--- Each kind's rule: where the rewritten input has the old rows at the fields that are left of it, the rewritten node has the old node's rows at the
--- fields that are left of the node.
+-- Each kind's rule: where the rewritten input is the old one narrowed, the rewritten node is the old node narrowed.
 use mathlib.Core.Path.{_≡_, refl, sym, _∙_, ap, ap₂, subst, subst⁻¹}
-use mathlib.Core.List.{List, [], _∷_, _++_, map}
+use mathlib.Core.List.{List, [], _∷_, _++_, map, append-nil}
 use mathlib.Core.Bool.{Bool, true, false, cond}
 use mathlib.Core.Option.{Option, none, some}
 use Prim.Native.Nat.{ℕ}
@@ -9,16 +8,17 @@ use lib.Dec.{T}
 use lib.ListN.{length, take, drop, getD}
 use Rattle.cpl.specs.Tests.{anyB, concatMap}
 use Rattle.cpl.specs.Lists.{All, z[], _z∷_, Fit}
-use Rattle.cpl.specs.Plan.{Pair, Expr, Item, Agg, Win, JoinType, j-inner, j-left, j-right, j-full, j-lsemi, j-lanti, j-rsemi, j-ranti, Leaf, scan, empty, Unary, projection, filter, sort, limit, aggregate, window, subqueryAlias, distinct, Binary, union, join, Plan, leaf, unary, binary, Catalogue, itemPair, itemExpr, keyExpr, winPair}
+use Rattle.cpl.specs.Plan.{Pair, Expr, Item, Agg, Win, JoinType, j-inner, j-left, j-right, j-full, j-lsemi, j-lanti, j-rsemi, j-ranti, Leaf, scan, empty, Unary, projection, filter, sort, limit, aggregate, window, subqueryAlias, distinct, Binary, union, join, Plan, leaf, unary, binary, Catalogue, itemPair, itemExpr, keyExpr, aggPair, winPair}
 use Rattle.cpl.specs.Exprs.{usesAny, aggExprs, winExprs, unaryExprs}
-use Rattle.cpl.specs.Fields.{columnsOf, leafFields, requalify, unaryFields, joinFields, binaryFields, fieldsOf}
+use Rattle.cpl.specs.Fields.{columnsOf, scanField, leafFields, requalify, unaryFields, joinFields, binaryFields, fieldsOf}
 use Rattle.cpl.specs.Accept.{even}
-use Rattle.cpl.proofs.Lists.{All-map, All-mapped, map-cong, map-congA, map-map, map-++, map-id, Fit-map, Fit-trans, Fit-sym, take-fit, drop-fit}
+use Rattle.cpl.proofs.Lists.{All-map, All-mapped, map-cong, map-congA, map-map, map-++, map-id, Fit-map, Fit-maps, fit-self, Fit-trans, Fit-sym, take-fit, drop-fit}
 use Rattle.cpl.proofs.Clash.{Clear}
 use Rattle.rules.specs.Mask.{Mask, select, orM, ones, zeros, LeM}
 use Rattle.rules.specs.Rules.{used, plus, overChild, leafRule, leafKept, Job, done, ask, projectionJob, aggregateJob, windowJob, unaryJob, leftPart, rightPart, leftExprs, rightExprs, leftAsk, rightAsk, binaryKept}
-use Rattle.rules.proofs.Masks.{Cov, c[], _c∷_, Cov-or, Cov-used, Cov-le, LeM-refl, LeM-fit, ones-le, Fit-or, Fit-select, select-map}
+use Rattle.rules.proofs.Masks.{Cov, c[], _c∷_, Cov-or, Cov-used, Cov-le, LeB-true, LeM-refl, LeM-trans, LeM-or, LeM-parts, LeM-fit, fit-ones, ones-le, Fit-or, Fit-select, select-map, select-ones, select-++}
 use Rattle.rules.proofs.Known.{used-head, used-left, used-right, clear-select}
+use Rattle.rules.proofs.BinaryKinds.{join-fields}
 use Rattle.meaning.specs.Value.{Val, missing, Row, Log, yes?, sameRow}
 use Rattle.meaning.specs.Lists.{firsts}
 use Rattle.meaning.specs.Operators.{projectionRows, members, aggValue, groupKeys, groupRow, aggregateRows, windowRows, unaryRows}
@@ -28,17 +28,18 @@ use Rattle.meaning.proofs.Commute.{filter-map, sort-map, page-map, eval
 use Rattle.meaning.proofs.Wide.{WideRows, All-firsts, even-fit, leaf-wide}
 use Rattle.meaning.proofs.Groups.{aggregate-select, window-select, window-none}
 use Rattle.meaning.proofs.Joins.{matches-select, joinRows-select}
-use Rattle.meaning.proofs.Columns.{ones-rows, projection-select, overChild-rows}
+use Rattle.meaning.proofs.Columns.{ones-rows, projection-select, over-child}
 
--- a rewritten input has the fields fs and the rows rs, at K
-pub record Cut (C : Catalogue) (D : Log) (fs : List Pair) (rs : List Row) (K : Mask) (p′ : Plan) : Type 0 where
+-- a plan that has the fields fs and the rows rs, narrowed to K, which keeps R
+pub record Narrowed (C : Catalogue) (D : Log) (fs : List Pair) (rs : List Row) (R K : Mask) (p′ : Plan) : Type 0 where
+  pub keeps : LeM R K
   pub fields : fieldsOf C p′ ≡ select K fs
   pub rows : meaning C D p′ ≡ map (select K) rs
 
--- what a job does for the node whose rows were `before`, over an input with the fields fs and the rows rs
-unfoldable pub JobRows : Catalogue → Log → List Pair → (rs before : List Row) → Job → Type 0
-JobRows C D fs rs before (done p′ K) = meaning C D p′ ≡ map (select K) before
-JobRows C D fs rs before (ask b Q topped node left) = Fit Q fs × ((K : Mask) (p′ : Plan) → LeM Q K → Cut C D fs rs K p′ → meaning C D (node p′) ≡ map (select (left K)) before)
+-- what a job does, over an input with the fields fs and the rows rs, for a node with the fields gs and the rows qs that is asked with R
+unfoldable pub JobNarrows : Catalogue → Log → List Pair → List Row → (R : Mask) (gs : List Pair) (qs : List Row) → Job → Type 0
+JobNarrows C D fs rs R gs qs (done p′ K) = Narrowed C D gs qs R K p′
+JobNarrows C D fs rs R gs qs (ask b Q topped node left) = Fit Q fs × ((K : Mask) (p′ : Plan) → Narrowed C D fs rs Q K p′ → Narrowed C D gs qs R (left K) (node p′))
 
 -- ── the columns that are asked for ──────────────────────────────────────────────────────────
 
@@ -58,81 +59,140 @@ plus-fit : (es : List Expr) {fs : List Pair} {R : Mask} → Fit R fs → Fit (pl
 unfolding plus used
 plus-fit es f = Fit-or (usesAny es) f
 
--- ── one input ───────────────────────────────────────────────────────────────────────────────
+plus-keeps : (es : List Expr) {fs : List Pair} {R K : Mask} → Fit R fs → LeM (plus es fs R) K → LeM R K
+unfolding plus used
+plus-keeps es f l = LeM-trans (LeM-or (usesAny es) f) l
 
 no-windows : {fs : List Pair} {K : Mask} → Fit K fs → Cov (usesAny (concatMap winExprs [])) fs K
 unfolding usesAny anyB concatMap
 no-windows z[] = c[]
 no-windows (_ z∷ hs) = tt c∷ no-windows hs
 
+-- ── fields ──────────────────────────────────────────────────────────────────────────────────
+
+all-groups : (gs : List Item) (fs : List Pair) {R : Mask} → Fit R (map itemPair gs ++ fs) → LeM R (ones gs ++ drop (length gs) R)
+unfolding ones
+all-groups [] fs {R} h = LeM-refl R
+all-groups (g ∷ gs) fs (_z∷_ {x = r} _ hs) = LeB-true r z∷ all-groups gs fs hs
+
+aggregate-fields : (gs : List Item) (A : Mask) (vs : List Agg) → map itemPair gs ++ map aggPair (select A vs) ≡ select (ones gs ++ A) (map itemPair gs ++ map aggPair vs)
+unfolding ones
+aggregate-fields gs A vs = sym (select-++ (Fit-maps (λ g. true) itemPair gs) A (map aggPair vs) ∙ ap₂ _++_ (select-ones (Fit-map itemPair gs)) (select-map aggPair A vs))
+
+window-fields : {fs : List Pair} {K : Mask} → Fit K fs → (S : Mask) (ws : List Win) → select K fs ++ map winPair (select S ws) ≡ select (K ++ S) (fs ++ map winPair ws)
+window-fields {fs} {K} h S ws = sym (select-++ h S (map winPair ws) ∙ ap (select K fs ++_) (select-map winPair S ws))
+
+-- ── one input ───────────────────────────────────────────────────────────────────────────────
+
 module _ (C : Catalogue) (D : Log) (fs : List Pair) (rs : List Row) where
-  node-rows : (h : Unary) {K : Mask} {p′ : Plan} → Cut C D fs rs K p′ → meaning C D (unary h p′) ≡ unaryRows h (select K fs) (map (select K) rs)
-  unfolding meaning
-  node-rows h c = ap₂ (unaryRows h) (c .fields) (c .rows)
+  -- the node h over the rewritten input
+  node : (h : Unary) {R Q K : Mask} {p′ : Plan} → Narrowed C D fs rs Q K p′ → {gs : List Pair} {qs : List Row} (L : Mask) → LeM R L
+      → unaryFields h (select K fs) ≡ select L gs → unaryRows h (select K fs) (map (select K) rs) ≡ map (select L) qs → Narrowed C D gs qs R L (unary h p′)
+  unfolding fieldsOf meaning
+  node h n L l ef er = record { keeps = l; fields = ap (unaryFields h) (n .fields) ∙ ef; rows = ap₂ (unaryRows h) (n .fields) (n .rows) ∙ er }
 
-  pub projection-rows : Clear fs → WideRows fs rs → (is : List Item) (R : Mask) → JobRows C D fs rs (projectionRows is fs rs) (projectionJob C is fs R)
-  unfolding JobRows projectionJob
-  projection-rows nd w is R = (used-fit (map itemExpr (select R is)) fs, λ K p′ l c.
-      overChild-rows C D (select R is) p′ (subst⁻¹ Clear (c .fields) (clear-select K nd)) (rw (c .fields, c .rows) (All-mapped _ (λ r h. Fit-select K h) w))
-      ∙ (ap₂ (projectionRows (select R is)) (c .fields) (c .rows) ∙ projection-select R is (used-cov (map itemExpr (select R is)) fs l) rs))
+  pub projection-narrows : Clear fs → WideRows fs rs → (is : List Item) (R : Mask) → JobNarrows C D fs rs R (map itemPair is) (projectionRows is fs rs) (projectionJob C is fs R)
+  unfolding JobNarrows projectionJob
+  projection-narrows nd w is R =
+      let js = select R is in
+      (used-fit (map itemExpr js) fs, λ K p′ n.
+      let o = over-child C D js p′ (subst⁻¹ Clear (n .fields) (clear-select K nd)) (rw (n .fields, n .rows) (All-mapped _ (λ r h. Fit-select K h) w)) in
+      record {
+        keeps = LeM-refl R;
+        fields = o .0 ∙ sym (select-map itemPair R is);
+        rows = o .1 ∙ (ap₂ (projectionRows js) (n .fields) (n .rows) ∙ projection-select R is (used-cov (map itemExpr js) fs (n .keeps)) rs);
+      })
 
-  -- ws are the aggregates that are left
-  aggregate-rows : (gs : List Item) (vs ws : List Agg) (A : Mask) → ws ≡ select A vs → {K : Mask} {p′ : Plan} → LeM (used (unaryExprs (aggregate gs ws)) fs) K → Cut C D fs rs K p′
-      → meaning C D (unary (aggregate gs ws) p′) ≡ map (select (ones gs ++ A)) (unaryRows (aggregate gs vs) fs rs)
+  -- ── Aggregate: ws are the aggregates that are left ────────────────────────────────────────
+
+  aggregate-rows : (gs : List Item) (vs ws : List Agg) (A : Mask) → ws ≡ select A vs → {K : Mask} → LeM (used (unaryExprs (aggregate gs ws)) fs) K
+      → unaryRows (aggregate gs ws) (select K fs) (map (select K) rs) ≡ map (select (ones gs ++ A)) (unaryRows (aggregate gs vs) fs rs)
   unfolding unaryRows unaryExprs ones
-  aggregate-rows gs vs ws A e {K} l c =
+  aggregate-rows gs vs ws A e {K} l =
       let es = map itemExpr gs in
       let v = used-cov (es ++ concatMap aggExprs ws) fs l in
-      node-rows (aggregate gs ws) c ∙ (ap (λ us. aggregateRows es us (select K fs) (map (select K) rs)) e
+      ap (λ us. aggregateRows es us (select K fs) (map (select K) rs)) e
       ∙ (aggregate-select es vs A (used-left es (concatMap aggExprs ws) v) (subst (λ us. Cov (usesAny (concatMap aggExprs us)) fs K) e (used-right es (concatMap aggExprs ws) v)) rs
-      ∙ ap (λ M. map (select (M ++ A)) (aggregateRows es vs fs rs)) (map-map (λ g. true) itemExpr gs)))
+      ∙ ap (λ M. map (select (M ++ A)) (aggregateRows es vs fs rs)) (map-map (λ g. true) itemExpr gs))
 
   -- neither group nor aggregate: one row of no values
   nothing-left : (vs : List Agg) (A : Mask) → [] ≡ select A vs → meaning C D (leaf (empty true [])) ≡ map (select A) (unaryRows (aggregate [] vs) fs rs)
   unfolding meaning leafRows emptyRows missings unaryRows aggregateRows groupKeys groupRow
   nothing-left vs A e = let f = aggValue fs (members [] fs rs []) in ap (λ r. r ∷ []) (ap (map f) e ∙ sym (select-map f A vs))
 
-  aggregate-job : (gs : List Item) (vs ws : List Agg) (A : Mask) → ws ≡ select A vs → JobRows C D fs rs (unaryRows (aggregate gs vs) fs rs) (aggregateJob gs ws fs (ones gs ++ A))
-  unfolding JobRows aggregateJob ones
-  aggregate-job [] vs [] A e = nothing-left vs A e
-  aggregate-job [] vs (u ∷ us) A e = (used-fit (unaryExprs (aggregate [] (u ∷ us))) fs, λ K p′ l c. aggregate-rows [] vs (u ∷ us) A e l c)
-  aggregate-job (g ∷ gs) vs ws A e = (used-fit (unaryExprs (aggregate (g ∷ gs) ws)) fs, λ K p′ l c. aggregate-rows (g ∷ gs) vs ws A e l c)
+  module _ (vs : List Agg) (A : Mask) where
+    some-left : (gs : List Item) (ws : List Agg) → ws ≡ select A vs → {R : Mask} → LeM R (ones gs ++ A)
+        → JobNarrows C D fs rs R (unaryFields (aggregate gs vs) fs) (unaryRows (aggregate gs vs) fs rs) (ask false (used (unaryExprs (aggregate gs ws)) fs) true (unary (aggregate gs ws)) (λ L. ones gs ++ A))
+    unfolding JobNarrows unaryFields
+    some-left gs ws e l = (used-fit (unaryExprs (aggregate gs ws)) fs, λ K p′ n.
+        node (aggregate gs ws) n (ones gs ++ A) l (ap (λ us. map itemPair gs ++ map aggPair us) e ∙ aggregate-fields gs A vs) (aggregate-rows gs vs ws A e (n .keeps)))
 
-  -- vs are the windows that are left
-  window-job : WideRows fs rs → (ws vs : List Win) (b : Bool) (R S : Mask) → Fit R fs → vs ≡ select S ws → JobRows C D fs rs (unaryRows (window ws) fs rs) (windowJob vs fs b R S)
-  unfolding JobRows windowJob unaryRows unaryExprs
-  window-job w ws [] b R S f e = (f, λ K p′ l c.
-      let k = LeM-fit l f in
-      c .rows ∙ (sym (window-none (select K fs) (map (select K) rs))
-      ∙ (ap (λ us. windowRows us (select K fs) (map (select K) rs)) e ∙ window-select ws S k (subst (λ us. Cov (usesAny (concatMap winExprs us)) fs K) e (no-windows k)) w)))
-  window-job w ws (v ∷ vs) b R S f e =
+    aggregate-narrows : (gs : List Item) (ws : List Agg) → ws ≡ select A vs → {R : Mask} → LeM R (ones gs ++ A)
+        → JobNarrows C D fs rs R (unaryFields (aggregate gs vs) fs) (unaryRows (aggregate gs vs) fs rs) (aggregateJob gs ws fs (ones gs ++ A))
+    unfolding aggregateJob
+    aggregate-narrows [] [] e l = unfold JobNarrows unaryFields fieldsOf leafFields ones in record { keeps = l; fields = ap (map aggPair) e ∙ sym (select-map aggPair A vs); rows = nothing-left vs A e }
+    aggregate-narrows [] (u ∷ us) e l = some-left [] (u ∷ us) e l
+    aggregate-narrows (g ∷ gs) ws e l = some-left (g ∷ gs) ws e l
+
+  -- ── Window: vs are the windows that are left ──────────────────────────────────────────────
+
+  window-narrows : WideRows fs rs → (ws vs : List Win) (b : Bool) (R : Mask) → Fit R (fs ++ map winPair ws) → let S = drop (length fs) R in
+      vs ≡ select S ws → JobNarrows C D fs rs R (unaryFields (window ws) fs) (unaryRows (window ws) fs rs) (windowJob vs fs b (take (length fs) R) S)
+  unfolding JobNarrows windowJob unaryFields unaryRows unaryExprs
+  window-narrows w ws [] b R f e =
+      let S = drop (length fs) R in
+      let p = take-fit fs (map winPair ws) f in
+      (p, λ K p′ n.
+      let k = LeM-fit (n .keeps) p in
+      record {
+        keeps = LeM-parts (length fs) R (n .keeps) (LeM-refl S);
+        fields = n .fields ∙ (sym (append-nil (select K fs)) ∙ (ap (λ us. select K fs ++ map winPair us) e ∙ window-fields k S ws));
+        rows = n .rows ∙ (sym (window-none (select K fs) (map (select K) rs))
+            ∙ (ap (λ us. windowRows us (select K fs) (map (select K) rs)) e ∙ window-select ws S k (subst (λ us. Cov (usesAny (concatMap winExprs us)) fs K) e (no-windows k)) w));
+      })
+  window-narrows w ws (v ∷ vs) b R f e =
+      let S = drop (length fs) R in
+      let p = take-fit fs (map winPair ws) f in
       let es = concatMap winExprs (v ∷ vs) in
-      (plus-fit es f, λ K p′ l c.
-      node-rows (window (v ∷ vs)) c ∙ (ap (λ us. windowRows us (select K fs) (map (select K) rs)) e
-      ∙ window-select ws S (LeM-fit l (plus-fit es f)) (subst (λ us. Cov (usesAny (concatMap winExprs us)) fs K) e (plus-cov es f l)) w))
+      (plus-fit es p, λ K p′ n.
+      let k = LeM-fit (n .keeps) (plus-fit es p) in
+      node (window (v ∷ vs)) n (K ++ S) (LeM-parts (length fs) R (plus-keeps es p (n .keeps)) (LeM-refl S)) (ap (λ us. select K fs ++ map winPair us) e ∙ window-fields k S ws)
+      (ap (λ us. windowRows us (select K fs) (map (select K) rs)) e ∙ window-select ws S k (subst (λ us. Cov (usesAny (concatMap winExprs us)) fs K) e (plus-cov es p (n .keeps))) w))
 
-  pub unary-rows : Clear fs → WideRows fs rs → (h : Unary) (b : Bool) {R : Mask} → Fit R (unaryFields h fs) → JobRows C D fs rs (unaryRows h fs rs) (unaryJob C h fs b R)
-  unfolding unaryJob unaryFields unaryRows JobRows
-  unary-rows nd w (projection is) b {R} f = projection-rows nd w is R
-  unary-rows nd w (filter e) b f = (plus-fit (e ∷ []) f, λ K p′ l c. node-rows (filter e) c ∙ filter-map (select K) _ _ (λ r. ap yes? (eval-select e (used-head e [] (plus-cov (e ∷ []) f l)) r)) rs)
-  unary-rows nd w (sort ks) b f = (plus-fit (map keyExpr ks) f, λ K p′ l c. node-rows (sort ks) c ∙ sort-map (select K) _ _ (before-select ks (plus-cov (map keyExpr ks) f l)) rs)
-  unary-rows nd w (limit s n) b f = (f, λ K p′ l c. node-rows (limit s n) c ∙ page-map (select K) s n rs)
-  unary-rows nd w (aggregate gs vs) b {R} f = aggregate-job gs vs (select (drop (length gs) R) vs) (drop (length gs) R) refl
-  unary-rows nd w (window ws) b {R} f = window-job w ws (select (drop (length fs) R) ws) b (take (length fs) R) (drop (length fs) R) (take-fit fs (map winPair ws) f) refl
-  unary-rows nd w (subqueryAlias q) b f = (Fit-trans f (Fit-map (requalify q) fs), λ K p′ l c. node-rows (subqueryAlias q) c)
-  unary-rows nd w distinct b f = (unfold ones in Fit-map (λ x. true) fs, λ K p′ l c.
-      let e = ones-le fs l in
-      node-rows distinct c ∙ (ap (λ M. firsts sameRow (map (select M) rs)) e
-      ∙ (ap (firsts sameRow) (ones-rows w) ∙ (sym (ones-rows (All-firsts sameRow w)) ∙ ap (λ M. map (select M) (firsts sameRow rs)) (sym e)))))
+  -- ── every kind ────────────────────────────────────────────────────────────────────────────
 
--- ── no input, two inputs ────────────────────────────────────────────────────────────────────
+  pub unary-narrows : Clear fs → WideRows fs rs → (h : Unary) (b : Bool) {R : Mask} → Fit R (unaryFields h fs) → JobNarrows C D fs rs R (unaryFields h fs) (unaryRows h fs rs) (unaryJob C h fs b R)
+  unfolding unaryJob unaryFields unaryRows JobNarrows
+  unary-narrows nd w (projection is) b {R} f = projection-narrows nd w is R
+  unary-narrows nd w (filter e) b f = (plus-fit (e ∷ []) f, λ K p′ n.
+      node (filter e) n K (plus-keeps (e ∷ []) f (n .keeps)) refl (filter-map (select K) _ _ (λ r. ap yes? (eval-select e (used-head e [] (plus-cov (e ∷ []) f (n .keeps))) r)) rs))
+  unary-narrows nd w (sort ks) b f =
+      let es = map keyExpr ks in
+      (plus-fit es f, λ K p′ n. node (sort ks) n K (plus-keeps es f (n .keeps)) refl (sort-map (select K) _ _ (before-select ks (plus-cov es f (n .keeps))) rs))
+  unary-narrows nd w (limit i j) b f = (f, λ K p′ n. node (limit i j) n K (n .keeps) refl (page-map (select K) i j rs))
+  unary-narrows nd w (aggregate gs vs) b {R} f = aggregate-narrows vs (drop (length gs) R) gs (select (drop (length gs) R) vs) refl (all-groups gs (map aggPair vs) f)
+  unary-narrows nd w (window ws) b {R} f = window-narrows w ws (select (drop (length fs) R) ws) b R f refl
+  unary-narrows nd w (subqueryAlias q) b f = (Fit-trans f (Fit-map (requalify q) fs), λ K p′ n. node (subqueryAlias q) n K (n .keeps) (sym (select-map (requalify q) K fs)) refl)
+  unary-narrows nd w distinct b f = (unfold ones in Fit-map (λ x. true) fs, λ K p′ n.
+      let e = ones-le fs (n .keeps) in
+      node distinct n K (LeM-trans (fit-ones f) (n .keeps)) refl
+      (ap (λ M. firsts sameRow (map (select M) rs)) e ∙ (ap (firsts sameRow) (ones-rows w) ∙ (sym (ones-rows (All-firsts sameRow w)) ∙ ap (λ M. map (select M) (firsts sameRow rs)) (sym e)))))
 
-pub leaf-rows : (C : Catalogue) (D : Log) (h : Leaf) (R : Mask) → meaning C D (leaf (leafRule C h R)) ≡ map (select (leafKept h R)) (leafRows C D h)
-unfolding meaning leafFields leafRule leafKept leafRows rowAt columnsOf
-leaf-rows C D (scan t q is) R =
-    let cs = columnsOf (getD C t []) is in
-    sym (map-map (select R) (rowAt cs) (tableRows D t) ∙ map-cong (λ r. select-map (λ i. getD r i missing) R cs) (tableRows D t))
-leaf-rows C D (empty b cs) R = sym (ones-rows (leaf-wide C D (empty b cs)))
+-- ── no input ────────────────────────────────────────────────────────────────────────────────
+
+pub leaf-narrows : (C : Catalogue) (D : Log) (h : Leaf) {R : Mask} → Fit R (leafFields C h) → Narrowed C D (leafFields C h) (leafRows C D h) R (leafKept h R) (leaf (leafRule C h R))
+unfolding fieldsOf meaning leafFields leafRule leafKept leafRows rowAt columnsOf
+leaf-narrows C D (scan t q is) {R} f =
+    let names = getD C t [] in
+    let cs = columnsOf names is in
+    record {
+      keeps = LeM-refl R;
+      fields = sym (select-map (scanField names q) R cs);
+      rows = sym (map-map (select R) (rowAt cs) (tableRows D t) ∙ map-cong (λ r. select-map (λ i. getD r i missing) R cs) (tableRows D t));
+    }
+leaf-narrows C D (empty b cs) f = record { keeps = fit-ones f; fields = sym (select-ones (fit-self cs)); rows = sym (ones-rows (leaf-wide C D (empty b cs))) }
+
+-- ── two inputs ──────────────────────────────────────────────────────────────────────────────
 
 -- a join's request, split: each part fits its side
 part-fits : (t : JoinType) (fl fr : List Pair) {R : Mask} → Fit R (joinFields t fl fr) → Fit (leftPart t fl R) fl × Fit (rightPart t fl fr R) fr
@@ -146,22 +206,41 @@ part-fits j-lanti fl fr f = (f, Fit-map (λ g. false) fr)
 part-fits j-rsemi fl fr f = (Fit-map (λ g. false) fl, f)
 part-fits j-ranti fl fr f = (Fit-map (λ g. false) fl, f)
 
+join-keeps : (t : JoinType) (fl fr : List Pair) (R : Mask) {Kl Kr : Mask} → LeM (leftPart t fl R) Kl → LeM (rightPart t fl fr R) Kr → LeM R (joinFields t Kl Kr)
+unfolding leftPart rightPart joinFields
+join-keeps j-inner fl fr R h k = LeM-parts (length fl) R h k
+join-keeps j-left fl fr R h k = LeM-parts (length fl) R h k
+join-keeps j-right fl fr R h k = LeM-parts (length fl) R h k
+join-keeps j-full fl fr R h k = LeM-parts (length fl) R h k
+join-keeps j-lsemi fl fr R h k = h
+join-keeps j-lanti fl fr R h k = h
+join-keeps j-rsemi fl fr R h k = k
+join-keeps j-ranti fl fr R h k = k
+
 pub ask-fits : (h : Binary) (fl fr : List Pair) {R : Mask} → T (even h fl fr) → Fit R (binaryFields h fl fr) → Fit (leftAsk h fl fr R) fl × Fit (rightAsk h fl fr R) fr
 unfolding binaryFields leftAsk rightAsk
 ask-fits union fl fr e f = (f, Fit-trans f (Fit-sym (even-fit fl fr e)))
 ask-fits (join t os c) fl fr e f = let h = part-fits t fl fr f in (plus-fit (leftExprs os c) (h .0), plus-fit (rightExprs os c) (h .1))
 
+-- each input has exactly what was asked of it
 module _ (C : Catalogue) (D : Log) (fl fr : List Pair) {ls rs : List Row} (w : WideRows fl ls) where
-  pub binary-rows : (h : Binary) {R : Mask} → Fit R (binaryFields h fl fr) → {p₁ p₂ : Plan} → Cut C D fl ls (leftAsk h fl fr R) p₁ → Cut C D fr rs (rightAsk h fl fr R) p₂
-      → meaning C D (binary h p₁ p₂) ≡ map (select (binaryKept h fl fr R)) (binaryRows h fl fr ls rs)
-  unfolding meaning binaryRows binaryFields leftAsk rightAsk binaryKept
-  binary-rows union {R} f c₁ c₂ = ap₂ _++_ (c₁ .rows) (c₂ .rows) ∙ sym (map-++ (select R) ls rs)
-  binary-rows (join t os c) {R} f {p₁} {p₂} c₁ c₂ =
+  pub binary-narrows : (h : Binary) (R : Mask) {p₁ p₂ : Plan} → Fit R (binaryFields h fl fr)
+      → Narrowed C D fl ls (leftAsk h fl fr R) (leftAsk h fl fr R) p₁ → Narrowed C D fr rs (rightAsk h fl fr R) (rightAsk h fl fr R) p₂
+      → Narrowed C D (binaryFields h fl fr) (binaryRows h fl fr ls rs) R (binaryKept h fl fr R) (binary h p₁ p₂)
+  unfolding fieldsOf meaning binaryRows binaryFields leftAsk rightAsk binaryKept
+  binary-narrows union R f n₁ n₂ = record { keeps = LeM-refl R; fields = n₁ .fields; rows = ap₂ _++_ (n₁ .rows) (n₂ .rows) ∙ sym (map-++ (select R) ls rs) }
+  binary-narrows (join t os c) R {p₁} {p₂} f n₁ n₂ =
       let h = part-fits t fl fr f in
-      let Kl = plus (leftExprs os c) fl (leftPart t fl R) in
-      let Kr = plus (rightExprs os c) fr (rightPart t fl fr R) in
-      let fit = plus-fit (leftExprs os c) (h .0) in
-      let agree = matches-select fl fr Kl Kr fit os c (plus-cov (leftExprs os c) (h .0) (LeM-refl Kl)) (plus-cov (rightExprs os c) (h .1) (LeM-refl Kr)) in
-      ap₂ (λ gs qs. binaryRows (join t os c) gs (fieldsOf C p₂) qs (meaning C D p₂)) (c₁ .fields) (c₁ .rows)
-      ∙ (ap₂ (λ gs qs. binaryRows (join t os c) (select Kl fl) gs (map (select Kl) ls) qs) (c₂ .fields) (c₂ .rows)
-      ∙ joinRows-select fl fr Kl Kr fit (matches os c fl fr) (matches os c (select Kl fl) (select Kr fr)) agree ls rs w t)
+      let el = leftExprs os c in
+      let er = rightExprs os c in
+      let Kl = plus el fl (leftPart t fl R) in
+      let Kr = plus er fr (rightPart t fl fr R) in
+      let fit = plus-fit el (h .0) in
+      let agree = matches-select fl fr Kl Kr fit os c (plus-cov el (h .0) (LeM-refl Kl)) (plus-cov er (h .1) (LeM-refl Kr)) in
+      record {
+        keeps = join-keeps t fl fr R (plus-keeps el (h .0) (LeM-refl Kl)) (plus-keeps er (h .1) (LeM-refl Kr));
+        fields = ap₂ (joinFields t) (n₁ .fields) (n₂ .fields) ∙ join-fields t fr Kr fit;
+        rows = ap₂ (λ gs qs. binaryRows (join t os c) gs (fieldsOf C p₂) qs (meaning C D p₂)) (n₁ .fields) (n₁ .rows)
+            ∙ (ap₂ (λ gs qs. binaryRows (join t os c) (select Kl fl) gs (map (select Kl) ls) qs) (n₂ .fields) (n₂ .rows)
+            ∙ joinRows-select fl fr Kl Kr fit (matches os c fl fr) (matches os c (select Kl fl) (select Kr fr)) agree ls rs w t);
+      }

@@ -90,7 +90,7 @@ unfolding groupKeys evalAll
 wide-keys [] fs rs = z[] a∷ a[]
 wide-keys (g ∷ gs) fs rs = All-firsts sameRow (All-any _ rs (λ r. Fit-map (eval fs r) (g ∷ gs)))
 
-projection-wide : (is : List Item) (fs : List Pair) (rs : List Row) → WideRows (map itemPair is) (projectionRows is fs rs)
+pub projection-wide : (is : List Item) (fs : List Pair) (rs : List Row) → WideRows (map itemPair is) (projectionRows is fs rs)
 unfolding projectionRows evalAll
 projection-wide is fs rs = All-any _ rs (λ r. Fit-trans (Fit-map (eval fs r) (map itemExpr is)) (Fit-maps itemExpr itemPair is))
 
