@@ -22,6 +22,7 @@ use Rattle.meaning.specs.Value.{Log}
 use Rattle.meaning.specs.Meaning.{meaning}
 use Rattle.meaning.specs.Reads.{Agree}
 use Rattle.meaning.specs.Narrowing.{Narrowing}
+use Rattle.meaning.proofs.Rows.{Narrowed}
 use Rattle.meaning.proofs.Preserve.{preserve}
 use Rattle.meaning.proofs.Logs.{reads-only}
 
@@ -40,12 +41,12 @@ abbrev pub narrowed : (mask : ℕ) → Catalogue → Plan → (request : List �
 narrowed mask C p is = rewrite (mergeStep true mask) C p (maskOf (length (fieldsOf C p)) is)
 
 module _ (mask : ℕ) (C : Catalogue) (p : Plan) (ok : check C p 0 ≡ none) (is : List ℕ) where
+  at-log : (D : Log) → Narrowed C D (fieldsOf C p) (meaning C D p) (maskOf (length (fieldsOf C p)) is) (narrowed mask C p is .kept) (narrowed mask C p is .plan)
+  at-log D = let o = accepted C p 0 ok in preserve mask C D p o none (distinct-fields C p o) false (maskOf (length (fieldsOf C p)) is) (fit-mask is (fieldsOf C p))
+
   -- for every accepted plan and every request, and (inside `Narrowing`) for all that the tables can hold
   pub demand3 : Narrowing C p (maskOf (length (fieldsOf C p)) is) (narrowed mask C p is .plan) (narrowed mask C p is .kept)
-  demand3 =
-      let o = accepted C p 0 ok in
-      let n = λ (D : Log). preserve mask C D p o none (distinct-fields C p o) false (maskOf (length (fieldsOf C p)) is) (fit-mask is (fieldsOf C p)) in
-      record { keeps = n [] .keeps; fields = n [] .fields; rows = λ D. n D .rows }
+  demand3 = record { keeps = at-log [] .keeps; fields = at-log [] .fields; rows = λ D. at-log D .rows }
 
   -- what the old plan gives at the kept fields rests on the columns that the new plan's scans name, and on the number of rows, alone
   pub demand3-logs : (D E : Log) → Agree C (narrowed mask C p is .plan) D E → map (select (narrowed mask C p is .kept)) (meaning C D p) ≡ map (select (narrowed mask C p is .kept)) (meaning C E p)

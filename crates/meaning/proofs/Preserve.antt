@@ -121,7 +121,6 @@ preserve m C D (leaf h) o q pq = pend-narrows C D (o .distinct) (leaf-wide C D h
 preserve m C D (unary h p) o q pq =
     unary-walk C D m (wide C D p (o .0)) _ (distinct-fields C p (o .0)) (λ q pq. preserve m C D p (o .0) q pq) h (o .1 .distinct) q pq
 preserve m C D (binary h p₁ p₂) o q pq =
-    let nl = distinct-fields C p₁ (o .0) in
-    let nr = distinct-fields C p₂ (o .1) in
-    pend-narrows C D (distinct-fields C (binary h p₁ p₂) o) (wide C D (binary h p₁ p₂) o) _
-    (binary-walk C D h nl nr (wide C D p₁ (o .0)) (wide C D p₂ (o .1)) (o .2 .as-wide) _ _ (preserve m C D p₁ (o .0) none nl) (preserve m C D p₂ (o .1) none nr)) q
+    pend-narrows C D (distinct-fields C (binary h p₁ p₂) o) (wide C D (binary h p₁ p₂) o) (binaryWalk C h (fieldsOf C p₁) (fieldsOf C p₂) (walk (mergeStep true m) C p₁ none) (walk (mergeStep true m) C p₂ none))
+    (binary-walk C D h (distinct-fields C p₁ (o .0)) (distinct-fields C p₂ (o .1)) (wide C D p₁ (o .0)) (wide C D p₂ (o .1)) (o .2 .as-wide) (walk (mergeStep true m) C p₁ none) (walk (mergeStep true m) C p₂ none)
+    (preserve m C D p₁ (o .0) none (distinct-fields C p₁ (o .0))) (preserve m C D p₂ (o .1) none (distinct-fields C p₂ (o .1)))) q
