@@ -1,0 +1,2 @@
+-- The lent arrays.
+pub mod Layout

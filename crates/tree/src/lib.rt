@@ -1,0 +1,1 @@
+// tree: how a plan that was read stands in the lent arrays, and what a node of it is.
