@@ -1,10 +1,10 @@
 -- Projections of columns by their own pairs: top-up, and the projection that changes nothing.
-use mathlib.Core.Path.{_≡_, refl, sym, _∙_, ap, ap₂, subst⁻¹}
-use mathlib.Core.List.{List, [], _∷_, map}
+use mathlib.Core.Path.{_≡_, refl, sym, _∙_, ap, ap₂}
+use mathlib.Core.List.{List, _∷_, map}
 use mathlib.Core.Bool.{Bool, true, false, cond}
 use lib.Dec.{T}
 use Rattle.cpl.specs.Lists.{All, z[], _z∷_, Fit}
-use Rattle.cpl.specs.Plan.{Pair, Expr, col, Item, bare, projection, Plan, unary, Catalogue, itemPair, itemExpr}
+use Rattle.cpl.specs.Plan.{Pair, col, Item, bare, projection, Plan, unary, Catalogue, itemPair, itemExpr}
 use Rattle.cpl.specs.Exprs.{fits, usesAny}
 use Rattle.cpl.specs.Fields.{unaryFields, fieldsOf}
 use Rattle.cpl.proofs.Lists.{All-map, map-cong, map-congA, map-map, map-id, Fit-map, fit-self}

@@ -5,7 +5,7 @@ use mathlib.Core.Bool.{Bool, true, false, cond, _||_}
 use mathlib.Core.Option.{Option, none, some}
 use Prim.Native.Nat.{ℕ, zero, suc}
 use lib.IntN.{pos}
-use lib.ListN.{length, take, drop, getD, length-map}
+use lib.ListN.{length, take, drop, length-map}
 use Rattle.cpl.specs.Tests.{anyB, concatMap}
 use Rattle.cpl.specs.Lists.{All, a[], _a∷_}
 use Rattle.cpl.specs.Plan.{Pair, Expr, col, lit, miss, un, bin, Key, key, Call, rows, over, keyExpr}
@@ -18,7 +18,7 @@ use Rattle.rules.proofs.Known.{used-head, used-tail}
 use Rattle.meaning.specs.Value.{Val, missing, num, Row, op1, op2}
 use Rattle.meaning.specs.Eval.{valueAt, lookup, eval, evalAll}
 use Rattle.meaning.specs.Lists.{filterB, page, around, orElse}
-use Rattle.meaning.specs.Order.{before, beforeValue, insert, sortBy}
+use Rattle.meaning.specs.Order.{before, insert, sortBy}
 use Rattle.meaning.specs.Functions.{numbers, apply, callOver}
 
 -- ── lists of anything: what commutes with `map` ─────────────────────────────────────────────

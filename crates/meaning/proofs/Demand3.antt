@@ -2,8 +2,8 @@
 -- the same rows in the same order at each field that it keeps; and those rows depend on no column that its scans do not name.
 use mathlib.Core.Path.{_≡_, sym, _∙_}
 use mathlib.Core.List.{List, [], _∷_, map}
-use mathlib.Core.Bool.{Bool, true, false}
-use mathlib.Core.Option.{Option, none}
+use mathlib.Core.Bool.{true, false}
+use mathlib.Core.Option.{none}
 use Prim.Native.Nat.{ℕ, suc}
 use lib.Dec.{eqb}
 use lib.ListN.{length}
@@ -14,7 +14,7 @@ use Rattle.cpl.specs.Fields.{fieldsOf}
 use Rattle.cpl.specs.Accept.{check}
 use Rattle.cpl.proofs.Lists.{Fit-map, Fit-trans}
 use Rattle.cpl.proofs.Accepted.{accepted, distinct-fields}
-use Rattle.rules.specs.Mask.{Mask, select}
+use Rattle.rules.specs.Mask.{select}
 use Rattle.rules.specs.Request.{maskOf}
 use Rattle.rules.specs.Merge.{mergeStep}
 use Rattle.rules.specs.Rewrite.{Walked, rewrite}

@@ -1,22 +1,20 @@
 -- Aggregate and Window give the same over narrowed rows.
 use mathlib.Core.Path.{_≡_, refl, sym, _∙_, ap, ap₂}
 use mathlib.Core.List.{List, [], _∷_, _++_, map, append-nil}
-use mathlib.Core.Bool.{Bool, true, not, _&&_}
-use Prim.Native.Nat.{ℕ, suc, _+_}
+use mathlib.Core.Bool.{true, not, _&&_}
+use Prim.Native.Nat.{suc, _+_}
 use lib.IntN.{pos}
-use lib.ListN.{length}
 use Rattle.cpl.specs.Tests.{concatMap}
-use Rattle.cpl.specs.Lists.{All, Fit}
-use Rattle.cpl.specs.Plan.{Pair, Expr, Key, Call, rows, over, Agg, agg, Win, win, keyExpr}
+use Rattle.cpl.specs.Lists.{Fit}
+use Rattle.cpl.specs.Plan.{Pair, Expr, Key, rows, over, Agg, agg, Win, win, keyExpr}
 use Rattle.cpl.specs.Exprs.{usesAny, callExprs, aggExprs, winExprs}
 use Rattle.cpl.proofs.Lists.{All-map, map-cong, map-congA, map-map, Fit-map, Fit-trans, Fit-sym}
 use Rattle.rules.specs.Mask.{Mask, select, ones}
 use Rattle.rules.proofs.Masks.{Cov, select-map, select-ones, select-++}
 use Rattle.rules.proofs.Known.{used-left, used-right}
-use Rattle.meaning.specs.Value.{Val, num, Row, sameRow}
+use Rattle.meaning.specs.Value.{num, Row, sameRow}
 use Rattle.meaning.specs.Eval.{evalAll}
 use Rattle.meaning.specs.Lists.{filterB, firsts, around}
-use Rattle.meaning.specs.Order.{before}
 use Rattle.meaning.specs.Functions.{callOver}
 use Rattle.meaning.specs.Operators.{groupKeys, members, aggValue, groupRow, aggregateRows, samePart, rowNumber, winValue, winRow, windowRows}
 use Rattle.meaning.proofs.Commute.{filter-map, count-map, around-mapA, evalAll-select, before-select, call-select}

@@ -1,10 +1,9 @@
 -- House mode: one projection of the merged list gives the rows that the two projections gave.
 use mathlib.Core.Path.{_≡_, refl, sym, _∙_, ap, ap₂}
 use mathlib.Core.List.{List, [], _∷_, map, head-eq-of-cons-eq, tail-eq-of-cons-eq}
-use mathlib.Core.Bool.{Bool, true, false, cond, not, _||_}
+use mathlib.Core.Bool.{true, cond, not}
 use lib.Dec.{T}
 use Rattle.cpl.specs.Tests.{allB}
-use Rattle.cpl.specs.Lists.{All, a[], _a∷_, Fit}
 use Rattle.cpl.specs.Plan.{Pair, Expr, col, lit, miss, un, bin, Item, bare, named, itemPair, itemExpr}
 use Rattle.cpl.specs.Exprs.{fits, columns?}
 use Rattle.cpl.proofs.Bools.{halves, nor, cond-ap}
@@ -12,7 +11,7 @@ use Rattle.cpl.proofs.Lists.{map-cong, map-map, Fit-map, Fit-maps, Fit-trans}
 use Rattle.cpl.proofs.Clash.{Clear}
 use Rattle.rules.specs.Merge.{plain, defOf, replace, define, replaceItem}
 use Rattle.rules.proofs.MergeTidy.{Step, equal, put, replace-expr}
-use Rattle.meaning.specs.Value.{Val, Row, op1, op2}
+use Rattle.meaning.specs.Value.{Row, op1, op2}
 use Rattle.meaning.specs.Eval.{lookup, eval, evalAll}
 use Rattle.meaning.specs.Operators.{projectionRows}
 use Rattle.meaning.proofs.Commute.{lookup-none, lookup-cons}

@@ -4,7 +4,7 @@ use mathlib.Core.List.{List, [], _∷_, _++_, map}
 use mathlib.Core.Bool.{Bool, not, _&&_}
 use mathlib.Core.Option.{Option, none, some}
 use Rattle.cpl.specs.Tests.{anyB}
-use Rattle.cpl.specs.Lists.{All, Fit}
+use Rattle.cpl.specs.Lists.{Fit}
 use Rattle.cpl.specs.Plan.{Pair, o-eq, Expr, JoinType, j-inner, j-left, j-right, j-full, j-lsemi, j-lanti, j-rsemi, j-ranti, On, on, onLeft, onRight}
 use Rattle.cpl.specs.Exprs.{usesAny, condExprs}
 use Rattle.cpl.specs.Fields.{joinFields}
@@ -13,7 +13,7 @@ use Rattle.rules.specs.Mask.{Mask, select}
 use Rattle.rules.specs.Rules.{leftExprs, rightExprs}
 use Rattle.rules.proofs.Masks.{Cov, Cov-++, select-map, select-++}
 use Rattle.rules.proofs.Known.{used-head, used-tail, used-left, used-right}
-use Rattle.meaning.specs.Value.{Val, missing, Row, op2, yes?}
+use Rattle.meaning.specs.Value.{missing, Row, op2, yes?}
 use Rattle.meaning.specs.Eval.{eval}
 use Rattle.meaning.specs.Lists.{filterB, orElse}
 use Rattle.meaning.specs.Joins.{onMatch, condMatch, matches, missings, leftMajor, rightMajor, joinRows}

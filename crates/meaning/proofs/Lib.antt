@@ -9,3 +9,4 @@ pub mod HouseMerge
 pub mod Preserve
 pub mod Logs
 pub mod Demand3
+pub mod Samples

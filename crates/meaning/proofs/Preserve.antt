@@ -1,6 +1,6 @@
 -- The pass in house mode over a whole plan: the new plan is the old one narrowed.
-use mathlib.Core.Path.{_≡_, refl, sym, _∙_, ap, ap₂, subst, subst⁻¹}
-use mathlib.Core.List.{List, [], _∷_, map}
+use mathlib.Core.Path.{_≡_, refl, _∙_, ap, ap₂, subst, subst⁻¹}
+use mathlib.Core.List.{List, map}
 use mathlib.Core.Bool.{Bool, true, false, cond, not}
 use mathlib.Core.Option.{Option, none, some}
 use Prim.Native.Nat.{ℕ, _≤_}
@@ -8,23 +8,23 @@ use native.Mathlib.Omega.{arith}
 use lib.Dec.{T, ltb, nltb→le}
 use lib.ListN.{length}
 use Rattle.cpl.specs.Lists.{Fit}
-use Rattle.cpl.specs.Plan.{Pair, Item, bare, Leaf, Unary, projection, filter, sort, limit, aggregate, window, subqueryAlias, distinct, Binary, Plan, leaf, unary, binary, Catalogue, itemPair}
-use Rattle.cpl.specs.Fields.{leafFields, unaryFields, binaryFields, fieldsOf}
+use Rattle.cpl.specs.Plan.{Pair, Item, bare, Unary, projection, filter, sort, limit, aggregate, window, subqueryAlias, distinct, Binary, Plan, leaf, unary, binary, Catalogue, itemPair}
+use Rattle.cpl.specs.Fields.{unaryFields, binaryFields, fieldsOf}
 use Rattle.cpl.specs.Accept.{even}
 use Rattle.cpl.proofs.Clash.{Clear}
 use Rattle.cpl.proofs.Accepted.{Accepted, distinct-fields}
 use Rattle.rules.specs.Mask.{Mask, select, count}
 use Rattle.rules.specs.Merge.{mergeStep}
-use Rattle.rules.specs.Rules.{topUp, Job, done, ask, projectionJob, unaryJob, leftAsk, rightAsk, binaryKept}
-use Rattle.rules.specs.Rewrite.{Walked, Go, input, runJob, pend, counted, merged, leafWalk, nodeWalk, unaryWalk, binaryWalk, walk}
+use Rattle.rules.specs.Rules.{topUp, Job, done, ask, projectionJob, unaryJob}
+use Rattle.rules.specs.Rewrite.{Go, input, runJob, pend, counted, merged, leafWalk, nodeWalk, unaryWalk, binaryWalk, walk}
 use Rattle.rules.proofs.Masks.{LeM-refl, LeM-fit, count-eq, length-select}
 use Rattle.rules.proofs.Known.{bare-fields}
-use Rattle.rules.proofs.MergeTidy.{Step, step, step-pairs}
+use Rattle.rules.proofs.MergeTidy.{step, step-pairs}
 use Rattle.rules.proofs.Results.{pendingFields}
 use Rattle.meaning.specs.Value.{Row, Log}
 use Rattle.meaning.specs.Operators.{projectionRows, unaryRows}
 use Rattle.meaning.specs.Joins.{binaryRows}
-use Rattle.meaning.specs.Meaning.{leafRows, meaning}
+use Rattle.meaning.specs.Meaning.{meaning}
 use Rattle.meaning.proofs.Wide.{WideRows, projection-wide, unary-wide, leaf-wide, wide}
 use Rattle.meaning.proofs.Columns.{columns-rows}
 use Rattle.meaning.proofs.Rows.{Narrowed, JobNarrows, projection-narrows, unary-narrows, leaf-narrows, ask-fits, binary-narrows}

@@ -1,25 +1,23 @@
 -- Each kind's rule: where the rewritten input is the old one narrowed, the rewritten node is the old node narrowed.
 use mathlib.Core.Path.{_≡_, refl, sym, _∙_, ap, ap₂, subst, subst⁻¹}
 use mathlib.Core.List.{List, [], _∷_, _++_, map, append-nil}
-use mathlib.Core.Bool.{Bool, true, false, cond}
-use mathlib.Core.Option.{Option, none, some}
-use Prim.Native.Nat.{ℕ}
+use mathlib.Core.Bool.{Bool, true, false}
 use lib.Dec.{T}
 use lib.ListN.{length, take, drop, getD}
 use Rattle.cpl.specs.Tests.{anyB, concatMap}
-use Rattle.cpl.specs.Lists.{All, z[], _z∷_, Fit}
+use Rattle.cpl.specs.Lists.{z[], _z∷_, Fit}
 use Rattle.cpl.specs.Plan.{Pair, Expr, Item, Agg, Win, JoinType, j-inner, j-left, j-right, j-full, j-lsemi, j-lanti, j-rsemi, j-ranti, Leaf, scan, empty, Unary, projection, filter, sort, limit, aggregate, window, subqueryAlias, distinct, Binary, union, join, Plan, leaf, unary, binary, Catalogue, itemPair, itemExpr, keyExpr, aggPair, winPair}
 use Rattle.cpl.specs.Exprs.{usesAny, aggExprs, winExprs, unaryExprs}
 use Rattle.cpl.specs.Fields.{columnsOf, scanField, leafFields, requalify, unaryFields, joinFields, binaryFields, fieldsOf}
 use Rattle.cpl.specs.Accept.{even}
-use Rattle.cpl.proofs.Lists.{All-map, All-mapped, map-cong, map-congA, map-map, map-++, map-id, Fit-map, Fit-maps, fit-self, Fit-trans, Fit-sym, take-fit, drop-fit}
+use Rattle.cpl.proofs.Lists.{All-mapped, map-cong, map-map, map-++, Fit-map, Fit-maps, fit-self, Fit-trans, Fit-sym, take-fit, drop-fit}
 use Rattle.cpl.proofs.Clash.{Clear}
-use Rattle.rules.specs.Mask.{Mask, select, orM, ones, zeros, LeM}
-use Rattle.rules.specs.Rules.{used, plus, overChild, leafRule, leafKept, Job, done, ask, projectionJob, aggregateJob, windowJob, unaryJob, leftPart, rightPart, leftExprs, rightExprs, leftAsk, rightAsk, binaryKept}
+use Rattle.rules.specs.Mask.{Mask, select, ones, zeros, LeM}
+use Rattle.rules.specs.Rules.{used, plus, leafRule, leafKept, Job, done, ask, projectionJob, aggregateJob, windowJob, unaryJob, leftPart, rightPart, leftExprs, rightExprs, leftAsk, rightAsk, binaryKept}
 use Rattle.rules.proofs.Masks.{Cov, c[], _c∷_, Cov-or, Cov-used, Cov-le, LeB-true, LeM-refl, LeM-trans, LeM-or, LeM-parts, LeM-fit, fit-ones, ones-le, Fit-or, Fit-select, select-map, select-ones, select-++}
 use Rattle.rules.proofs.Known.{used-head, used-left, used-right, clear-select}
 use Rattle.rules.proofs.BinaryKinds.{join-fields}
-use Rattle.meaning.specs.Value.{Val, missing, Row, Log, yes?, sameRow}
+use Rattle.meaning.specs.Value.{missing, Row, Log, yes?, sameRow}
 use Rattle.meaning.specs.Lists.{firsts}
 use Rattle.meaning.specs.Operators.{projectionRows, members, aggValue, groupKeys, groupRow, aggregateRows, windowRows, unaryRows}
 use Rattle.meaning.specs.Joins.{matches, missings, binaryRows}
@@ -94,14 +92,16 @@ module _ (C : Catalogue) (D : Log) (fs : List Pair) (rs : List Row) where
   pub projection-narrows : Clear fs → WideRows fs rs → (is : List Item) (R : Mask) → JobNarrows C D fs rs R (map itemPair is) (projectionRows is fs rs) (projectionJob C is fs R)
   unfolding JobNarrows projectionJob
   projection-narrows nd w is R =
-      let js = select R is in
-      (used-fit (map itemExpr js) fs, λ K p′ n.
-      let o = over-child C D js p′ (subst⁻¹ Clear (n .fields) (clear-select K nd)) (rw (n .fields, n .rows) (All-mapped _ (λ r h. Fit-select K h) w)) in
-      record {
-        keeps = LeM-refl R;
-        fields = o .0 ∙ sym (select-map itemPair R is);
-        rows = o .1 ∙ (ap₂ (projectionRows js) (n .fields) (n .rows) ∙ projection-select R is (used-cov (map itemExpr js) fs (n .keeps)) rs);
-      })
+      let js = select R is in (
+        used-fit (map itemExpr js) fs,
+        λ K p′ n.
+            let o = over-child C D js p′ (subst⁻¹ Clear (n .fields) (clear-select K nd)) (rw (n .fields, n .rows) (All-mapped _ (λ r h. Fit-select K h) w)) in
+            record {
+              keeps = LeM-refl R;
+              fields = o .0 ∙ sym (select-map itemPair R is);
+              rows = o .1 ∙ (ap₂ (projectionRows js) (n .fields) (n .rows) ∙ projection-select R is (used-cov (map itemExpr js) fs (n .keeps)) rs);
+            },
+      )
 
   -- ── Aggregate: ws are the aggregates that are left ────────────────────────────────────────
 
@@ -124,8 +124,11 @@ module _ (C : Catalogue) (D : Log) (fs : List Pair) (rs : List Row) where
     some-left : (gs : List Item) (ws : List Agg) → ws ≡ select A vs → {R : Mask} → LeM R (ones gs ++ A)
         → JobNarrows C D fs rs R (unaryFields (aggregate gs vs) fs) (unaryRows (aggregate gs vs) fs rs) (ask false (used (unaryExprs (aggregate gs ws)) fs) true (unary (aggregate gs ws)) (λ L. ones gs ++ A))
     unfolding JobNarrows unaryFields
-    some-left gs ws e l = (used-fit (unaryExprs (aggregate gs ws)) fs, λ K p′ n.
-        node (aggregate gs ws) n (ones gs ++ A) l (ap (λ us. map itemPair gs ++ map aggPair us) e ∙ aggregate-fields gs A vs) (aggregate-rows gs vs ws A e (n .keeps)))
+    some-left gs ws e l = (
+      used-fit (unaryExprs (aggregate gs ws)) fs,
+      λ K p′ n.
+          node (aggregate gs ws) n (ones gs ++ A) l (ap (λ us. map itemPair gs ++ map aggPair us) e ∙ aggregate-fields gs A vs) (aggregate-rows gs vs ws A e (n .keeps)),
+    )
 
     aggregate-narrows : (gs : List Item) (ws : List Agg) → ws ≡ select A vs → {R : Mask} → LeM R (ones gs ++ A)
         → JobNarrows C D fs rs R (unaryFields (aggregate gs vs) fs) (unaryRows (aggregate gs vs) fs rs) (aggregateJob gs ws fs (ones gs ++ A))
@@ -141,31 +144,38 @@ module _ (C : Catalogue) (D : Log) (fs : List Pair) (rs : List Row) where
   unfolding JobNarrows windowJob unaryFields unaryRows unaryExprs
   window-narrows w ws [] b R f e =
       let S = drop (length fs) R in
-      let p = take-fit fs (map winPair ws) f in
-      (p, λ K p′ n.
-      let k = LeM-fit (n .keeps) p in
-      record {
-        keeps = LeM-parts (length fs) R (n .keeps) (LeM-refl S);
-        fields = n .fields ∙ (sym (append-nil (select K fs)) ∙ (ap (λ us. select K fs ++ map winPair us) e ∙ window-fields k S ws));
-        rows = n .rows ∙ (sym (window-none (select K fs) (map (select K) rs))
-            ∙ (ap (λ us. windowRows us (select K fs) (map (select K) rs)) e ∙ window-select ws S k (subst (λ us. Cov (usesAny (concatMap winExprs us)) fs K) e (no-windows k)) w));
-      })
+      let p = take-fit fs (map winPair ws) f in (
+        p,
+        λ K p′ n.
+            let k = LeM-fit (n .keeps) p in
+            record {
+              keeps = LeM-parts (length fs) R (n .keeps) (LeM-refl S);
+              fields = n .fields ∙ (sym (append-nil (select K fs)) ∙ (ap (λ us. select K fs ++ map winPair us) e ∙ window-fields k S ws));
+              rows = n .rows ∙ (sym (window-none (select K fs) (map (select K) rs))
+                  ∙ (ap (λ us. windowRows us (select K fs) (map (select K) rs)) e ∙ window-select ws S k (subst (λ us. Cov (usesAny (concatMap winExprs us)) fs K) e (no-windows k)) w));
+            },
+      )
   window-narrows w ws (v ∷ vs) b R f e =
       let S = drop (length fs) R in
       let p = take-fit fs (map winPair ws) f in
-      let es = concatMap winExprs (v ∷ vs) in
-      (plus-fit es p, λ K p′ n.
-      let k = LeM-fit (n .keeps) (plus-fit es p) in
-      node (window (v ∷ vs)) n (K ++ S) (LeM-parts (length fs) R (plus-keeps es p (n .keeps)) (LeM-refl S)) (ap (λ us. select K fs ++ map winPair us) e ∙ window-fields k S ws)
-      (ap (λ us. windowRows us (select K fs) (map (select K) rs)) e ∙ window-select ws S k (subst (λ us. Cov (usesAny (concatMap winExprs us)) fs K) e (plus-cov es p (n .keeps))) w))
+      let es = concatMap winExprs (v ∷ vs) in (
+        plus-fit es p,
+        λ K p′ n.
+            let k = LeM-fit (n .keeps) (plus-fit es p) in
+            node (window (v ∷ vs)) n (K ++ S) (LeM-parts (length fs) R (plus-keeps es p (n .keeps)) (LeM-refl S)) (ap (λ us. select K fs ++ map winPair us) e ∙ window-fields k S ws)
+            (ap (λ us. windowRows us (select K fs) (map (select K) rs)) e ∙ window-select ws S k (subst (λ us. Cov (usesAny (concatMap winExprs us)) fs K) e (plus-cov es p (n .keeps))) w),
+      )
 
   -- ── every kind ────────────────────────────────────────────────────────────────────────────
 
   pub unary-narrows : Clear fs → WideRows fs rs → (h : Unary) (b : Bool) {R : Mask} → Fit R (unaryFields h fs) → JobNarrows C D fs rs R (unaryFields h fs) (unaryRows h fs rs) (unaryJob C h fs b R)
   unfolding unaryJob unaryFields unaryRows JobNarrows
   unary-narrows nd w (projection is) b {R} f = projection-narrows nd w is R
-  unary-narrows nd w (filter e) b f = (plus-fit (e ∷ []) f, λ K p′ n.
-      node (filter e) n K (plus-keeps (e ∷ []) f (n .keeps)) refl (filter-map (select K) _ _ (λ r. ap yes? (eval-select e (used-head e [] (plus-cov (e ∷ []) f (n .keeps))) r)) rs))
+  unary-narrows nd w (filter e) b f = (
+    plus-fit (e ∷ []) f,
+    λ K p′ n.
+        node (filter e) n K (plus-keeps (e ∷ []) f (n .keeps)) refl (filter-map (select K) _ _ (λ r. ap yes? (eval-select e (used-head e [] (plus-cov (e ∷ []) f (n .keeps))) r)) rs),
+  )
   unary-narrows nd w (sort ks) b f =
       let es = map keyExpr ks in
       (plus-fit es f, λ K p′ n. node (sort ks) n K (plus-keeps es f (n .keeps)) refl (sort-map (select K) _ _ (before-select ks (plus-cov es f (n .keeps))) rs))
@@ -173,10 +183,13 @@ module _ (C : Catalogue) (D : Log) (fs : List Pair) (rs : List Row) where
   unary-narrows nd w (aggregate gs vs) b {R} f = aggregate-narrows vs (drop (length gs) R) gs (select (drop (length gs) R) vs) refl (all-groups gs (map aggPair vs) f)
   unary-narrows nd w (window ws) b {R} f = window-narrows w ws (select (drop (length fs) R) ws) b R f refl
   unary-narrows nd w (subqueryAlias q) b f = (Fit-trans f (Fit-map (requalify q) fs), λ K p′ n. node (subqueryAlias q) n K (n .keeps) (sym (select-map (requalify q) K fs)) refl)
-  unary-narrows nd w distinct b f = (unfold ones in Fit-map (λ x. true) fs, λ K p′ n.
-      let e = ones-le fs (n .keeps) in
-      node distinct n K (LeM-trans (fit-ones f) (n .keeps)) refl
-      (ap (λ M. firsts sameRow (map (select M) rs)) e ∙ (ap (firsts sameRow) (ones-rows w) ∙ (sym (ones-rows (All-firsts sameRow w)) ∙ ap (λ M. map (select M) (firsts sameRow rs)) (sym e)))))
+  unary-narrows nd w distinct b f = (
+    unfold ones in Fit-map (λ x. true) fs,
+    λ K p′ n.
+        let e = ones-le fs (n .keeps) in
+        node distinct n K (LeM-trans (fit-ones f) (n .keeps)) refl
+        (ap (λ M. firsts sameRow (map (select M) rs)) e ∙ (ap (firsts sameRow) (ones-rows w) ∙ (sym (ones-rows (All-firsts sameRow w)) ∙ ap (λ M. map (select M) (firsts sameRow rs)) (sym e)))),
+  )
 
 -- ── no input ────────────────────────────────────────────────────────────────────────────────
 

@@ -1,19 +1,17 @@
 -- Every row of an accepted plan is as wide as the plan's fields.
-use mathlib.Core.Path.{_≡_, refl}
 use mathlib.Core.List.{List, [], _∷_, _++_, map}
 use mathlib.Core.Bool.{Bool, true, false, not}
 use mathlib.Core.Option.{Option, none, some}
 use Prim.Native.Nat.{ℕ, zero, suc}
 use lib.Dec.{T, eqb→eq}
 use lib.ListN.{length, take, drop, getD}
-use Rattle.cpl.specs.Tests.{concatMap}
 use Rattle.cpl.specs.Lists.{All, a[], _a∷_, z[], Fit}
 use Rattle.cpl.specs.Plan.{Pair, Expr, Item, Agg, JoinType, j-inner, j-left, j-right, j-full, j-lsemi, j-lanti, j-rsemi, j-ranti, Leaf, scan, empty, Unary, projection, filter, sort, limit, aggregate, window, subqueryAlias, distinct, Binary, union, join, Plan, leaf, unary, binary, Catalogue, itemPair, itemExpr, aggPair, winPair}
 use Rattle.cpl.specs.Fields.{columnsOf, scanField, leafFields, requalify, unaryFields, joinFields, binaryFields, fieldsOf}
 use Rattle.cpl.specs.Accept.{even}
-use Rattle.cpl.proofs.Lists.{All-map, All-++, All-cond, always, All-mapped, All-concat, Fit-map, Fit-maps, Fit-trans, Fit-sym, Fit-++, length-Fit, map-map}
+use Rattle.cpl.proofs.Lists.{All-map, All-++, All-cond, always, All-mapped, All-concat, Fit-map, Fit-maps, Fit-trans, Fit-sym, Fit-++, length-Fit}
 use Rattle.cpl.proofs.Accepted.{Accepted}
-use Rattle.meaning.specs.Value.{Val, missing, Row, Log, sameRow}
+use Rattle.meaning.specs.Value.{missing, Row, Log, sameRow}
 use Rattle.meaning.specs.Eval.{eval, evalAll}
 use Rattle.meaning.specs.Lists.{filterB, firsts, page, around, orElse}
 use Rattle.meaning.specs.Order.{insert, sortBy}

@@ -2,9 +2,9 @@
 use mathlib.Core.List.{List, [], _∷_, _++_, map}
 use mathlib.Core.Bool.{Bool, true, not, _&&_}
 use mathlib.Core.Option.{Option, none, some}
-use Rattle.cpl.specs.Tests.{anyB, allB, concatMap}
+use Rattle.cpl.specs.Tests.{anyB, concatMap}
 use Rattle.cpl.specs.Plan.{Pair, o-eq, Expr, JoinType, j-inner, j-left, j-right, j-full, j-lsemi, j-lanti, j-rsemi, j-ranti, On, on, Binary, union, join}
-use Rattle.meaning.specs.Value.{Val, missing, Row, op2, yes?}
+use Rattle.meaning.specs.Value.{missing, Row, op2, yes?}
 use Rattle.meaning.specs.Eval.{eval}
 use Rattle.meaning.specs.Lists.{filterB, orElse}
 

@@ -9,3 +9,4 @@ pub mod Joins
 pub mod Meaning
 pub mod Reads
 pub mod Narrowing
+pub mod Computes

@@ -1,12 +1,11 @@
 -- The rows of a plan over what the tables hold.
 use mathlib.Core.List.{List, [], _∷_, map}
 use mathlib.Core.Bool.{Bool, true, false}
-use mathlib.Core.Option.{Option}
 use Prim.Native.Nat.{ℕ}
 use lib.ListN.{getD}
 use Rattle.cpl.specs.Plan.{Pair, Leaf, scan, empty, Plan, leaf, unary, binary, Catalogue}
 use Rattle.cpl.specs.Fields.{columnsOf, fieldsOf}
-use Rattle.meaning.specs.Value.{Val, missing, Row, Log}
+use Rattle.meaning.specs.Value.{missing, Row, Log}
 use Rattle.meaning.specs.Operators.{unaryRows}
 use Rattle.meaning.specs.Joins.{missings, binaryRows}
 

@@ -4,7 +4,7 @@ use mathlib.Core.Bool.{Bool, not, _&&_}
 use Prim.Native.Nat.{ℕ, suc, _+_}
 use lib.IntN.{pos}
 use lib.ListN.{length}
-use Rattle.cpl.specs.Plan.{Pair, Expr, Item, Key, Call, rows, over, Agg, agg, Win, win, Unary, projection, filter, sort, limit, aggregate, window, subqueryAlias, distinct, itemExpr}
+use Rattle.cpl.specs.Plan.{Pair, Expr, Item, Key, rows, over, Agg, agg, Win, win, Unary, projection, filter, sort, limit, aggregate, window, subqueryAlias, distinct, itemExpr}
 use Rattle.meaning.specs.Value.{Val, num, Row, yes?, sameRow}
 use Rattle.meaning.specs.Eval.{eval, evalAll}
 use Rattle.meaning.specs.Lists.{filterB, firsts, page, around}
