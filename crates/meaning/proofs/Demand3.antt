@@ -37,17 +37,17 @@ unfolding maskOf
 fit-mask is xs = Fit-trans (Fit-map (λ i. anyB (eqb i) is) (iota 0 (length xs))) (fit-iota 0 xs)
 
 -- house mode's pass over a plan for the requested indices
-abbrev pub narrowed : (mask : ℕ) → Catalogue → Plan → (request : List ℕ) → Walked
-narrowed mask C p is = rewrite (mergeStep true mask) C p (maskOf (length (fieldsOf C p)) is)
+abbrev pub housePass : (mask : ℕ) → Catalogue → Plan → (request : List ℕ) → Walked
+housePass mask C p is = rewrite (mergeStep true mask) C p (maskOf (length (fieldsOf C p)) is)
 
 module _ (mask : ℕ) (C : Catalogue) (p : Plan) (ok : check C p 0 ≡ none) (is : List ℕ) where
-  at-log : (D : Log) → Narrowed C D (fieldsOf C p) (meaning C D p) (maskOf (length (fieldsOf C p)) is) (narrowed mask C p is .kept) (narrowed mask C p is .plan)
+  at-log : (D : Log) → Narrowed C D (fieldsOf C p) (meaning C D p) (maskOf (length (fieldsOf C p)) is) (housePass mask C p is .kept) (housePass mask C p is .plan)
   at-log D = let o = accepted C p 0 ok in preserve mask C D p o none (distinct-fields C p o) false (maskOf (length (fieldsOf C p)) is) (fit-mask is (fieldsOf C p))
 
   -- for every accepted plan and every request, and (inside `Narrowing`) for all that the tables can hold
-  pub demand3 : Narrowing C p (maskOf (length (fieldsOf C p)) is) (narrowed mask C p is .plan) (narrowed mask C p is .kept)
+  pub demand3 : Narrowing C p (maskOf (length (fieldsOf C p)) is) (housePass mask C p is .plan) (housePass mask C p is .kept)
   demand3 = record { keeps = at-log [] .keeps; fields = at-log [] .fields; rows = λ D. at-log D .rows }
 
   -- what the old plan gives at the kept fields rests on the columns that the new plan's scans name, and on the number of rows, alone
-  pub demand3-logs : (D E : Log) → Agree C (narrowed mask C p is .plan) D E → map (select (narrowed mask C p is .kept)) (meaning C D p) ≡ map (select (narrowed mask C p is .kept)) (meaning C E p)
-  demand3-logs D E a = sym (demand3 .rows D) ∙ (reads-only C D E (narrowed mask C p is .plan) a ∙ demand3 .rows E)
+  pub demand3-logs : (D E : Log) → Agree C (housePass mask C p is .plan) D E → map (select (housePass mask C p is .kept)) (meaning C D p) ≡ map (select (housePass mask C p is .kept)) (meaning C E p)
+  demand3-logs D E a = sym (demand3 .rows D) ∙ (reads-only C D E (housePass mask C p is .plan) a ∙ demand3 .rows E)

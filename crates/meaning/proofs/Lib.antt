@@ -5,6 +5,7 @@ pub mod Groups
 pub mod Joins
 pub mod Columns
 pub mod Rows
+pub mod BinaryRows
 pub mod HouseMerge
 pub mod Preserve
 pub mod Logs

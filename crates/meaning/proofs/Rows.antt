@@ -1,31 +1,27 @@
--- Each kind's rule: where the rewritten input is the old one narrowed, the rewritten node is the old node narrowed.
+-- Each kind of node with one input or none: where the rewritten input is the old one narrowed, the rewritten node is the old node narrowed.
 use mathlib.Core.Path.{_≡_, refl, sym, _∙_, ap, ap₂, subst, subst⁻¹}
 use mathlib.Core.List.{List, [], _∷_, _++_, map, append-nil}
 use mathlib.Core.Bool.{Bool, true, false}
-use lib.Dec.{T}
 use lib.ListN.{length, take, drop, getD}
 use Rattle.cpl.specs.Tests.{anyB, concatMap}
 use Rattle.cpl.specs.Lists.{z[], _z∷_, Fit}
-use Rattle.cpl.specs.Plan.{Pair, Expr, Item, Agg, Win, JoinType, j-inner, j-left, j-right, j-full, j-lsemi, j-lanti, j-rsemi, j-ranti, Leaf, scan, empty, Unary, projection, filter, sort, limit, aggregate, window, subqueryAlias, distinct, Binary, union, join, Plan, leaf, unary, binary, Catalogue, itemPair, itemExpr, keyExpr, aggPair, winPair}
+use Rattle.cpl.specs.Plan.{Pair, Expr, Item, Agg, Win, Leaf, scan, empty, Unary, projection, filter, sort, limit, aggregate, window, subqueryAlias, distinct, Plan, leaf, unary, Catalogue, itemPair, itemExpr, keyExpr, aggPair, winPair}
 use Rattle.cpl.specs.Exprs.{usesAny, aggExprs, winExprs, unaryExprs}
-use Rattle.cpl.specs.Fields.{columnsOf, scanField, leafFields, requalify, unaryFields, joinFields, binaryFields, fieldsOf}
-use Rattle.cpl.specs.Accept.{even}
-use Rattle.cpl.proofs.Lists.{All-mapped, map-cong, map-map, map-++, Fit-map, Fit-maps, fit-self, Fit-trans, Fit-sym, take-fit, drop-fit}
+use Rattle.cpl.specs.Fields.{columnsOf, scanField, leafFields, requalify, unaryFields, fieldsOf}
+use Rattle.cpl.proofs.Lists.{All-mapped, map-cong, map-map, Fit-map, Fit-maps, fit-self, Fit-trans, take-fit}
 use Rattle.cpl.proofs.Clash.{Clear}
-use Rattle.rules.specs.Mask.{Mask, select, ones, zeros, LeM}
-use Rattle.rules.specs.Rules.{used, plus, leafRule, leafKept, Job, done, ask, projectionJob, aggregateJob, windowJob, unaryJob, leftPart, rightPart, leftExprs, rightExprs, leftAsk, rightAsk, binaryKept}
+use Rattle.rules.specs.Mask.{Mask, select, ones, LeM}
+use Rattle.rules.specs.Rules.{used, plus, leafRule, leafKept, Job, done, ask, projectionJob, aggregateJob, windowJob, unaryJob}
 use Rattle.rules.proofs.Masks.{Cov, c[], _c∷_, Cov-or, Cov-used, Cov-le, LeB-true, LeM-refl, LeM-trans, LeM-or, LeM-parts, LeM-fit, fit-ones, ones-le, Fit-or, Fit-select, select-map, select-ones, select-++}
 use Rattle.rules.proofs.Known.{used-head, used-left, used-right, clear-select}
-use Rattle.rules.proofs.BinaryKinds.{join-fields}
 use Rattle.meaning.specs.Value.{missing, Row, Log, yes?, sameRow}
 use Rattle.meaning.specs.Lists.{firsts}
 use Rattle.meaning.specs.Operators.{projectionRows, members, aggValue, groupKeys, groupRow, aggregateRows, windowRows, unaryRows}
-use Rattle.meaning.specs.Joins.{matches, missings, binaryRows}
+use Rattle.meaning.specs.Joins.{missings}
 use Rattle.meaning.specs.Meaning.{tableRows, rowAt, emptyRows, leafRows, meaning}
 use Rattle.meaning.proofs.Commute.{filter-map, sort-map, page-map, eval-select, before-select}
-use Rattle.meaning.proofs.Wide.{WideRows, All-firsts, even-fit, leaf-wide}
+use Rattle.meaning.proofs.Wide.{WideRows, All-firsts, leaf-wide}
 use Rattle.meaning.proofs.Groups.{aggregate-select, window-select, window-none}
-use Rattle.meaning.proofs.Joins.{matches-select, joinRows-select}
 use Rattle.meaning.proofs.Columns.{ones-rows, projection-select, over-child}
 
 -- a plan that has the fields fs and the rows rs, narrowed to K, which keeps R
@@ -49,15 +45,15 @@ used-fit : (es : List Expr) (fs : List Pair) → Fit (used es fs) fs
 unfolding used
 used-fit es fs = Fit-map (usesAny es) fs
 
-plus-cov : (es : List Expr) {fs : List Pair} {R K : Mask} → Fit R fs → LeM (plus es fs R) K → Cov (usesAny es) fs K
+pub plus-cov : (es : List Expr) {fs : List Pair} {R K : Mask} → Fit R fs → LeM (plus es fs R) K → Cov (usesAny es) fs K
 unfolding plus used
 plus-cov es f l = Cov-le (Cov-or (usesAny es) f) l
 
-plus-fit : (es : List Expr) {fs : List Pair} {R : Mask} → Fit R fs → Fit (plus es fs R) fs
+pub plus-fit : (es : List Expr) {fs : List Pair} {R : Mask} → Fit R fs → Fit (plus es fs R) fs
 unfolding plus used
 plus-fit es f = Fit-or (usesAny es) f
 
-plus-keeps : (es : List Expr) {fs : List Pair} {R K : Mask} → Fit R fs → LeM (plus es fs R) K → LeM R K
+pub plus-keeps : (es : List Expr) {fs : List Pair} {R K : Mask} → Fit R fs → LeM (plus es fs R) K → LeM R K
 unfolding plus used
 plus-keeps es f l = LeM-trans (LeM-or (usesAny es) f) l
 
@@ -204,56 +200,3 @@ leaf-narrows C D (scan t q is) {R} f =
       rows = sym (map-map (select R) (rowAt cs) (tableRows D t) ∙ map-cong (λ r. select-map (λ i. getD r i missing) R cs) (tableRows D t));
     }
 leaf-narrows C D (empty b cs) f = record { keeps = fit-ones f; fields = sym (select-ones (fit-self cs)); rows = sym (ones-rows (leaf-wide C D (empty b cs))) }
-
--- ── two inputs ──────────────────────────────────────────────────────────────────────────────
-
--- a join's request, split: each part fits its side
-part-fits : (t : JoinType) (fl fr : List Pair) {R : Mask} → Fit R (joinFields t fl fr) → Fit (leftPart t fl R) fl × Fit (rightPart t fl fr R) fr
-unfolding joinFields leftPart rightPart zeros
-part-fits j-inner fl fr f = (take-fit fl fr f, drop-fit fl fr f)
-part-fits j-left fl fr f = (take-fit fl fr f, drop-fit fl fr f)
-part-fits j-right fl fr f = (take-fit fl fr f, drop-fit fl fr f)
-part-fits j-full fl fr f = (take-fit fl fr f, drop-fit fl fr f)
-part-fits j-lsemi fl fr f = (f, Fit-map (λ g. false) fr)
-part-fits j-lanti fl fr f = (f, Fit-map (λ g. false) fr)
-part-fits j-rsemi fl fr f = (Fit-map (λ g. false) fl, f)
-part-fits j-ranti fl fr f = (Fit-map (λ g. false) fl, f)
-
-join-keeps : (t : JoinType) (fl fr : List Pair) (R : Mask) {Kl Kr : Mask} → LeM (leftPart t fl R) Kl → LeM (rightPart t fl fr R) Kr → LeM R (joinFields t Kl Kr)
-unfolding leftPart rightPart joinFields
-join-keeps j-inner fl fr R h k = LeM-parts (length fl) R h k
-join-keeps j-left fl fr R h k = LeM-parts (length fl) R h k
-join-keeps j-right fl fr R h k = LeM-parts (length fl) R h k
-join-keeps j-full fl fr R h k = LeM-parts (length fl) R h k
-join-keeps j-lsemi fl fr R h k = h
-join-keeps j-lanti fl fr R h k = h
-join-keeps j-rsemi fl fr R h k = k
-join-keeps j-ranti fl fr R h k = k
-
-pub ask-fits : (h : Binary) (fl fr : List Pair) {R : Mask} → T (even h fl fr) → Fit R (binaryFields h fl fr) → Fit (leftAsk h fl fr R) fl × Fit (rightAsk h fl fr R) fr
-unfolding binaryFields leftAsk rightAsk
-ask-fits union fl fr e f = (f, Fit-trans f (Fit-sym (even-fit fl fr e)))
-ask-fits (join t os c) fl fr e f = let h = part-fits t fl fr f in (plus-fit (leftExprs os c) (h .0), plus-fit (rightExprs os c) (h .1))
-
--- each input has exactly what was asked of it
-module _ (C : Catalogue) (D : Log) (fl fr : List Pair) {ls rs : List Row} (w : WideRows fl ls) where
-  pub binary-narrows : (h : Binary) (R : Mask) {p₁ p₂ : Plan} → Fit R (binaryFields h fl fr)
-      → Narrowed C D fl ls (leftAsk h fl fr R) (leftAsk h fl fr R) p₁ → Narrowed C D fr rs (rightAsk h fl fr R) (rightAsk h fl fr R) p₂
-      → Narrowed C D (binaryFields h fl fr) (binaryRows h fl fr ls rs) R (binaryKept h fl fr R) (binary h p₁ p₂)
-  unfolding fieldsOf meaning binaryRows binaryFields leftAsk rightAsk binaryKept
-  binary-narrows union R f n₁ n₂ = record { keeps = LeM-refl R; fields = n₁ .fields; rows = ap₂ _++_ (n₁ .rows) (n₂ .rows) ∙ sym (map-++ (select R) ls rs) }
-  binary-narrows (join t os c) R {p₁} {p₂} f n₁ n₂ =
-      let h = part-fits t fl fr f in
-      let el = leftExprs os c in
-      let er = rightExprs os c in
-      let Kl = plus el fl (leftPart t fl R) in
-      let Kr = plus er fr (rightPart t fl fr R) in
-      let fit = plus-fit el (h .0) in
-      let agree = matches-select fl fr Kl Kr fit os c (plus-cov el (h .0) (LeM-refl Kl)) (plus-cov er (h .1) (LeM-refl Kr)) in
-      record {
-        keeps = join-keeps t fl fr R (plus-keeps el (h .0) (LeM-refl Kl)) (plus-keeps er (h .1) (LeM-refl Kr));
-        fields = ap₂ (joinFields t) (n₁ .fields) (n₂ .fields) ∙ join-fields t fr Kr fit;
-        rows = ap₂ (λ gs qs. binaryRows (join t os c) gs (fieldsOf C p₂) qs (meaning C D p₂)) (n₁ .fields) (n₁ .rows)
-            ∙ (ap₂ (λ gs qs. binaryRows (join t os c) (select Kl fl) gs (map (select Kl) ls) qs) (n₂ .fields) (n₂ .rows)
-            ∙ joinRows-select fl fr Kl Kr fit (matches os c fl fr) (matches os c (select Kl fl) (select Kr fr)) agree ls rs w t);
-      }

@@ -1,6 +1,6 @@
 -- Rows of small plans, by computation: each operator once, and three stories of the pass.
 use mathlib.Core.Path.{_≡_, refl}
-use mathlib.Core.List.{[], _∷_}
+use mathlib.Core.List.{[], _∷_, map}
 use mathlib.Core.Bool.{true, false}
 use mathlib.Core.Option.{none, some}
 use Prim.Native.Nat.{ℕ}
@@ -12,6 +12,7 @@ use Rattle.rules.specs.Rewrite.{Walked, rewrite}
 use Rattle.meaning.specs.Value.{Val, missing, num, Log}
 use Rattle.meaning.specs.Eval.{evalAll}
 use Rattle.meaning.specs.Meaning.{meaning}
+use Rattle.meaning.specs.Reads.{reads}
 use Rattle.meaning.specs.Computes.{meaning-computes}
 
 abbrev n : ℕ → Val
@@ -135,6 +136,7 @@ record Stories : Type 0 where
   twice-house : meaning C D (house twice (true ∷ []) .plan) ≡ meaning C D twice
   -- the scan keeps the partition's column and the order's, and drops the third
   numbered-plan : house (row-number S) (true ∷ []) .plan ≡ row-number AB
+  numbered-reads : map (reads C (house (row-number S) (true ∷ []) .plan) 0) (0 ∷ 1 ∷ 2 ∷ []) ≡ true ∷ true ∷ false ∷ []
   numbered-before : meaning C D (row-number S) ≡ (n 2 ∷ []) ∷ (n 1 ∷ []) ∷ (n 1 ∷ []) ∷ (n 1 ∷ []) ∷ []
   numbered-after : meaning C D (house (row-number S) (true ∷ []) .plan) ≡ meaning C D (row-number S)
   -- only the sum is requested: the group column stays with it, since it decides the rows
@@ -150,6 +152,7 @@ stories =
       twice-crate = refl;
       twice-house = refl;
       numbered-plan = refl;
+      numbered-reads = refl;
       numbered-before = refl;
       numbered-after = refl;
       sums-kept = refl;

@@ -11,6 +11,7 @@ use Rattle.meaning.specs.Lists.{filterB, firsts, page, around}
 use Rattle.meaning.specs.Order.{before, sortBy}
 use Rattle.meaning.specs.Functions.{callOver}
 
+-- of each row the values of the items
 unfoldable pub projectionRows : List Item → List Pair → List Row → List Row
 projectionRows is fs rs = map (λ r. evalAll fs r (map itemExpr is)) rs
 
