@@ -7,3 +7,5 @@ pub mod BinaryKinds
 pub mod MergeTidy
 pub mod Results
 pub mod Samples
+pub mod Answers
+pub mod Successes

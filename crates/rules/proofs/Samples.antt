@@ -13,7 +13,7 @@ use Rattle.cpl.specs.Read.{pick}
 use Rattle.cpl.specs.Bytes.{bytesOf}
 use Rattle.cpl.proofs.Bools.{halves, is-true}
 use Rattle.cpl.proofs.Lists.{all-T, All-map}
-use Rattle.rules.specs.Answer.{Answer, Verdict, refused, narrowed, verdict, success, refusal, written, deliver, answer, answerAll}
+use Rattle.rules.specs.Answer.{Answer, Verdict, refused, narrowed, verdict, success, refusal, written, deliver, reply}
 use Rattle.rules.specs.Samples.{Sample, sample, header, asked, Right, samples}
 use Rattle.rules.specs.Computes.{rules-computes}
 
@@ -53,7 +53,7 @@ delivered (narrowed s) bs out t l =
     ap (λ ds. written ds out) (same-bytes (bytesOf s) bs t) ∙ ap (λ b. pick b (success bs out) (refusal ROOM (length bs) out)) (is-true (leb (length bs) (length out)) (le→leb _ _ l))
 
 right : (s : Sample) → T (passes s) → Right s
-unfolding passes Right asked requestOf answer answerAll
+unfolding passes Right asked requestOf reply
 right (sample mode mask plan none result) t = λ out l. delivered _ _ out t l
 right (sample mode mask plan (some request) result) t = λ out l. delivered _ _ out t l
 

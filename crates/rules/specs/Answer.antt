@@ -79,10 +79,13 @@ unfoldable pub deliver : Verdict → (out : List ℕ) → Answer
 deliver (refused code place) out = refusal code place out
 deliver (narrowed s) out = written (bytesOf s) out
 
--- the answer to a request of these fields
-unfoldable pub answer : (mode mask : ℕ) (file request out : List ℕ) → Answer
-answer mode mask file request out = deliver (verdict mode mask file (λ width. request)) out
+-- the answer to a request that may be made from the root's field count
+unfoldable pub reply : (mode mask : ℕ) (file : List ℕ) (request : ℕ → List ℕ) (out : List ℕ) → Answer
+reply mode mask file request out = deliver (verdict mode mask file request) out
 
--- the answer to a request of all fields
-unfoldable pub answerAll : (mode mask : ℕ) (file out : List ℕ) → Answer
-answerAll mode mask file out = deliver (verdict mode mask file (λ width. iota 0 width)) out
+-- the answer to a request of these fields, and to one of all fields
+abbrev pub answer : (mode mask : ℕ) (file request out : List ℕ) → Answer
+answer mode mask file request out = reply mode mask file (λ width. request) out
+
+abbrev pub answerAll : (mode mask : ℕ) (file out : List ℕ) → Answer
+answerAll mode mask file out = reply mode mask file (λ width. iota 0 width) out

@@ -6,5 +6,6 @@ pub mod Rules
 pub mod Rewrite
 pub mod Kept
 pub mod Answer
+pub mod Success
 pub mod Samples
 pub mod Computes
