@@ -1,0 +1,161 @@
+-- Rows of small plans, by computation: each operator once, and three stories of the pass.
+use mathlib.Core.Path.{_≡_, refl}
+use mathlib.Core.List.{[], _∷_, map}
+use mathlib.Core.Bool.{true, false}
+use mathlib.Core.Option.{none, some}
+use Prim.Native.Nat.{ℕ}
+use lib.IntN.{pos}
+use Rattle.cpl.specs.Plan.{Pair, pair, o-not, o-missing, o-add, o-eq, o-lt, o-and, o-or, Expr, col, lit, miss, un, bin, bare, named, key, f-sum, f-min, rows, over, agg, win, JoinType, j-inner, j-right, j-full, j-lanti, j-rsemi, on, scan, projection, filter, sort, limit, aggregate, window, distinct, union, join, Plan, leaf, unary, binary, Catalogue}
+use Rattle.rules.specs.Mask.{Mask}
+use Rattle.rules.specs.Merge.{mergeStep}
+use Rattle.rules.specs.Rewrite.{Walked, rewrite}
+use Rattle.meaning.specs.Value.{Val, missing, num, Log}
+use Rattle.meaning.specs.Eval.{evalAll}
+use Rattle.meaning.specs.Meaning.{meaning}
+use Rattle.meaning.specs.Reads.{reads}
+use Rattle.meaning.specs.Computes.{meaning-computes}
+
+abbrev n : ℕ → Val
+n k = num (pos k)
+
+-- table 0 has the names 1, 2, 3, table 1 the names 4, 5
+abbrev C : Catalogue
+C = (1 ∷ 2 ∷ 3 ∷ []) ∷ (4 ∷ 5 ∷ []) ∷ []
+
+abbrev D : Log
+D =
+    ((n 1 ∷ n 30 ∷ n 7 ∷ []) ∷ (n 2 ∷ missing ∷ n 8 ∷ []) ∷ (n 1 ∷ n 10 ∷ n 9 ∷ []) ∷ (missing ∷ n 5 ∷ n 6 ∷ []) ∷ [])
+    ∷ ((n 1 ∷ n 70 ∷ []) ∷ (n 9 ∷ n 80 ∷ []) ∷ (n 1 ∷ n 90 ∷ []) ∷ [])
+    ∷ []
+
+-- the columns a and b of the first table, whose qualifier is 1; the second table, whose qualifier is 2
+abbrev a : Pair
+a = pair 1 1
+
+abbrev b : Pair
+b = pair 1 2
+
+abbrev x : Pair
+x = pair 0 7
+
+abbrev y : Pair
+y = pair 0 8
+
+abbrev S : Plan
+S = leaf (scan 0 1 none)
+
+-- the first table's a and b
+abbrev AB : Plan
+AB = leaf (scan 0 1 (some (0 ∷ 1 ∷ [])))
+
+-- joined by a = the second table's first column
+abbrev J : JoinType → Plan
+J t = binary (join t (on (col a) (col (pair 2 4)) ∷ []) none) AB (leaf (scan 1 2 none))
+
+-- ── each operator ───────────────────────────────────────────────────────────────────────────
+
+abbrev one : Expr
+one = lit (pos 1)
+
+abbrev nought : Expr
+nought = lit (pos 0)
+
+record Rows : Type 0 where
+  -- 0 and missing, 5 and missing, 5 and 1; 5 or missing, 0 or missing, 0 or 0
+  three-valued : evalAll [] [] (bin o-and nought miss ∷ bin o-and (lit (pos 5)) miss ∷ bin o-and (lit (pos 5)) one ∷ bin o-or (lit (pos 5)) miss ∷ bin o-or nought miss ∷ bin o-or nought nought ∷ [])
+      ≡ n 0 ∷ missing ∷ n 1 ∷ n 1 ∷ missing ∷ n 0 ∷ []
+  -- missing = missing, not missing, is-missing missing
+  with-missing : evalAll [] [] (bin o-eq miss miss ∷ un o-not miss ∷ un o-missing miss ∷ []) ≡ missing ∷ missing ∷ n 1 ∷ []
+  filtered : meaning C D (unary (filter (bin o-lt (col b) (lit (pos 20)))) AB) ≡ (n 1 ∷ n 10 ∷ []) ∷ (missing ∷ n 5 ∷ []) ∷ []
+  -- descending, missing first; and ascending, where missings come last and equal keys stay in order
+  sorted : meaning C D (unary (sort (key true true (col b) ∷ [])) AB) ≡ (n 2 ∷ missing ∷ []) ∷ (n 1 ∷ n 30 ∷ []) ∷ (n 1 ∷ n 10 ∷ []) ∷ (missing ∷ n 5 ∷ []) ∷ []
+  stable : meaning C D (unary (sort (key false false (col a) ∷ [])) AB) ≡ (n 1 ∷ n 30 ∷ []) ∷ (n 1 ∷ n 10 ∷ []) ∷ (n 2 ∷ missing ∷ []) ∷ (missing ∷ n 5 ∷ []) ∷ []
+  paged : meaning C D (unary (limit 1 (some 2)) AB) ≡ (n 2 ∷ missing ∷ []) ∷ (n 1 ∷ n 10 ∷ []) ∷ []
+  grouped : meaning C D (unary (aggregate (bare a ∷ []) (agg x (over f-sum (col b)) ∷ agg y rows ∷ [])) AB) ≡ (n 1 ∷ n 40 ∷ n 2 ∷ []) ∷ (n 2 ∷ missing ∷ n 1 ∷ []) ∷ (missing ∷ n 5 ∷ n 1 ∷ []) ∷ []
+  -- no groups over no rows: one row
+  ungrouped : meaning C D (unary (aggregate [] (agg x (over f-min (col b)) ∷ agg y rows ∷ [])) (unary (limit 9 none) AB)) ≡ (missing ∷ n 0 ∷ []) ∷ []
+  -- the sum over the partition, beside each row
+  covered : meaning C D (unary (window (win x (over f-sum (col b)) (col a ∷ []) [] ∷ [])) AB) ≡ (n 1 ∷ n 30 ∷ n 40 ∷ []) ∷ (n 2 ∷ missing ∷ missing ∷ []) ∷ (n 1 ∷ n 10 ∷ n 40 ∷ []) ∷ (missing ∷ n 5 ∷ n 5 ∷ []) ∷ []
+  unique : meaning C D (unary distinct (unary (projection (bare a ∷ [])) (binary union AB AB))) ≡ (n 1 ∷ []) ∷ (n 2 ∷ []) ∷ (missing ∷ []) ∷ []
+  inner : meaning C D (J j-inner) ≡ (n 1 ∷ n 30 ∷ n 1 ∷ n 70 ∷ []) ∷ (n 1 ∷ n 30 ∷ n 1 ∷ n 90 ∷ []) ∷ (n 1 ∷ n 10 ∷ n 1 ∷ n 70 ∷ []) ∷ (n 1 ∷ n 10 ∷ n 1 ∷ n 90 ∷ []) ∷ []
+  right : meaning C D (J j-right)
+      ≡ (n 1 ∷ n 30 ∷ n 1 ∷ n 70 ∷ []) ∷ (n 1 ∷ n 10 ∷ n 1 ∷ n 70 ∷ []) ∷ (missing ∷ missing ∷ n 9 ∷ n 80 ∷ []) ∷ (n 1 ∷ n 30 ∷ n 1 ∷ n 90 ∷ []) ∷ (n 1 ∷ n 10 ∷ n 1 ∷ n 90 ∷ []) ∷ []
+  full : meaning C D (J j-full)
+      ≡ (n 1 ∷ n 30 ∷ n 1 ∷ n 70 ∷ []) ∷ (n 1 ∷ n 30 ∷ n 1 ∷ n 90 ∷ []) ∷ (n 2 ∷ missing ∷ missing ∷ missing ∷ []) ∷ (n 1 ∷ n 10 ∷ n 1 ∷ n 70 ∷ []) ∷ (n 1 ∷ n 10 ∷ n 1 ∷ n 90 ∷ []) ∷ (missing ∷ n 5 ∷ missing ∷ missing ∷ []) ∷ (missing ∷ missing ∷ n 9 ∷ n 80 ∷ []) ∷ []
+  anti : meaning C D (J j-lanti) ≡ (n 2 ∷ missing ∷ []) ∷ (missing ∷ n 5 ∷ []) ∷ []
+  semi : meaning C D (J j-rsemi) ≡ (n 1 ∷ n 70 ∷ []) ∷ (n 1 ∷ n 90 ∷ []) ∷ []
+
+all-rows : Rows
+unfolding meaning-computes
+all-rows =
+    record {
+      three-valued = refl;
+      with-missing = refl;
+      filtered = refl;
+      sorted = refl;
+      stable = refl;
+      paged = refl;
+      grouped = refl;
+      ungrouped = refl;
+      covered = refl;
+      unique = refl;
+      inner = refl;
+      right = refl;
+      full = refl;
+      anti = refl;
+      semi = refl;
+    }
+
+-- ── three stories of the pass ───────────────────────────────────────────────────────────────
+
+abbrev crate : Plan → Mask → Walked
+crate p R = rewrite (mergeStep false 0) C p R
+
+abbrev house : Plan → Mask → Walked
+house p R = rewrite (mergeStep true 0) C p R
+
+-- a gateway and a view that each add one under the same name: [y+1 as y], [y+1 as y], [a as y], S
+abbrev add-one : Plan → Plan
+add-one p = unary (projection (named y (bin o-add (col y) one) ∷ [])) p
+
+abbrev twice : Plan
+twice = add-one (add-one (unary (projection (named y (col a) ∷ [])) S))
+
+-- the row number alone, by b within a: nobody prints a or b
+abbrev row-number : Plan → Plan
+row-number p = unary (projection (bare x ∷ [])) (unary (window (win x rows (col a ∷ []) (key false false (col b) ∷ []) ∷ [])) p)
+
+-- the sum of b within a, and the number of rows
+abbrev sums : Plan
+sums = unary (aggregate (bare a ∷ []) (agg x (over f-sum (col b)) ∷ agg y rows ∷ [])) S
+
+record Stories : Type 0 where
+  -- crate mode loses one of the two additions, house mode none
+  twice-before : meaning C D twice ≡ (n 3 ∷ []) ∷ (n 4 ∷ []) ∷ (n 3 ∷ []) ∷ (missing ∷ []) ∷ []
+  twice-crate : meaning C D (crate twice (true ∷ []) .plan) ≡ (n 2 ∷ []) ∷ (n 3 ∷ []) ∷ (n 2 ∷ []) ∷ (missing ∷ []) ∷ []
+  twice-house : meaning C D (house twice (true ∷ []) .plan) ≡ meaning C D twice
+  -- the scan keeps the partition's column and the order's, and drops the third
+  numbered-plan : house (row-number S) (true ∷ []) .plan ≡ row-number AB
+  numbered-reads : map (reads C (house (row-number S) (true ∷ []) .plan) 0) (0 ∷ 1 ∷ 2 ∷ []) ≡ true ∷ true ∷ false ∷ []
+  numbered-before : meaning C D (row-number S) ≡ (n 2 ∷ []) ∷ (n 1 ∷ []) ∷ (n 1 ∷ []) ∷ (n 1 ∷ []) ∷ []
+  numbered-after : meaning C D (house (row-number S) (true ∷ []) .plan) ≡ meaning C D (row-number S)
+  -- only the sum is requested: the group column stays with it, since it decides the rows
+  sums-kept : house sums (false ∷ true ∷ false ∷ []) .kept ≡ true ∷ true ∷ false ∷ []
+  sums-before : meaning C D sums ≡ (n 1 ∷ n 40 ∷ n 2 ∷ []) ∷ (n 2 ∷ missing ∷ n 1 ∷ []) ∷ (missing ∷ n 5 ∷ n 1 ∷ []) ∷ []
+  sums-after : meaning C D (house sums (false ∷ true ∷ false ∷ []) .plan) ≡ (n 1 ∷ n 40 ∷ []) ∷ (n 2 ∷ missing ∷ []) ∷ (missing ∷ n 5 ∷ []) ∷ []
+
+stories : Stories
+unfolding meaning-computes
+stories =
+    record {
+      twice-before = refl;
+      twice-crate = refl;
+      twice-house = refl;
+      numbered-plan = refl;
+      numbered-reads = refl;
+      numbered-before = refl;
+      numbered-after = refl;
+      sums-kept = refl;
+      sums-before = refl;
+      sums-after = refl;
+    }

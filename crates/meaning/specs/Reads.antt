@@ -1,0 +1,34 @@
+-- Which columns the scans of a plan name, and when two logs agree in them.
+use mathlib.Core.Path.{_≡_}
+use mathlib.Core.List.{List, [], map}
+use mathlib.Core.Bool.{Bool, false, _&&_, _||_}
+use Prim.Native.Nat.{ℕ}
+use lib.Dec.{T, eqb}
+use lib.ListN.{length, getD}
+use Rattle.cpl.specs.Tests.{anyB}
+use Rattle.cpl.specs.Plan.{Leaf, scan, empty, Plan, leaf, unary, binary, Catalogue}
+use Rattle.cpl.specs.Fields.{columnsOf}
+use Rattle.meaning.specs.Value.{Val, missing, Log}
+use Rattle.meaning.specs.Meaning.{tableRows}
+
+unfoldable pub leafReads : Catalogue → Leaf → (table column : ℕ) → Bool
+leafReads C (scan u q is) t i = eqb t u && anyB (eqb i) (columnsOf (getD C u []) is)
+leafReads C (empty b cs) t i = false
+
+-- does some scan of the plan name this column of this table?
+unfoldable pub reads : Catalogue → Plan → (table column : ℕ) → Bool
+reads C (leaf h) t i = leafReads C h t i
+reads C (unary h p) t i = reads C p t i
+reads C (binary h p₁ p₂) t i = reads C p₁ t i || reads C p₂ t i
+
+unfoldable pub rowCount : Log → (table : ℕ) → ℕ
+rowCount D t = length (tableRows D t)
+
+-- the values of a column, row by row
+unfoldable pub column : Log → (table column : ℕ) → List Val
+column D t i = map (λ r. getD r i missing) (tableRows D t)
+
+-- as many rows in each table, and the same values in each column that the plan's scans name
+pub record Agree (C : Catalogue) (p : Plan) (D E : Log) : Type 0 where
+  pub counts : (t : ℕ) → rowCount D t ≡ rowCount E t
+  pub columns : (t i : ℕ) → T (reads C p t i) → column D t i ≡ column E t i
