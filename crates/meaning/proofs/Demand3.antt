@@ -1,23 +1,20 @@
 -- Demand 3: in house mode, what the pass makes of an accepted plan keeps every requested field in the old order and, whatever the tables hold, gives
 -- the same rows in the same order at each field that it keeps; and those rows depend on no column that its scans do not name.
 use mathlib.Core.Path.{_≡_, sym, _∙_}
-use mathlib.Core.List.{List, [], _∷_, map}
+use mathlib.Core.List.{List, [], map}
 use mathlib.Core.Bool.{true, false}
 use mathlib.Core.Option.{none}
-use Prim.Native.Nat.{ℕ, suc}
-use lib.Dec.{eqb}
+use Prim.Native.Nat.{ℕ}
 use lib.ListN.{length}
-use Rattle.cpl.specs.Tests.{anyB, iota}
-use Rattle.cpl.specs.Lists.{z[], _z∷_, Fit}
 use Rattle.cpl.specs.Plan.{Plan, Catalogue}
 use Rattle.cpl.specs.Fields.{fieldsOf}
 use Rattle.cpl.specs.Accept.{check}
-use Rattle.cpl.proofs.Lists.{Fit-map, Fit-trans}
 use Rattle.cpl.proofs.Accepted.{accepted, distinct-fields}
 use Rattle.rules.specs.Mask.{select}
 use Rattle.rules.specs.Request.{maskOf}
 use Rattle.rules.specs.Merge.{mergeStep}
 use Rattle.rules.specs.Rewrite.{Walked, rewrite}
+use Rattle.rules.proofs.Successes.{fit-mask}
 use Rattle.meaning.specs.Value.{Log}
 use Rattle.meaning.specs.Meaning.{meaning}
 use Rattle.meaning.specs.Reads.{Agree}
@@ -25,16 +22,6 @@ use Rattle.meaning.specs.Narrowing.{Narrowing}
 use Rattle.meaning.proofs.Rows.{Narrowed}
 use Rattle.meaning.proofs.Preserve.{preserve}
 use Rattle.meaning.proofs.Logs.{reads-only}
-
-fit-iota : {A : Type 0} (k : ℕ) (xs : List A) → Fit (iota k (length xs)) xs
-unfolding iota
-fit-iota k [] = z[]
-fit-iota k (x ∷ xs) = tt z∷ fit-iota (suc k) xs
-
--- a request is a mask over the fields
-pub fit-mask : {A : Type 0} (is : List ℕ) (xs : List A) → Fit (maskOf (length xs) is) xs
-unfolding maskOf
-fit-mask is xs = Fit-trans (Fit-map (λ i. anyB (eqb i) is) (iota 0 (length xs))) (fit-iota 0 xs)
 
 -- house mode's pass over a plan for the requested indices
 abbrev pub housePass : (mask : ℕ) → Catalogue → Plan → (request : List ℕ) → Walked
