@@ -11,3 +11,4 @@ pub mod Preserve
 pub mod Logs
 pub mod Demand3
 pub mod Samples
+pub mod Files

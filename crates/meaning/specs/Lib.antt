@@ -10,3 +10,4 @@ pub mod Meaning
 pub mod Reads
 pub mod Narrowing
 pub mod Computes
+pub mod Promise
