@@ -1,0 +1,24 @@
+-- A set of indices is a number: i is in it where the number's binary digit i is 1. The same set as a mask, and as the set of a list of indices.
+use mathlib.Core.Bool.{Bool}
+use mathlib.Core.List.{List, [], _∷_}
+use Prim.Native.Nat.{ℕ, zero, suc, _/_, _%_, _^_}
+use lib.Bits.{bitOr}
+use lib.Dec.{eqb}
+use Rattle.rules.specs.Mask.{Mask}
+
+abbrev pub odd : ℕ → Bool
+odd n = eqb (n % 2) 1
+
+-- is i in the set?
+unfoldable pub has : ℕ → ℕ → Bool
+has s i = odd (s / 2 ^ i)
+
+-- the set as a mask over n fields: its first n digits, lowest first
+unfoldable pub setMask : ℕ → ℕ → Mask
+setMask zero s = []
+setMask (suc n) s = odd s ∷ setMask n (s / 2)
+
+-- the indices of a list, added one by one from the last
+unfoldable pub ofList : List ℕ → ℕ
+ofList [] = 0
+ofList (i ∷ is) = bitOr (ofList is) (2 ^ i)
