@@ -1,8 +1,10 @@
--- The laws of request sets, bottom up. Other crates cite `Methods`, `Walk` and `Lists`.
+-- The laws of request sets, bottom up. Other crates cite `Methods`, `Building` and `Walk`.
 pub mod Members
 pub mod Masks
 pub mod Lowest
-pub mod Lists
+pub mod Singles
+pub mod Methods
+pub mod Building
 pub mod Walk
 pub mod Words
 pub mod Places

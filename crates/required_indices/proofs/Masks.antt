@@ -1,7 +1,7 @@
 -- What a set is as a mask: each operation on sets is the operation on masks that the rules are written with.
 use mathlib.Core.Path.{_≡_, refl, sym, _∙_, ap, ap₂, subst}
 use mathlib.Core.Bool.{Bool, true, false, _||_}
-use mathlib.Core.List.{List, [], _∷_}
+use mathlib.Core.List.{List, [], _∷_, _++_}
 use Prim.Native.Nat.{ℕ, zero, suc, _+_, _-_, _/_, _%_, _^_, _≤_, _<_}
 use native.Mathlib.Nat.{mod-lt, div-one, div-add-mod'}
 use native.Mathlib.Omega.{arith}
@@ -10,9 +10,10 @@ use lib.Pow.{shr-shr, high, low}
 use lib.Bits.{bitOr, or-shr, or-lt}
 use lib.Count.{ones, onesIn, ones-step}
 use lib.Dec.{eqb}
-use lib.ListN.{length, getD, take, drop, replicate}
+use lib.ListN.{length, getD, take, drop}
 use Rattle.cpl.specs.Lists.{Fit, z[], _z∷_}
 use Rattle.rules.specs.Mask.{Mask, orM, count, LeB, LeM}
+use Rattle.rules.specs.Mask as mask
 use Rattle.required_indices.specs.Set.{odd, has, setMask}
 use Rattle.required_indices.proofs.Members.{two-pos, half-lt, has-zero, has-suc, odd-or, has-mod, all-half, all-odd}
 
@@ -64,11 +65,22 @@ mask-rest (suc k) (suc n) s h =
     let next : suc k ≡ 1 + k = omega arith in
     ap₂ setMask places (ap (λ (x : ℕ). s / 2 ^ x) next ∙ sym (shr-shr s 1 k)) ∙ mask-rest k n (s / 2) (omega arith)
 
--- all below n
-pub mask-all : (n : ℕ) → setMask n (2 ^ n - 1) ≡ replicate n true
+-- all of the fields, and none
+pub mask-all : {A : Type 0} (xs : List A) → setMask (length xs) (2 ^ length xs - 1) ≡ mask.ones xs
+unfolding setMask mask.ones
+mask-all [] = refl
+mask-all (x ∷ xs) = ap₂ _∷_ (ap (λ (x : ℕ). eqb x 1) (all-odd (length xs))) (ap (setMask (length xs)) (all-half (length xs)) ∙ mask-all xs)
+
+pub mask-none : {A : Type 0} (xs : List A) → setMask (length xs) 0 ≡ mask.zeros xs
+unfolding setMask mask.zeros
+mask-none [] = refl
+mask-none (x ∷ xs) = ap (false ∷_) (mask-none xs)
+
+-- one field more
+pub mask-snoc : (n s : ℕ) → setMask (suc n) s ≡ setMask n s ++ (has s n ∷ [])
 unfolding setMask
-mask-all zero = refl
-mask-all (suc n) = ap₂ _∷_ (ap (λ (x : ℕ). eqb x 1) (all-odd n)) (ap (setMask n) (all-half n) ∙ mask-all n)
+mask-snoc zero s = ap (_∷ []) (sym (has-zero s))
+mask-snoc (suc n) s = ap (odd s ∷_) (mask-snoc n (s / 2) ∙ ap (λ (b : Bool). setMask n (s / 2) ++ (b ∷ [])) (sym (has-suc s n)))
 
 -- the size is the count of yes
 count-cons : (x : ℕ) (m : Mask) → x < 2 → count (eqb x 1 ∷ m) ≡ x + count m
@@ -81,6 +93,14 @@ pub mask-count : (n s : ℕ) → s < 2 ^ n → count (setMask n s) ≡ ones s
 unfolding setMask count ones onesIn
 mask-count zero s h = sym (ap ones (lt-one h))
 mask-count (suc n) s h = count-cons (s % 2) (setMask n (s / 2)) (mod-lt s two-pos) ∙ ap (λ (x : ℕ). s % 2 + x) (mask-count n (s / 2) (half-lt n h)) ∙ sym (ones-step s)
+
+pub mask-empty : (n s : ℕ) → s < 2 ^ n → count (setMask n s) ≡ 0 → s ≡ 0
+unfolding setMask
+mask-empty zero s h e = lt-one h
+mask-empty (suc n) s h e =
+    let c : count (eqb (s % 2) 1 ∷ setMask n (s / 2)) ≡ s % 2 + count (setMask n (s / 2)) = count-cons (s % 2) (setMask n (s / 2)) (mod-lt s two-pos) in
+    let high : s / 2 ≡ 0 = mask-empty n (s / 2) (half-lt n h) (omega arith) in
+    omega (arith, div-add-mod' s 2)
 
 -- a mask of n places tells every set below 2 ^ n
 odd-bit : (x y : ℕ) → x < 2 → y < 2 → eqb x 1 ≡ eqb y 1 → x ≡ y

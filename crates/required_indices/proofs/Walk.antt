@@ -1,23 +1,22 @@
--- The indices of a set in order: what a loop that asks for the next index goes through, and what it selects.
-use mathlib.Core.Path.{_≡_, refl, sym, _∙_, ap, ap₂}
+-- The indices of a request in order: what a loop that asks for the next index goes through, and what it selects.
+use mathlib.Core.Path.{_≡_, refl, sym, _∙_, ap, ap₂, subst}
 use mathlib.Core.Logic.{⊎-elim}
 use mathlib.Core.Bool.{true, false}
 use mathlib.Core.List.{List, [], _∷_, map}
-use Prim.Native.Nat.{ℕ, zero, suc, _+_, _-_, _^_, _≤_, _<_}
-use native.Mathlib.Nat.{le-of-eq, le-trans}
+use Prim.Native.Nat.{ℕ, zero, suc, _+_, _-_, _≤_, _<_}
 use native.Mathlib.Numerals.{add-one}
 use native.Mathlib.Omega.{arith}
-use lib.Count.{ones}
 use lib.ListN.{length, getD, drop, List·getD-eq-default}
 use lib.Seq.{drop-drop, getD-drop}
 use Rattle.cpl.specs.Lists.{Fit, z[], _z∷_}
 use Rattle.rules.specs.Mask.{Mask, select, count}
-use Rattle.required_indices.specs.Set.{has, setMask}
-use Rattle.required_indices.specs.Request.{IsNext}
+use Rattle.required_indices.specs.Set.{has}
+use Rattle.required_indices.specs.Request.{setOf, IsNext, Asks}
+use Rattle.required_indices.specs.declared.RequiredIndices.{RequiredIndices}
 use Rattle.required_indices.specs.declared.Next.{Next}
 use Rattle.required_indices.specs.declared.Next.the-variants.{At, Nothing}
 use Rattle.required_indices.proofs.Members.{side, different, has-past}
-use Rattle.required_indices.proofs.Masks.{mask-length, mask-fit, mask-at, mask-count}
+use Rattle.required_indices.proofs.Masks.{mask-at}
 
 -- the places that say yes, counted from k
 unfoldable pub indicesFrom : ℕ → Mask → List ℕ
@@ -25,11 +24,11 @@ indicesFrom k [] = []
 indicesFrom k (true ∷ ks) = k ∷ indicesFrom (suc k) ks
 indicesFrom k (false ∷ ks) = indicesFrom (suc k) ks
 
--- the indices of s from `from` on, below n
-unfoldable pub indicesOf : ℕ → ℕ → ℕ → List ℕ
-indicesOf n s from = indicesFrom from (drop from (setMask n s))
+-- those from `from` on
+unfoldable pub indicesAt : ℕ → Mask → List ℕ
+indicesAt from m = indicesFrom from (drop from m)
 
-pub indices-length : (k : ℕ) (ks : Mask) → length (indicesFrom k ks) ≡ count ks
+indices-length : (k : ℕ) (ks : Mask) → length (indicesFrom k ks) ≡ count ks
 unfolding indicesFrom count
 indices-length k [] = refl
 indices-length k (true ∷ ks) = ap suc (indices-length (suc k) ks)
@@ -45,7 +44,7 @@ map-map : {A B C : Type 0} (g : B → C) (f : A → B) (xs : List A) → map g (
 map-map g f [] = refl
 map-map g f (x ∷ xs) = ap (g (f x) ∷_) (map-map g f xs)
 
-pub select-indices : {A : Type 0} (d : A) {ks : Mask} {xs : List A} → Fit ks xs → select ks xs ≡ map (λ i. getD xs i d) (indicesFrom 0 ks)
+select-indices : {A : Type 0} (d : A) {ks : Mask} {xs : List A} → Fit ks xs → select ks xs ≡ map (λ i. getD xs i d) (indicesFrom 0 ks)
 unfolding select indicesFrom
 select-indices d z[] = refl
 select-indices d (_z∷_ {x = true} {y = x} {xs = ks} {ys = xs} _ h) =
@@ -70,47 +69,65 @@ none [] k f = refl
 none (true ∷ m) k f = absurd (different (f 0))
 none (false ∷ m) k f = none m (suc k) (λ j. f (suc j))
 
-module _ (n s : ℕ) (h : s < 2 ^ n) where
-  get : (i : ℕ) → getD (setMask n s) i false ≡ has s i
-  get i =
-      ⊎-elim
-      (λ (l : n ≤ i). List·getD-eq-default (setMask n s) false (le-trans (le-of-eq (mask-length n s)) l) ∙ sym (has-past n h l))
-      (λ (l : i < n). mask-at n s i l)
-      (side n i)
-
-  get-drop : (from j : ℕ) → getD (drop from (setMask n s)) j false ≡ has s (from + j)
-  get-drop from j = getD-drop from (setMask n s) j false ∙ get (from + j)
-
-  -- one turn: the next index, and then those after it
-  pub next-step : (from i : ℕ) → IsNext s from (At i) → indicesOf n s from ≡ i ∷ indicesOf n s (i + 1)
-  unfolding indicesOf
-  next-step from i (a, b, g) =
-      let e : from + (i - from) ≡ i = omega arith in
-      let f : from + suc (i - from) ≡ i + 1 = omega arith in
-      skip (drop from (setMask n s)) from (i - from) (λ j l. get-drop from j ∙ g (from + j) (omega arith) (omega arith)) (get-drop from (i - from) ∙ ap (has s) e ∙ b)
-      ∙ ap₂ _∷_ e (ap₂ indicesFrom (ap suc e ∙ sym (add-one i)) (drop-drop (suc (i - from)) from (setMask n s) ∙ ap (λ (x : ℕ). drop x (setMask n s)) f))
-
-  pub next-end : (from : ℕ) → IsNext s from Nothing → indicesOf n s from ≡ []
-  unfolding indicesOf
-  next-end from g = none (drop from (setMask n s)) from (λ j. get-drop from j ∙ g (from + j) (omega arith))
-
-  pub next-lt : (from i : ℕ) → IsNext s from (At i) → i < n
-  next-lt from i (a, b, g) = ⊎-elim (λ (l : n ≤ i). absurd (different (sym b ∙ has-past n h l))) (λ (l : i < n). l) (side n i)
-
-  pub indices-ones : length (indicesOf n s 0) ≡ ones s
-  unfolding indicesOf
-  indices-ones = indices-length 0 (setMask n s) ∙ mask-count n s h
-
 abbrev pub headNext : List ℕ → Next
 headNext [] = Nothing
 headNext (i ∷ is) = At i
 
--- so there is one answer: the first place at or above `from` where the mask says yes
-pub next-head : (n s : ℕ) → s < 2 ^ n → (from : ℕ) (r : Next) → IsNext s from r → r ≡ headNext (indicesOf n s from)
-next-head n s h from (At i) g = sym (ap headNext (next-step n s h from i g))
-next-head n s h from Nothing g = sym (ap headNext (next-end n s h from g))
+module _ {r : RequiredIndices} {R : Mask} (a : Asks r R) where
+  -- is i in the set? Also past the fields.
+  pub contains-mask : (i : ℕ) → has (setOf r) i ≡ getD R i false
+  contains-mask i =
+      ⊎-elim
+      (λ (l : length R ≤ i). has-past (length R) (a .within) l ∙ sym (List·getD-eq-default R false l))
+      (λ (l : i < length R). sym (mask-at (length R) (setOf r) i l) ∙ ap (λ (m : Mask). getD m i false) (a .mask))
+      (side (length R) i)
 
--- what the set selects of as many things as there are places
-pub select-set : {A : Type 0} (d : A) (s : ℕ) (xs : List A) → select (setMask (length xs) s) xs ≡ map (λ i. getD xs i d) (indicesOf (length xs) s 0)
-unfolding indicesOf
-select-set d s xs = select-indices d (mask-fit s xs)
+  get-drop : (from j : ℕ) → getD (drop from R) j false ≡ has (setOf r) (from + j)
+  get-drop from j = getD-drop from R j false ∙ sym (contains-mask (from + j))
+
+  module _ (from i : ℕ) (g : IsNext (setOf r) from (At i)) where
+    at-lt : i < length R
+    at-lt = ⊎-elim (λ (l : length R ≤ i). absurd (different (sym (g .1) ∙ has-past (length R) (a .within) l))) (λ (l : i < length R). l) (side (length R) i)
+
+    at-step : indicesAt from R ≡ i ∷ indicesAt (i + 1) R
+    unfolding indicesAt
+    at-step =
+        let ge : from ≤ i = g .0 in
+        let e : from + (i - from) ≡ i = omega arith in
+        let f : from + suc (i - from) ≡ i + 1 = omega arith in
+        skip (drop from R) from (i - from) (λ j l. get-drop from j ∙ g .2 (from + j) (omega arith) (omega arith)) (get-drop from (i - from) ∙ ap (has (setOf r)) e ∙ g .1)
+        ∙ ap₂ _∷_ e (ap₂ indicesFrom (ap suc e ∙ sym (add-one i)) (drop-drop (suc (i - from)) from R ∙ ap (λ (x : ℕ). drop x R) f))
+
+  module _ (from : ℕ) (out : Next) (g : IsNext (setOf r) from out) where
+    -- an index that was found: it is one of the fields, and the walk goes on behind it
+    module _ (i : ℕ) (e : out ≡ At i) where
+      pub next-ge : from ≤ i
+      next-ge = subst (IsNext (setOf r) from) e g .0
+
+      pub next-lt : i < length R
+      next-lt = at-lt from i (subst (IsNext (setOf r) from) e g)
+
+      pub next-yes : getD R i false ≡ true
+      next-yes = sym (contains-mask i) ∙ subst (IsNext (setOf r) from) e g .1
+
+      pub next-step : indicesAt from R ≡ i ∷ indicesAt (i + 1) R
+      next-step = at-step from i (subst (IsNext (setOf r) from) e g)
+
+    -- none was found: the walk ends
+    pub next-end : out ≡ Nothing → indicesAt from R ≡ []
+    unfolding indicesAt
+    next-end e = none (drop from R) from (λ j. get-drop from j ∙ subst (IsNext (setOf r) from) e g (from + j) (omega arith))
+
+  -- so there is one answer: the first place at or above `from` where the mask says yes
+  pub next-mask : (from : ℕ) (out : Next) → IsNext (setOf r) from out → out ≡ headNext (indicesAt from R)
+  next-mask from (At i) g = sym (ap headNext (next-step from (At i) g i refl))
+  next-mask from Nothing g = sym (ap headNext (next-end from Nothing g refl))
+
+-- as many indices as the mask counts, and what they select of as many things as there are fields
+pub indices-count : (R : Mask) → length (indicesAt 0 R) ≡ count R
+unfolding indicesAt
+indices-count R = indices-length 0 R
+
+pub select-at : {A : Type 0} (d : A) {R : Mask} {xs : List A} → Fit R xs → select R xs ≡ map (λ i. getD xs i d) (indicesAt 0 R)
+unfolding indicesAt
+select-at d f = select-indices d f

@@ -1,8 +1,7 @@
--- A set of indices is a number: i is in it where the number's binary digit i is 1. The same set as a mask, and as the set of a list of indices.
+-- A set of indices is a number: i is in it where the number's binary digit i is 1. The same set as a mask.
 use mathlib.Core.Bool.{Bool}
-use mathlib.Core.List.{List, [], _∷_}
+use mathlib.Core.List.{[], _∷_}
 use Prim.Native.Nat.{ℕ, zero, suc, _/_, _%_, _^_}
-use lib.Bits.{bitOr}
 use lib.Dec.{eqb}
 use Rattle.rules.specs.Mask.{Mask}
 
@@ -17,8 +16,3 @@ has s i = odd (s / 2 ^ i)
 unfoldable pub setMask : ℕ → ℕ → Mask
 setMask zero s = []
 setMask (suc n) s = odd s ∷ setMask n (s / 2)
-
--- the indices of a list, added one by one from the last
-unfoldable pub ofList : List ℕ → ℕ
-ofList [] = 0
-ofList (i ∷ is) = bitOr (ofList is) (2 ^ i)
