@@ -2,7 +2,7 @@
 use mathlib.Core.Path.{_≡_, refl, sym, _∙_, ap, ap₂, subst}
 use mathlib.Core.Bool.{Bool, true, false, _||_}
 use mathlib.Core.List.{List, [], _∷_, _++_, map}
-use Prim.Native.Nat.{ℕ, zero, suc, _^_, _<_, _≤_}
+use Prim.Native.Nat.{ℕ, zero, suc, _^_, _<_}
 use native.Mathlib.Nat.{le-refl, lt-of-lt-of-le}
 use native.Mathlib.Omega.{arith}
 use lib.Pow.{pow-lt, pow-mono}
@@ -17,7 +17,7 @@ use Rattle.required_indices.specs.Set.{has, setMask}
 use Rattle.required_indices.specs.Request.{setOf, Holds, Asks}
 use Rattle.required_indices.specs.declared.RequiredIndices.{RequiredIndices}
 use Rattle.required_indices.proofs.Members.{has-or, has-past, has-single}
-use Rattle.required_indices.proofs.Masks.{mask-length, mask-ext, mask-snoc}
+use Rattle.required_indices.proofs.Masks.{mask-ext, mask-snoc}
 use Rattle.required_indices.proofs.Singles.{or-false, mask-append}
 use Rattle.required_indices.proofs.Methods.{asks, new-asks, index-asks}
 

@@ -8,7 +8,9 @@ pub mod Building
 pub mod Walk
 pub mod Words
 pub mod Places
+pub mod Search
 pub mod Loops
 pub mod Parts
 pub mod Rest
 pub mod Shifts
+pub mod Determined

@@ -14,11 +14,12 @@ use Rattle.cpl.specs.Lists.{All, a[], _a∷_, Fit, z[], _z∷_}
 use Rattle.required_indices.specs.Words.{number, Word}
 use Rattle.required_indices.proofs.Words.{onesW}
 
-pub fit-words : (ws vs : List ℕ) → length ws ≡ length vs → Fit ws vs
-fit-words [] [] e = z[]
-fit-words [] (v ∷ vs) e = absurd (omega arith)
-fit-words (w ∷ ws) [] e = absurd (omega arith)
-fit-words (w ∷ ws) (v ∷ vs) e = tt z∷ fit-words ws vs (omega arith)
+-- lists of one length fit
+pub fit : {A B : Type 0} (xs : List A) (ys : List B) → length xs ≡ length ys → Fit xs ys
+fit [] [] e = z[]
+fit [] (y ∷ ys) e = absurd (omega arith)
+fit (x ∷ xs) [] e = absurd (omega arith)
+fit (x ∷ xs) (y ∷ ys) e = tt z∷ fit xs ys (omega arith)
 
 -- ---- a loop that writes the words of a list t, k of them done
 
@@ -69,13 +70,14 @@ number-inj (_ z∷ f) (_a∷_ {x = w} {xs = ws} h hs) (_a∷_ {x = v} {xs = vs} 
     let b : number ws ≡ number vs = omega arith in
     ap₂ _∷_ a (number-inj f hs ks b)
 
-module _ (ws vs : List ℕ) (k : ℕ) (e : take k ws ≡ take k vs) where
-  pub same-turn : k < length ws → k < length vs → getD ws k 0 ≡ getD vs k 0 → take (k + 1) ws ≡ take (k + 1) vs
-  same-turn l m d =
-      ap (λ (x : ℕ). take x ws) (add-one k) ∙ take-suc ws k 0 l ∙ ap₂ (λ (xs : List ℕ) (x : ℕ). xs ++ (x ∷ [])) e d ∙ sym (ap (λ (x : ℕ). take x vs) (add-one k) ∙ take-suc vs k 0 m)
+module _ (ws vs : List ℕ) (k : ℕ) (same : length ws ≡ length vs) where
+  pub same-turn : take k ws ≡ take k vs → k < length ws → getD ws k 0 ≡ getD vs k 0 → take (k + 1) ws ≡ take (k + 1) vs
+  same-turn e l d =
+      ap (λ (x : ℕ). take x ws) (add-one k) ∙ take-suc ws k 0 l ∙ ap₂ (λ (xs : List ℕ) (x : ℕ). xs ++ (x ∷ [])) e d
+      ∙ sym (ap (λ (x : ℕ). take x vs) (add-one k) ∙ take-suc vs k 0 (omega arith))
 
-  pub same-end : length ws ≤ k → length vs ≤ k → true ≡ eqb (number ws) (number vs)
-  same-end l m = sym (eq-eqb (number ws) (number vs) (ap number (sym (take-all k ws l) ∙ e ∙ take-all k vs m)))
+  pub same-end : take k ws ≡ take k vs → length ws ≤ k → true ≡ eqb (number ws) (number vs)
+  same-end e l = sym (eq-eqb (number ws) (number vs) (ap number (sym (take-all k ws l) ∙ e ∙ take-all k vs (omega arith))))
 
-pub same-not : (ws vs : List ℕ) (k : ℕ) → Fit ws vs → All Word ws → All Word vs → (getD ws k 0 ≡ getD vs k 0 → ⊥) → false ≡ eqb (number ws) (number vs)
-same-not ws vs k f hs ks d = sym (ne-eqb (number ws) (number vs) (λ g. d (ap (λ (xs : List ℕ). getD xs k 0) (number-inj f hs ks g))))
+  pub same-not : All Word ws → All Word vs → (getD ws k 0 ≡ getD vs k 0 → ⊥) → false ≡ eqb (number ws) (number vs)
+  same-not hs ks d = sym (ne-eqb (number ws) (number vs) (λ g. d (ap (λ (xs : List ℕ). getD xs k 0) (number-inj (fit ws vs same) hs ks g))))

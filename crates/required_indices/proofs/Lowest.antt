@@ -33,12 +33,3 @@ lowest-before (suc k) s zero h =
     ⊎-elim (λ w. absurd (omega arith)) (λ w. has-zero s ∙ ap (λ (x : ℕ). eqb x 1) (w .0)) (under-odd (s % 2) (trailingZeros k (s / 2)) (mod-lt s two-pos))
 lowest-before (suc k) s (suc j) h =
     ⊎-elim (λ w. absurd (omega arith)) (λ w. has-suc s j ∙ lowest-before k (s / 2) j (omega arith)) (under-odd (s % 2) (trailingZeros k (s / 2)) (mod-lt s two-pos))
-
-pub lowest-lt : (k s : ℕ) → 0 < s → s < 2 ^ k → trailingZeros k s < k
-unfolding trailingZeros
-lowest-lt zero s p h = absurd (omega (arith, lt-one h))
-lowest-lt (suc k) s p h =
-    ⊎-elim
-    (λ w. omega arith)
-    (λ w. let ih : trailingZeros k (s / 2) < k = lowest-lt k (s / 2) (omega (arith, div-add-mod' s 2)) (half-lt k h) in omega arith)
-    (under-odd (s % 2) (trailingZeros k (s / 2)) (mod-lt s two-pos))

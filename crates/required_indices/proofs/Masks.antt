@@ -11,7 +11,7 @@ use lib.Bits.{bitOr, or-shr, or-lt}
 use lib.Count.{ones, onesIn, ones-step}
 use lib.Dec.{eqb}
 use lib.ListN.{length, getD, take, drop}
-use Rattle.cpl.specs.Lists.{Fit, z[], _z∷_}
+use Rattle.cpl.specs.Lists.{z[], _z∷_}
 use Rattle.rules.specs.Mask.{Mask, orM, count, LeB, LeM}
 use Rattle.rules.specs.Mask as mask
 use Rattle.required_indices.specs.Set.{odd, has, setMask}
@@ -21,11 +21,6 @@ pub mask-length : (n s : ℕ) → length (setMask n s) ≡ n
 unfolding setMask
 mask-length zero s = refl
 mask-length (suc n) s = ap suc (mask-length n (s / 2))
-
-pub mask-fit : {A : Type 0} (s : ℕ) (xs : List A) → Fit (setMask (length xs) s) xs
-unfolding setMask
-mask-fit s [] = z[]
-mask-fit s (x ∷ xs) = tt z∷ mask-fit (s / 2) xs
 
 pub mask-at : (n s i : ℕ) → i < n → getD (setMask n s) i false ≡ has s i
 unfolding setMask
@@ -47,7 +42,7 @@ mask-or zero a b = refl
 mask-or (suc n) a b = ap₂ _∷_ (odd-or a b) (ap (setMask n) (or-shr a b 1) ∙ mask-or n (a / 2) (b / 2))
 
 -- split at k: the first k places, and the rest
-pub mask-take : (k n s : ℕ) → k ≤ n → take k (setMask n s) ≡ setMask k s
+mask-take : (k n s : ℕ) → k ≤ n → take k (setMask n s) ≡ setMask k s
 unfolding setMask
 mask-take zero n s h = refl
 mask-take (suc k) zero s h = absurd (omega arith)

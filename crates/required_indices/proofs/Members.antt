@@ -7,7 +7,7 @@ use Prim.Native.Nat.{ℕ, zero, suc, _+_, _-_, _/_, _%_, _^_, _≤_, _<_, max}
 use native.Mathlib.Nat.{mod-lt, div-one, div-eq-of-lt, lt-of-lt-of-le, mul-div-cancel, mul-mod-left, pow-suc, div-lt-iff-lt-mul}
 use native.Mathlib.Omega.{arith}
 use lib.Arith.{digits-div, digits-mod}
-use lib.Pow.{pow-pos, pow-mono, shr-shr, field, mod-mod-pow, ones-split}
+use lib.Pow.{pow-mono, shr-shr, field, mod-mod-pow, ones-split}
 use lib.Bits.{bitOr, or-step, or-shr}
 use lib.Dec.{eqb, leb, eqb·zero-suc, eqb·suc-zero, eqb·suc-suc}
 use borrow.Author.Tests.{leb-true, leb-false}
@@ -72,20 +72,12 @@ unfolding has
 has-mod s n i h =
     ap (λ (x : ℕ). odd (s % 2 ^ x / 2 ^ i)) (omega arith) ∙ ap odd (field s ((n - i - 1) + 1) i) ∙ ap (λ (x : ℕ). eqb x 1) (mod-mod-pow (s / 2 ^ i) (n - i - 1) 1)
 
-pub has-mod-past : (s n i : ℕ) → n ≤ i → has (s % 2 ^ n) i ≡ false
-has-mod-past s n i h = has-past n (mod-lt s (pow-pos n)) h
-
 -- all below n
 pub all-half : (n : ℕ) → (2 ^ suc n - 1) / 2 ≡ 2 ^ n - 1
 all-half n = ap (λ (x : ℕ). (2 ^ x - 1) / 2) (omega arith) ∙ ap (λ (x : ℕ). x / 2) (ones-split n 1) ∙ digits-div (2 ^ n - 1) {m = 2} {r = 1} (omega arith)
 
 pub all-odd : (n : ℕ) → (2 ^ suc n - 1) % 2 ≡ 1
 all-odd n = ap (λ (x : ℕ). (2 ^ x - 1) % 2) (omega arith) ∙ ap (λ (x : ℕ). x % 2) (ones-split n 1) ∙ digits-mod (2 ^ n - 1) {m = 2} {r = 1} (omega arith)
-
-pub has-all : (n i : ℕ) → i < n → has (2 ^ n - 1) i ≡ true
-has-all zero i h = absurd (omega arith)
-has-all (suc n) zero h = has-zero (2 ^ suc n - 1) ∙ ap (λ (x : ℕ). eqb x 1) (all-odd n)
-has-all (suc n) (suc i) h = has-suc (2 ^ suc n - 1) i ∙ ap (λ (x : ℕ). has x i) (all-half n) ∙ has-all n i (omega arith)
 
 pub has-single : (i j : ℕ) → has (2 ^ i) j ≡ eqb i j
 has-single zero zero = has-zero 1

@@ -1,5 +1,6 @@
 -- What each method of a request does to the mask that the request asks for. Every law takes what the method's contract says.
 use mathlib.Core.Path.{_≡_, refl, sym, _∙_, ap, ap₂, subst}
+use mathlib.Core.Logic.{⊎-elim}
 use mathlib.Core.Bool.{Bool, true, false}
 use mathlib.Core.List.{List, [], _∷_}
 use Prim.Native.Nat.{ℕ, _+_, _-_, _/_, _%_, _^_, _≤_, _<_}
@@ -9,7 +10,7 @@ use lib.Pow.{pow-pos, pow-lt, shr-lt}
 use lib.Bits.{bitOr, or-lt}
 use lib.Count.{ones}
 use lib.Dec.{eqb}
-use lib.ListN.{length, getD, take, drop}
+use lib.ListN.{length, getD, take, drop, List·getD-eq-default}
 use borrow.Author.Tests.{eqb-true, eqb-false, eq-eqb, ne-eqb}
 use Rattle.rules.specs.Mask.{Mask, orM, count, LeM}
 use Rattle.rules.specs.Mask as mask
@@ -17,7 +18,8 @@ use Rattle.rules.specs.Request.{maskOf}
 use Rattle.required_indices.specs.Set.{has, setMask}
 use Rattle.required_indices.specs.Request.{setOf, Holds, Asks}
 use Rattle.required_indices.specs.declared.RequiredIndices.{RequiredIndices}
-use Rattle.required_indices.proofs.Masks.{mask-length, mask-or, mask-below, mask-rest, mask-all, mask-none, mask-count, mask-empty, mask-inj, mask-le, le-mask}
+use Rattle.required_indices.proofs.Members.{side, has-past}
+use Rattle.required_indices.proofs.Masks.{mask-length, mask-at, mask-or, mask-below, mask-rest, mask-all, mask-none, mask-count, mask-empty, mask-inj, mask-le, le-mask}
 use Rattle.required_indices.proofs.Singles.{mask-single}
 
 -- a set over n fields asks for its mask
@@ -59,6 +61,14 @@ pub rest-asks : {r out : RequiredIndices} {R : Mask} {b : Bool} (k : ℕ) → As
 rest-asks {r} {R = R} k a l h =
     let whole : length R ≡ (length R - k) + k = omega arith in
     asks (length R - k) h (mask-rest k (length R) (setOf r) l ∙ ap (drop k) (a .mask)) (shr-lt (length R - k) k (subst (λ (x : ℕ). setOf r < 2 ^ x) whole (a .within)))
+
+-- contains: the mask's place i, and no past the fields
+pub contains-mask : {r : RequiredIndices} {R : Mask} → Asks r R → (i : ℕ) → has (setOf r) i ≡ getD R i false
+contains-mask {r} {R} a i =
+    ⊎-elim
+    (λ (l : length R ≤ i). has-past (length R) (a .within) l ∙ sym (List·getD-eq-default R false l))
+    (λ (l : i < length R). sym (mask-at (length R) (setOf r) i l) ∙ ap (λ (m : Mask). getD m i false) (a .mask))
+    (side (length R) i)
 
 -- len
 pub len-mask : {r : RequiredIndices} {R : Mask} → Asks r R → ones (setOf r) ≡ count R

@@ -9,7 +9,7 @@ use Rattle.cpl.specs.Lists.{All, Fit, z[], _z∷_}
 use Rattle.required_indices.specs.Words.{number, Word}
 use lib.Bits.{bitAnd, and-mask}
 use Rattle.required_indices.proofs.Words.{orW, number-or, allW, number-all, belowW, number-below}
-use Rattle.required_indices.proofs.Loops.{Filled, fit-words, fill-start, fill-turn, fill-end}
+use Rattle.required_indices.proofs.Loops.{Filled, fit, fill-start, fill-turn, fill-end}
 
 -- ---- the union
 
@@ -26,14 +26,14 @@ or-length (_ z∷ f) = ap suc (or-length f)
 
 module _ (ws vs cur : List ℕ) (k : ℕ) (same : length ws ≡ length vs) where
   pub or-start : cur ≡ ws → Filled (orW ws vs) cur 0
-  or-start e = fill-start (orW ws vs) cur (ap length e ∙ sym (or-length (fit-words ws vs same)))
+  or-start e = fill-start (orW ws vs) cur (ap length e ∙ sym (or-length (fit ws vs same)))
 
   module _ (j : Filled (orW ws vs) cur k) where
     pub or-turn : k < length ws → Filled (orW ws vs) (set cur k (bitOr (getD ws k 0) (getD vs k 0))) (k + 1)
-    or-turn l = fill-turn (orW ws vs) cur k j (bitOr (getD ws k 0) (getD vs k 0)) (omega (arith, or-length (fit-words ws vs same))) (sym (or-get (fit-words ws vs same) k))
+    or-turn l = fill-turn (orW ws vs) cur k j (bitOr (getD ws k 0) (getD vs k 0)) (omega (arith, or-length (fit ws vs same))) (sym (or-get (fit ws vs same) k))
 
     pub or-end : length ws ≤ k → All Word ws → All Word vs → number cur ≡ bitOr (number ws) (number vs)
-    or-end l hs ks = ap number (fill-end (orW ws vs) cur k j (omega (arith, or-length (fit-words ws vs same)))) ∙ number-or (fit-words ws vs same) hs ks
+    or-end l hs ks = ap number (fill-end (orW ws vs) cur k j (omega (arith, or-length (fit ws vs same)))) ∙ number-or (fit ws vs same) hs ks
 
 -- ---- all below n
 

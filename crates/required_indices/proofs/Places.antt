@@ -1,22 +1,17 @@
 -- A set in words by the index of a word: which indices it has, one index added, and the next index at digit `at` of word k.
-use mathlib.Core.Path.{_≡_, sym, _∙_, ap, ap₂, subst}
+use mathlib.Core.Path.{_≡_, sym, _∙_, ap, ap₂}
 use mathlib.Core.Logic.{⊎-elim}
-use mathlib.Core.Bool.{true, false}
 use mathlib.Core.List.{List, [], _∷_}
 use Prim.Native.Nat.{ℕ, suc, _+_, _-_, _*_, _/_, _%_, _^_, _≤_, _<_}
-use native.Mathlib.Nat.{lt-of-lt-of-le}
 use native.Mathlib.Omega.{arith}
-use lib.Pow.{pow-mono, shr-lt}
 use lib.Bits.{bitOr}
-use lib.Count.{trailingZeros}
 use lib.ListN.{length, getD, set}
 use mir.Val.{Fits}
 use mir.Syntax.{w64}
 use Rattle.cpl.specs.Lists.{All, a[], _a∷_}
 use Rattle.required_indices.specs.Set.{has}
 use Rattle.required_indices.specs.Words.{number, Word}
-use Rattle.required_indices.proofs.Members.{side, different, has-add, has-past, has-none}
-use Rattle.required_indices.proofs.Lowest.{lowest-has, lowest-before}
+use Rattle.required_indices.proofs.Members.{side, has-none}
 use Rattle.required_indices.proofs.Words.{number-has, number-has-past, number-add, number-add-past}
 
 -- the words of an array
@@ -58,37 +53,3 @@ add-at (_a∷_ {x = w} {xs = ws} h hs) i b =
     let m : i % 64 ≡ i = omega arith in
     ap₂ (λ (x y : ℕ). number (set (w ∷ ws) x (bitOr (getD (w ∷ ws) x 0) (2 ^ y)))) q m ∙ number-add w ws i h l)
     (side 64 i)
-
--- ---- a loop that looks for the next index, at digit `at` of word k
-
-module _ {ws : List ℕ} (hs : All Word ws) (k at : ℕ) (l : at < 64) where
-  digit : (j : ℕ) → k * 64 + at ≤ j → j < k * 64 + 64 → has (number ws) j ≡ has (getD ws k 0 / 2 ^ at) (j - (k * 64 + at))
-  digit j a b =
-      let q : j / 64 ≡ k = omega arith in
-      let m : j % 64 ≡ at + (j - (k * 64 + at)) = omega arith in
-      has-at hs j ∙ ap₂ (λ (x y : ℕ). has (getD ws x 0) y) q m ∙ has-add (getD ws k 0) at (j - (k * 64 + at))
-
-  pub word-none : getD ws k 0 / 2 ^ at ≡ 0 → (j : ℕ) → k * 64 + at ≤ j → j < k * 64 + 64 → has (number ws) j ≡ false
-  word-none e j a b = digit j a b ∙ ap (λ (x : ℕ). has x (j - (k * 64 + at))) e ∙ has-none (j - (k * 64 + at))
-
-  module _ (v : ℕ) (e : v ≡ getD ws k 0 / 2 ^ at) (p : 0 < v) (w : Word (getD ws k 0)) where
-    small : v < 2 ^ (64 - at)
-    small = subst (λ (x : ℕ). x < 2 ^ (64 - at)) (sym e) (shr-lt (64 - at) at (subst (λ (x : ℕ). getD ws k 0 < 2 ^ x) {x = 64} {y = (64 - at) + at} (omega arith) w))
-
-    whole : v < 2 ^ 64
-    whole = lt-of-lt-of-le small (pow-mono {i = 64 - at} {j = 64} (omega arith))
-
-    pub place-lt : at + trailingZeros 64 v < 64
-    place-lt =
-        ⊎-elim
-        (λ (g : 64 - at ≤ trailingZeros 64 v). absurd (different (sym (lowest-has 64 v p whole) ∙ has-past (64 - at) small g)))
-        (λ (g : trailingZeros 64 v < 64 - at). omega arith)
-        (side (64 - at) (trailingZeros 64 v))
-
-    pub place-has : has (number ws) (k * 64 + at + trailingZeros 64 v) ≡ true
-    place-has =
-        let z : k * 64 + at + trailingZeros 64 v - (k * 64 + at) ≡ trailingZeros 64 v = omega arith in
-        digit (k * 64 + at + trailingZeros 64 v) (omega arith) (omega (arith, place-lt)) ∙ ap₂ has (sym e) z ∙ lowest-has 64 v p whole
-
-    pub place-first : (j : ℕ) → k * 64 + at ≤ j → j < k * 64 + at + trailingZeros 64 v → has (number ws) j ≡ false
-    place-first j a b = digit j a (omega (arith, place-lt)) ∙ ap (λ (x : ℕ). has x (j - (k * 64 + at))) (sym e) ∙ lowest-before 64 v (j - (k * 64 + at)) (omega arith)

@@ -38,7 +38,7 @@ mask-iota (suc n) s k =
     let e : k + 1 ≡ suc k = omega arith in ap (odd (s / 2 ^ k) ∷_) (ap (setMask n) (shr-shr s k 1 ∙ ap (λ (x : ℕ). s / 2 ^ x) e) ∙ mask-iota n s (suc k))
 
 -- the mask, place by place
-pub mask-map : (n s : ℕ) → setMask n s ≡ map (has s) (iota 0 n)
+mask-map : (n s : ℕ) → setMask n s ≡ map (has s) (iota 0 n)
 mask-map n s = ap (setMask n) (sym (div-one s)) ∙ mask-iota n s 0
 
 -- a single index

@@ -6,7 +6,7 @@ use mathlib.Core.List.{List, [], _∷_, map}
 use Prim.Native.Nat.{ℕ, zero, suc, _+_, _-_, _≤_, _<_}
 use native.Mathlib.Numerals.{add-one}
 use native.Mathlib.Omega.{arith}
-use lib.ListN.{length, getD, drop, List·getD-eq-default}
+use lib.ListN.{length, getD, drop}
 use lib.Seq.{drop-drop, getD-drop}
 use Rattle.cpl.specs.Lists.{Fit, z[], _z∷_}
 use Rattle.rules.specs.Mask.{Mask, select, count}
@@ -16,7 +16,7 @@ use Rattle.required_indices.specs.declared.RequiredIndices.{RequiredIndi
 use Rattle.required_indices.specs.declared.Next.{Next}
 use Rattle.required_indices.specs.declared.Next.the-variants.{At, Nothing}
 use Rattle.required_indices.proofs.Members.{side, different, has-past}
-use Rattle.required_indices.proofs.Masks.{mask-at}
+use Rattle.required_indices.proofs.Methods.{contains-mask}
 
 -- the places that say yes, counted from k
 unfoldable pub indicesFrom : ℕ → Mask → List ℕ
@@ -74,16 +74,8 @@ headNext [] = Nothing
 headNext (i ∷ is) = At i
 
 module _ {r : RequiredIndices} {R : Mask} (a : Asks r R) where
-  -- is i in the set? Also past the fields.
-  pub contains-mask : (i : ℕ) → has (setOf r) i ≡ getD R i false
-  contains-mask i =
-      ⊎-elim
-      (λ (l : length R ≤ i). has-past (length R) (a .within) l ∙ sym (List·getD-eq-default R false l))
-      (λ (l : i < length R). sym (mask-at (length R) (setOf r) i l) ∙ ap (λ (m : Mask). getD m i false) (a .mask))
-      (side (length R) i)
-
   get-drop : (from j : ℕ) → getD (drop from R) j false ≡ has (setOf r) (from + j)
-  get-drop from j = getD-drop from R j false ∙ sym (contains-mask (from + j))
+  get-drop from j = getD-drop from R j false ∙ sym (contains-mask a (from + j))
 
   module _ (from i : ℕ) (g : IsNext (setOf r) from (At i)) where
     at-lt : i < length R
@@ -108,7 +100,7 @@ module _ {r : RequiredIndices} {R : Mask} (a : Asks r R) where
       next-lt = at-lt from i (subst (IsNext (setOf r) from) e g)
 
       pub next-yes : getD R i false ≡ true
-      next-yes = sym (contains-mask i) ∙ subst (IsNext (setOf r) from) e g .1
+      next-yes = sym (contains-mask a i) ∙ subst (IsNext (setOf r) from) e g .1
 
       pub next-step : indicesAt from R ≡ i ∷ indicesAt (i + 1) R
       next-step = at-step from i (subst (IsNext (setOf r) from) e g)

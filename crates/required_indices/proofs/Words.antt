@@ -125,7 +125,7 @@ number-below n (_a∷_ {x = w} {xs = ws} h hs) = let ih = number-below (n - 64) 
 
 -- ---- split: the others less n. First whole words, then fewer than 64 (or all 64) digits, each word taking its upper ones from the next
 
-pub number-tail : (w : ℕ) (ws : List ℕ) → Word w → number (w ∷ ws) / 2 ^ 64 ≡ number ws
+number-tail : (w : ℕ) (ws : List ℕ) → Word w → number (w ∷ ws) / 2 ^ 64 ≡ number ws
 unfolding number
 number-tail w ws h = high (number ws) 64 h
 

@@ -2,8 +2,7 @@
 use borrow.Author.Needs.{needs}
 use native.Mathlib.Omega.{arith}
 use Prim.Native.Nat.{_-_, _*_}
-use mathlib.Core.Path.{_≡_, refl, _∙_}
-use mathlib.Core.Bool.{false}
+use mathlib.Core.Path.{_≡_, refl}
 use lib.ListN.{length, set}
 use Rattle.required_indices.specs.Request.{wordsN, flagOf}
 use Rattle.required_indices.proofs.Loops.{Filled}

@@ -4,9 +4,9 @@ use native.Mathlib.Omega.{arith}
 use Prim.Native.Nat.{_-_}
 use mathlib.Core.Path.{_≡_, refl}
 use lib.ListN.{length, take}
-use Rattle.required_indices.proofs.Loops.{fit-words, same-end, same-not, same-turn}
-use Rattle.required_indices.proofs.Places.{words}
 use Rattle.required_indices.specs.Request.{wordsN}
+use Rattle.required_indices.proofs.Places.{words}
+use Rattle.required_indices.proofs.Loops.{same-turn, same-end, same-not}
 use Rattle.required_indices.proofs.RequiredIndices.equals.Statement.{statement}
 use Rattle.required_indices.proofs.RequiredIndices.equals.Tie as tie
 
@@ -33,9 +33,12 @@ element-copy-out-if1-2 c = search needs
 
 returns : tie.Need-returns Inv-loop μ-loop
 returns c =
-    let long : length (c .before .before .before .before .before .args .t1 .indices) ≡ wordsN = search needs in
-    let long′ : length (c .before .before .before .before .before .args .t2 .indices) ≡ wordsN = search needs in
-    same-not (c .before .before .before .before .before .args .t1 .indices) (c .before .before .before .before .before .args .t2 .indices) (c .before .before .before .before .loop .k) (fit-words (c .before .before .before .before .before .args .t1 .indices) (c .before .before .before .before .before .args .t2 .indices) (omega arith)) (words (c .before .before .before .before .before .args .t1 .indices) (λ i. search needs)) (words (c .before .before .before .before .before .args .t2 .indices) (λ i. search needs)) (c .if1 .taken)
+    let s = c .before .before .before .before in
+    let ws = s .before .args .t1 .indices in
+    let vs = s .before .args .t2 .indices in
+    let long : length ws ≡ wordsN = search needs in
+    let long′ : length vs ≡ wordsN = search needs in
+    same-not ws vs (s .loop .k) (omega arith) (words ws (λ i. search needs)) (words vs (λ i. search needs)) (c .if1 .taken)
 
 add-k : tie.Need-add-k Inv-loop μ-loop
 add-k c = search needs
@@ -45,15 +48,21 @@ loop-less c = omega arith
 
 loop-again : tie.Need-loop-again Inv-loop μ-loop
 loop-again c =
-    let long : length (c .before .before .before .before .before .args .t1 .indices) ≡ wordsN = search needs in
-    let long′ : length (c .before .before .before .before .before .args .t2 .indices) ≡ wordsN = search needs in
-    same-turn (c .before .before .before .before .before .args .t1 .indices) (c .before .before .before .before .before .args .t2 .indices) (c .before .before .before .before .loop .k) (c .before .before .before .before .loop .inv) (omega arith) (omega arith) (c .if1 .left)
+    let s = c .before .before .before .before in
+    let ws = s .before .args .t1 .indices in
+    let vs = s .before .args .t2 .indices in
+    let long : length ws ≡ wordsN = search needs in
+    let long′ : length vs ≡ wordsN = search needs in
+    same-turn ws vs (s .loop .k) (omega arith) (s .loop .inv) (omega arith) (c .if1 .left)
 
 returns-2 : tie.Need-returns-2 Inv-loop μ-loop
 returns-2 c =
-    let long : length (c .before .before .args .t1 .indices) ≡ wordsN = search needs in
-    let long′ : length (c .before .before .args .t2 .indices) ≡ wordsN = search needs in
-    same-end (c .before .before .args .t1 .indices) (c .before .before .args .t2 .indices) (c .before .loop .k) (c .before .loop .inv) (omega arith) (omega arith)
+    let s = c .before in
+    let ws = s .before .args .t1 .indices in
+    let vs = s .before .args .t2 .indices in
+    let long : length ws ≡ wordsN = search needs in
+    let long′ : length vs ≡ wordsN = search needs in
+    same-end ws vs (s .loop .k) (omega arith) (s .loop .inv) (omega arith)
 
 pub equals-spec : {M : Type 1} → statement M
 equals-spec =

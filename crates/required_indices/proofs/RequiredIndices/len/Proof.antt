@@ -4,10 +4,10 @@ use native.Mathlib.Omega.{arith}
 use Prim.Native.Nat.{_+_, _-_}
 use mathlib.Core.Path.{_≡_, ap}
 use lib.ListN.{length, drop, drop-of-length-le}
-use Rattle.required_indices.proofs.Loops.{ones-most, ones-turn}
-use Rattle.required_indices.proofs.Places.{words}
-use Rattle.required_indices.proofs.Words.{number-ones, onesW}
 use Rattle.required_indices.specs.Request.{wordsN}
+use Rattle.required_indices.proofs.Places.{words}
+use Rattle.required_indices.proofs.Words.{onesW, number-ones}
+use Rattle.required_indices.proofs.Loops.{ones-turn, ones-most}
 use Rattle.required_indices.proofs.RequiredIndices.len.Statement.{statement}
 use Rattle.required_indices.proofs.RequiredIndices.len.Tie as tie
 
@@ -28,13 +28,17 @@ element-copy-out-n c = search needs
 
 cast-n : tie.Need-cast-n Inv-loop μ-loop
 cast-n c =
-    let long : length (c .before .before .before .args .t1 .indices) ≡ wordsN = search needs in
-    omega (arith, ones-turn (c .before .before .before .args .t1 .indices) (c .before .before .loop .k) (omega arith), ones-most (words (c .before .before .before .args .t1 .indices) (λ i. search needs)))
+    let s = c .before .before in
+    let ws = s .before .args .t1 .indices in
+    let long : length ws ≡ wordsN = search needs in
+    omega (arith, ones-turn ws (s .loop .k) (omega arith), ones-most (words ws (λ i. search needs)))
 
 add-n : tie.Need-add-n Inv-loop μ-loop
 add-n c =
-    let long : length (c .before .before .before .args .t1 .indices) ≡ wordsN = search needs in
-    omega (arith, ones-turn (c .before .before .before .args .t1 .indices) (c .before .before .loop .k) (omega arith), ones-most (words (c .before .before .before .args .t1 .indices) (λ i. search needs)))
+    let s = c .before .before in
+    let ws = s .before .args .t1 .indices in
+    let long : length ws ≡ wordsN = search needs in
+    omega (arith, ones-turn ws (s .loop .k) (omega arith), ones-most (words ws (λ i. search needs)))
 
 add-k : tie.Need-add-k Inv-loop μ-loop
 add-k c = search needs
@@ -44,14 +48,18 @@ loop-less c = omega arith
 
 loop-again : tie.Need-loop-again Inv-loop μ-loop
 loop-again c =
-    let long : length (c .before .before .before .args .t1 .indices) ≡ wordsN = search needs in
-    omega (arith, ones-turn (c .before .before .before .args .t1 .indices) (c .before .before .loop .k) (omega arith))
+    let s = c .before .before in
+    let ws = s .before .args .t1 .indices in
+    let long : length ws ≡ wordsN = search needs in
+    omega (arith, ones-turn ws (s .loop .k) (omega arith))
 
 returns : tie.Need-returns Inv-loop μ-loop
 unfolding onesW
 returns c =
-    let long : length (c .before .before .args .t1 .indices) ≡ wordsN = search needs in
-    omega (arith, number-ones (words (c .before .before .args .t1 .indices) (λ i. search needs)), ap onesW (drop-of-length-le (c .before .before .args .t1 .indices) {i = c .before .loop .k} (omega arith)))
+    let s = c .before in
+    let ws = s .before .args .t1 .indices in
+    let long : length ws ≡ wordsN = search needs in
+    omega (arith, number-ones (words ws (λ i. search needs)), ap onesW (drop-of-length-le ws {i = s .loop .k} (omega arith)))
 
 pub len-spec : {M : Type 1} → statement M
 len-spec =

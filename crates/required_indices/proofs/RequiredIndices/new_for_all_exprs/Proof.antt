@@ -2,12 +2,11 @@
 use borrow.Author.Needs.{needs}
 use native.Mathlib.Omega.{arith}
 use Prim.Native.Nat.{_-_, _*_}
-use mathlib.Core.Path.{_≡_, refl, _∙_}
+use mathlib.Core.Path.{_≡_}
 use mathlib.Core.Bool.{false}
-use lib.ListN.{length, set}
+use lib.ListN.{set}
 use Rattle.required_indices.specs.Request.{wordsN, flagOf}
 use Rattle.required_indices.proofs.Loops.{Filled}
-use Rattle.required_indices.proofs.Places.{words}
 use Rattle.required_indices.proofs.Words.{allW}
 use Rattle.required_indices.proofs.Parts.{all-start, all-turn, all-end}
 use Rattle.required_indices.proofs.RequiredIndices.new_for_all_exprs.Statement.{statement}

@@ -1,31 +1,26 @@
 -- `required_indices::RequiredIndices::next` meets its contract.
 use borrow.Author.Needs.{needs}
 use native.Mathlib.Omega.{arith}
-use Prim.Native.Nat.{ℕ, _+_, _-_, _*_, _^_, _/_, _≤_, _<_}
-use mathlib.Core.Path.{_≡_, refl, subst}
+use Prim.Native.Nat.{_-_, _/_, _^_}
+use mathlib.Core.Path.{_≡_}
 use lib.ListN.{length, getD}
+use Rattle.required_indices.specs.Request.{wordsN}
+use Rattle.required_indices.proofs.Places.{words}
 use mir.Val.{Fits}
 use mir.Syntax.{w64}
-use mathlib.Core.Logic.{⊎-elim}
-use mathlib.Core.Bool.{false}
 use lib.Count.{trailing-le}
-use Rattle.required_indices.proofs.Members.{has-past, side}
-use Rattle.required_indices.proofs.Places.{words, place-first, place-has, word-none}
-use Rattle.required_indices.proofs.Words.{number-lt}
-use Rattle.required_indices.specs.Request.{wordsN}
-use Rattle.required_indices.specs.Set.{has}
-use Rattle.required_indices.specs.Words.{number}
+use Rattle.required_indices.proofs.Search.{Searched, search-start, search-turn, search-found, search-end}
 use Rattle.required_indices.proofs.RequiredIndices.next.Statement.{statement}
 use Rattle.required_indices.proofs.RequiredIndices.next.Tie as tie
 
 abbrev Inv-loop : tie.InvT-loop
-Inv-loop from self k₀ at₀ k at = (at < 64) × (from ≤ k * 64 + at) × ((j : ℕ) → from ≤ j → j < k * 64 + at → has (number (self .indices)) j ≡ false)
+Inv-loop from self k₀ at₀ k at = Searched (self .indices) from k at
 
 abbrev μ-loop : tie.MeasureT-loop
 μ-loop from self k₀ at₀ k at = wordsN - k
 
 loop-holds : tie.Need-loop-holds Inv-loop μ-loop
-loop-holds c = (omega arith, omega arith, λ j a b. absurd (omega arith))
+loop-holds c = search-start (c .args .t1 .indices) (c .args .from)
 
 mul-w : tie.Need-mul-w Inv-loop μ-loop
 mul-w c = search needs
@@ -43,17 +38,23 @@ add-t14 : tie.Need-add-t14 Inv-loop μ-loop
 add-t14 c = omega arith
 
 cast-t16 : tie.Need-cast-t16 Inv-loop μ-loop
-cast-t16 c = omega (arith, trailing-le 64 (getD (c .before .before .before .before .args .t1 .indices) (c .before .before .before .loop .k) 0 / 2 ^ c .before .before .before .loop .at))
+cast-t16 c =
+    let s = c .before .before .before in
+    let ws = s .before .args .t1 .indices in
+    omega (arith, trailing-le 64 (getD ws (s .loop .k) 0 / 2 ^ s .loop .at))
 
 add-t17 : tie.Need-add-t17 Inv-loop μ-loop
-add-t17 c = omega (arith, trailing-le 64 (getD (c .before .before .before .before .args .t1 .indices) (c .before .before .before .loop .k) 0 / 2 ^ c .before .before .before .loop .at))
+add-t17 c =
+    let s = c .before .before .before in
+    let ws = s .before .args .t1 .indices in
+    omega (arith, trailing-le 64 (getD ws (s .loop .k) 0 / 2 ^ s .loop .at))
 
 returns : tie.Need-returns Inv-loop μ-loop
-returns c = (
-  omega arith,
-  place-has (words (c .before .before .before .before .args .t1 .indices) (λ i. search needs)) (c .before .before .before .loop .k) (c .before .before .before .loop .at) (omega arith) (getD (c .before .before .before .before .args .t1 .indices) (c .before .before .before .loop .k) 0 / 2 ^ c .before .before .before .loop .at) refl (omega arith) (let f : Fits w64 (getD (c .before .before .before .before .args .t1 .indices) (c .before .before .before .loop .k) 0) = search needs in f .fits),
-  λ j a b. ⊎-elim (λ (g : c .before .before .before .loop .k * 64 + c .before .before .before .loop .at ≤ j). place-first (words (c .before .before .before .before .args .t1 .indices) (λ i. search needs)) (c .before .before .before .loop .k) (c .before .before .before .loop .at) (omega arith) (getD (c .before .before .before .before .args .t1 .indices) (c .before .before .before .loop .k) 0 / 2 ^ c .before .before .before .loop .at) refl (omega arith) (let f : Fits w64 (getD (c .before .before .before .before .args .t1 .indices) (c .before .before .before .loop .k) 0) = search needs in f .fits) j g b) (λ (g : j < c .before .before .before .loop .k * 64 + c .before .before .before .loop .at). c .before .before .before .loop .inv .2 j a g) (side (c .before .before .before .loop .k * 64 + c .before .before .before .loop .at) j),
-)
+returns c =
+    let s = c .before .before .before in
+    let ws = s .before .args .t1 .indices in
+    let fits : Fits w64 (getD ws (s .loop .k) 0) = search needs in
+    search-found (words ws (λ i. search needs)) (s .before .args .from) (s .loop .k) (s .loop .at) (s .loop .inv) (c .if1 .taken) (fits .fits)
 
 add-k : tie.Need-add-k Inv-loop μ-loop
 add-k c = omega arith
@@ -62,19 +63,16 @@ loop-less : tie.Need-loop-less Inv-loop μ-loop
 loop-less c = omega arith
 
 loop-again : tie.Need-loop-again Inv-loop μ-loop
-loop-again c = (
-  omega arith,
-  omega arith,
-  λ j a b. ⊎-elim (λ (g : c .before .before .before .loop .k * 64 + c .before .before .before .loop .at ≤ j). word-none (words (c .before .before .before .before .args .t1 .indices) (λ i. search needs)) (c .before .before .before .loop .k) (c .before .before .before .loop .at) (omega arith) (c .if1 .left) j g (omega arith)) (λ (g : j < c .before .before .before .loop .k * 64 + c .before .before .before .loop .at). c .before .before .before .loop .inv .2 j a g) (side (c .before .before .before .loop .k * 64 + c .before .before .before .loop .at) j),
-)
+loop-again c =
+    let s = c .before .before .before in
+    search-turn (words (s .before .args .t1 .indices) (λ i. search needs)) (s .before .args .from) (s .loop .k) (s .loop .at) (s .loop .inv) (c .if1 .left)
 
 returns-2 : tie.Need-returns-2 Inv-loop μ-loop
 returns-2 c =
-    let long : length (c .before .before .args .t1 .indices) ≡ wordsN = search needs in
-    λ j a. ⊎-elim
-    (λ (g : c .before .loop .k * 64 + c .before .loop .at ≤ j). has-past (wordsN * 64) (subst (λ (x : ℕ). number (c .before .before .args .t1 .indices) < 2 ^ (x * 64)) long (number-lt (words (c .before .before .args .t1 .indices) (λ i. search needs)))) (omega arith))
-    (λ (g : j < c .before .loop .k * 64 + c .before .loop .at). c .before .loop .inv .2 j a g)
-    (side (c .before .loop .k * 64 + c .before .loop .at) j)
+    let s = c .before in
+    let ws = s .before .args .t1 .indices in
+    let long : length ws ≡ wordsN = search needs in
+    search-end (words ws (λ i. search needs)) (s .before .args .from) (s .loop .k) (s .loop .at) (s .loop .inv) (omega arith)
 
 pub next-spec : {M : Type 1} → statement M
 next-spec =
