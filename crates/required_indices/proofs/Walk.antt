@@ -3,7 +3,7 @@ use mathlib.Core.Path.{_≡_, refl, sym, _∙_, ap, ap₂, subst}
 use mathlib.Core.Logic.{⊎-elim}
 use mathlib.Core.Bool.{true, false}
 use mathlib.Core.List.{List, [], _∷_, map}
-use Prim.Native.Nat.{ℕ, zero, suc, _+_, _-_, _≤_, _<_}
+use Prim.Native.Nat.{ℕ, zero, suc, _+_, _-_, _^_, _≤_, _<_}
 use native.Mathlib.Numerals.{add-one}
 use native.Mathlib.Omega.{arith}
 use lib.ListN.{length, getD, drop}
@@ -73,14 +73,22 @@ abbrev pub headNext : List ℕ → Next
 headNext [] = Nothing
 headNext (i ∷ is) = At i
 
+-- an index that was found is at or above `from`, and below every bound of the set
+module _ (s from : ℕ) (out : Next) (g : IsNext s from out) (i : ℕ) (e : out ≡ At i) where
+  here : IsNext s from (At i)
+  here = subst (IsNext s from) e g
+
+  pub next-ge : from ≤ i
+  next-ge = here .0
+
+  pub next-below : (n : ℕ) → s < 2 ^ n → i < n
+  next-below n h = ⊎-elim (λ (l : n ≤ i). absurd (different (sym (here .1) ∙ has-past n h l))) (λ (l : i < n). l) (side n i)
+
 module _ {r : RequiredIndices} {R : Mask} (a : Asks r R) where
   get-drop : (from j : ℕ) → getD (drop from R) j false ≡ has (setOf r) (from + j)
   get-drop from j = getD-drop from R j false ∙ sym (contains-mask a (from + j))
 
   module _ (from i : ℕ) (g : IsNext (setOf r) from (At i)) where
-    at-lt : i < length R
-    at-lt = ⊎-elim (λ (l : length R ≤ i). absurd (different (sym (g .1) ∙ has-past (length R) (a .within) l))) (λ (l : i < length R). l) (side (length R) i)
-
     at-step : indicesAt from R ≡ i ∷ indicesAt (i + 1) R
     unfolding indicesAt
     at-step =
@@ -93,17 +101,14 @@ module _ {r : RequiredIndices} {R : Mask} (a : Asks r R) where
   module _ (from : ℕ) (out : Next) (g : IsNext (setOf r) from out) where
     -- an index that was found: it is one of the fields, and the walk goes on behind it
     module _ (i : ℕ) (e : out ≡ At i) where
-      pub next-ge : from ≤ i
-      next-ge = subst (IsNext (setOf r) from) e g .0
-
       pub next-lt : i < length R
-      next-lt = at-lt from i (subst (IsNext (setOf r) from) e g)
+      next-lt = next-below (setOf r) from out g i e (length R) (a .within)
 
       pub next-yes : getD R i false ≡ true
-      next-yes = sym (contains-mask a i) ∙ subst (IsNext (setOf r) from) e g .1
+      next-yes = sym (contains-mask a i) ∙ here (setOf r) from out g i e .1
 
       pub next-step : indicesAt from R ≡ i ∷ indicesAt (i + 1) R
-      next-step = at-step from i (subst (IsNext (setOf r) from) e g)
+      next-step = at-step from i (here (setOf r) from out g i e)
 
     -- none was found: the walk ends
     pub next-end : out ≡ Nothing → indicesAt from R ≡ []
