@@ -17,6 +17,9 @@ ghost use Rattle.required_indices.specs.Request.{wordsN, setOf, flagOf, 
 // The number of words; `wordsN` of specs/Request.antt is the same.
 const WORDS: usize = 2;
 
+// The number of indices that a set can have.
+const INDICES: usize = WORDS * 64;
+
 /// The Rust's `RequiredIndices`: indices in order and without duplicates, and whether putting a
 /// projection above the children is beneficial for the parent.
 pub struct RequiredIndices {
@@ -110,7 +113,7 @@ impl RequiredIndices {
         ensures { λ r. ⌜ r ≡ has (setOf self) i ⌝ }
     {
         let k = i / 64;
-        if k < WORDS {
+        if i < INDICES {
             (self.indices[k] >> (i % 64)) % 2 == 1
         } else {
             false
