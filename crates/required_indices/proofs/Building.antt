@@ -47,7 +47,9 @@ field-yes {r} {R = R} a h =
     let n : ℕ = length R in
     let s : ℕ = setOf r in
     let inside : has (bitOr s (2 ^ n)) n ≡ true = has-or s (2 ^ n) n ∙ ap₂ _||_ (has-past n (a .within) (le-refl n)) (has-single n n ∙ eq-eqb n n refl) in
-    let before : setMask n (bitOr s (2 ^ n)) ≡ setMask n s = mask-ext n (bitOr s (2 ^ n)) s (λ i l. has-or s (2 ^ n) i ∙ ap (λ (t : Bool). has s i || t) (has-single n i ∙ ne-eqb n i (λ e. omega arith)) ∙ sym (or-false (has s i))) in
+    let other : (i : ℕ) → i < n → has (2 ^ n) i ≡ false = λ i l. has-single n i ∙ ne-eqb n i (λ e. omega arith) in
+    let before : setMask n (bitOr s (2 ^ n)) ≡ setMask n s =
+    mask-ext n (bitOr s (2 ^ n)) s (λ i l. has-or s (2 ^ n) i ∙ ap (λ (t : Bool). has s i || t) (other i l) ∙ sym (or-false (has s i))) in
     asks (suc n) h (mask-snoc n (bitOr s (2 ^ n)) ∙ ap₂ (λ (m : Mask) (t : Bool). m ++ (t ∷ [])) (before ∙ a .mask) inside)
     (or-lt (suc n) s (2 ^ n) (lt-of-lt-of-le (a .within) (pow-mono (omega arith))) (pow-lt (omega arith)))
 

@@ -41,6 +41,12 @@ unfolding setMask orM
 mask-or zero a b = refl
 mask-or (suc n) a b = ap₂ _∷_ (odd-or a b) (ap (setMask n) (or-shr a b 1) ∙ mask-or n (a / 2) (b / 2))
 
+pub length-or : (R Q : Mask) → length R ≡ length Q → length (orM R Q) ≡ length R
+unfolding orM
+length-or [] Q e = refl
+length-or (x ∷ R) [] e = absurd (omega arith)
+length-or (x ∷ R) (y ∷ Q) e = ap suc (length-or R Q (omega arith))
+
 -- split at k: the first k places, and the rest
 mask-take : (k n s : ℕ) → k ≤ n → take k (setMask n s) ≡ setMask k s
 unfolding setMask

@@ -51,7 +51,9 @@ append-asks {r} {q} {R = R} {Q} a c same h =
 
 -- with_index: the mask with a one, as the rules give the list of that index alone
 pub index-asks : {r out : RequiredIndices} {R : Mask} {b : Bool} (i : ℕ) → Asks r R → i < length R → Holds out (bitOr (setOf r) (2 ^ i)) b → Asks out (orM R (maskOf (length R) (i ∷ [])))
-index-asks {r} {R = R} i a l h = asks (length R) h (mask-or (length R) (setOf r) (2 ^ i) ∙ ap₂ orM (a .mask) (mask-single (length R) i)) (or-lt (length R) (setOf r) (2 ^ i) (a .within) (pow-lt l))
+index-asks {r} {R = R} i a l h =
+    asks (length R) h (mask-or (length R) (setOf r) (2 ^ i) ∙ ap₂ orM (a .mask) (mask-single (length R) i))
+    (or-lt (length R) (setOf r) (2 ^ i) (a .within) (pow-lt l))
 
 -- split_off: the first k fields, and the others
 pub below-asks : {r out : RequiredIndices} {R : Mask} {b : Bool} (k : ℕ) → Asks r R → k ≤ length R → Holds out (setOf r % 2 ^ k) b → Asks out (take k R)
@@ -105,7 +107,12 @@ module _ {r q : RequiredIndices} {R Q : Mask} (a : Asks r R) (c : Asks q Q) (sam
 
   -- contains_all: the mask of r has all that of q
   pub contains-all-mask : eqb (bitOr (setOf q) (setOf r)) (setOf r) ≡ true → LeM Q R
-  contains-all-mask e = subst (λ (m : Mask). LeM m R) maskQ (subst (LeM (setMask (length R) (setOf q))) (a .mask) (mask-le (length R) (setOf q) (setOf r) (eqb-true (bitOr (setOf q) (setOf r)) (setOf r) e)))
+  contains-all-mask e =
+      let s : ℕ = bitOr (setOf q) (setOf r) in
+      rw (maskQ, a .mask) at (mask-le (length R) (setOf q) (setOf r) (eqb-true s (setOf r) e))
 
   pub mask-contains-all : LeM Q R → eqb (bitOr (setOf q) (setOf r)) (setOf r) ≡ true
-  mask-contains-all l = eq-eqb (bitOr (setOf q) (setOf r)) (setOf r) (le-mask (length R) (setOf q) (setOf r) withinQ (a .within) (subst (λ (m : Mask). LeM m (setMask (length R) (setOf r))) (sym maskQ) (subst (LeM Q) (sym (a .mask)) l)))
+  mask-contains-all l =
+      let s : ℕ = bitOr (setOf q) (setOf r) in
+      let le : LeM (setMask (length R) (setOf q)) (setMask (length R) (setOf r)) = rw (maskQ, a .mask) l in
+      eq-eqb s (setOf r) (le-mask (length R) (setOf q) (setOf r) withinQ (a .within) le)

@@ -47,21 +47,27 @@ add-at : tie.Need-add-at Inv-loop μ-loop
 add-at c =
     let s = c .before .before .before .before .before .before .before in
     let r = s .before .args .r in
-    let b = found r (search needs) (words (r .indices) (λ j. search needs)) (s .loop .at) (c .before .before .before .before .before .before .next .result) (c .before .before .before .before .before .before .next .ensures) (c .before .before .before .before .i .given .0 .0) (c .before .before .before .before .i .given .1) in
+    let n = c .before .before .before .before .before .before .next in
+    let i = c .before .before .before .before .i in
+    let b = found r (search needs) (words (r .indices) (λ j. search needs)) (s .loop .at) (n .result) (n .ensures) (i .given .0 .0) (i .given .1) in
     omega arith
 
 loop-less : tie.Need-loop-less Inv-loop μ-loop
 loop-less c =
     let s = c .before .before .before .before .before .before .before in
     let r = s .before .args .r in
-    let b = found r (search needs) (words (r .indices) (λ j. search needs)) (s .loop .at) (c .before .before .before .before .before .before .next .result) (c .before .before .before .before .before .before .next .ensures) (c .before .before .before .before .i .given .0 .0) (c .before .before .before .before .i .given .1) in
+    let n = c .before .before .before .before .before .before .next in
+    let i = c .before .before .before .before .i in
+    let b = found r (search needs) (words (r .indices) (λ j. search needs)) (s .loop .at) (n .result) (n .ensures) (i .given .0 .0) (i .given .1) in
     omega arith
 
 loop-again : tie.Need-loop-again Inv-loop μ-loop
 loop-again c =
     let s = c .before .before .before .before .before .before .before in
     let r = s .before .args .r in
-    let b = found r (search needs) (words (r .indices) (λ j. search needs)) (s .loop .at) (c .before .before .before .before .before .before .next .result) (c .before .before .before .before .before .before .next .ensures) (c .before .before .before .before .i .given .0 .0) (c .before .before .before .before .i .given .1) in
+    let n = c .before .before .before .before .before .before .next in
+    let i = c .before .before .before .before .i in
+    let b = found r (search needs) (words (r .indices) (λ j. search needs)) (s .loop .at) (n .result) (n .ensures) (i .given .0 .0) (i .given .1) in
     omega arith
 
 enum-told : tie.Need-enum-told Inv-loop μ-loop
