@@ -77,7 +77,7 @@ impl RequiredIndices {
     }
 
     /// Every index below width. Rust: `new_for_all_exprs`, which takes the width from the plan's
-    /// schema. A plan has at most 128 fields.
+    /// schema. Requires a width of at most 128, which every plan that was accepted has.
     pub fn new_for_all_exprs(width: usize) -> Self
         requires { ⌜ width ≤ wordsN * 64 ⌝ }
         ensures { λ r. ⌜ Holds r (2 ^ width - 1) false ⌝ }
@@ -120,8 +120,8 @@ impl RequiredIndices {
         }
     }
 
-    /// The index i added. Rust: the push and `compact` of `add_expr`. An index of a field is below
-    /// 128.
+    /// The index i added; the flag stays. Rust: the push and `compact` of `add_expr`. Requires an
+    /// index below 128, which every field's is.
     pub fn with_index(mut self, i: usize) -> Self
         requires { ⌜ i < wordsN * 64 ⌝ }
         ensures { λ r. ⌜ Holds r (bitOr (setOf self) (2 ^ i)) (flagOf self) ⌝ }
