@@ -2,7 +2,6 @@
 use mathlib.Core.Path.{_≡_, refl, sym, _∙_, ap, subst}
 use mathlib.Core.Logic.{_⊎_, inl, inr}
 use mathlib.Core.Bool.{Bool, true, false, _||_}
-use mathlib.Core.List.{[]}
 use Prim.Native.Nat.{ℕ, zero, suc, _+_, _-_, _/_, _%_, _^_, _≤_, _<_, max}
 use native.Mathlib.Nat.{mod-lt, div-one, div-eq-of-lt, lt-of-lt-of-le, mul-div-cancel, mul-mod-left, pow-suc, div-lt-iff-lt-mul}
 use native.Mathlib.Omega.{arith}
@@ -13,6 +12,7 @@ use lib.Dec.{eqb, leb, eqb·zero-suc, eqb·suc-zero, eqb·suc-suc}
 use borrow.Author.Tests.{leb-true, leb-false}
 use Rattle.required_indices.specs.Set.{odd, has}
 
+-- two numbers compared
 pub side : (a b : ℕ) → (a ≤ b) ⊎ (b < a)
 side a b = by (leb a b) refl
   where
@@ -20,15 +20,18 @@ side a b = by (leb a b) refl
     by true e = inl (leb-true a b e)
     by false e = inr (leb-false a b e)
 
+-- yes is not no
 pub different : true ≡ false → ⊥
 different z = let y : _≡_ {A = ℕ} 0 1 = cc in omega arith
 
+-- half of a number
 pub two-pos : 0 < 2
 two-pos = omega arith
 
 pub half-lt : {s : ℕ} (n : ℕ) → s < 2 ^ suc n → s / 2 < 2 ^ n
 half-lt {s} n h = div-lt-iff-lt-mul two-pos .1 (subst (λ (x : ℕ). s < x) (pow-suc 2 n) h)
 
+-- the lowest digit, and those above k
 pub has-zero : (s : ℕ) → has s 0 ≡ odd s
 unfolding has
 has-zero s = ap odd (div-one s)

@@ -1,6 +1,5 @@
 -- A word shifted up.
 use mathlib.Core.Path.{_≡_, _∙_, ap, ap₂}
-use mathlib.Core.List.{[]}
 use Prim.Native.Nat.{ℕ, _+_, _-_, _*_, _%_, _^_, _≤_, _<_}
 use native.Mathlib.Nat.{mul-mod-left, mod-eq-of-lt}
 use native.Mathlib.Omega.{arith}
