@@ -1,0 +1,78 @@
+-- `required_indices::RequiredIndices::len` meets its contract.
+use borrow.Author.Needs.{needs}
+use native.Mathlib.Omega.{arith}
+use Prim.Native.Nat.{_+_, _-_}
+use mathlib.Core.Path.{_≡_, ap}
+use lib.ListN.{length, drop, drop-of-length-le}
+use Rattle.required_indices.specs.Request.{wordsN}
+use Rattle.required_indices.proofs.Places.{words}
+use Rattle.required_indices.proofs.Words.{onesW, number-ones}
+use Rattle.required_indices.proofs.Loops.{ones-turn, ones-most}
+use Rattle.required_indices.proofs.RequiredIndices.len.Statement.{statement}
+use Rattle.required_indices.proofs.RequiredIndices.len.Tie as tie
+
+abbrev Inv-loop : tie.InvT-loop
+Inv-loop self n₀ k₀ n k = n + onesW (drop k (self .indices)) ≡ onesW (self .indices)
+
+abbrev μ-loop : tie.MeasureT-loop
+μ-loop self n₀ k₀ n k = wordsN - k
+
+loop-holds : tie.Need-loop-holds Inv-loop μ-loop
+loop-holds c = omega arith
+
+mul-n : tie.Need-mul-n Inv-loop μ-loop
+mul-n c = search needs
+
+element-copy-out-n : tie.Need-element-copy-out-n Inv-loop μ-loop
+element-copy-out-n c = search needs
+
+cast-n : tie.Need-cast-n Inv-loop μ-loop
+cast-n c =
+    let s = c .before .before in
+    let ws = s .before .args .t1 .indices in
+    let long : length ws ≡ wordsN = search needs in
+    omega (arith, ones-turn ws (s .loop .k) (omega arith), ones-most (words ws (λ i. search needs)))
+
+add-n : tie.Need-add-n Inv-loop μ-loop
+add-n c =
+    let s = c .before .before in
+    let ws = s .before .args .t1 .indices in
+    let long : length ws ≡ wordsN = search needs in
+    omega (arith, ones-turn ws (s .loop .k) (omega arith), ones-most (words ws (λ i. search needs)))
+
+add-k : tie.Need-add-k Inv-loop μ-loop
+add-k c = search needs
+
+loop-less : tie.Need-loop-less Inv-loop μ-loop
+loop-less c = omega arith
+
+loop-again : tie.Need-loop-again Inv-loop μ-loop
+loop-again c =
+    let s = c .before .before in
+    let ws = s .before .args .t1 .indices in
+    let long : length ws ≡ wordsN = search needs in
+    omega (arith, ones-turn ws (s .loop .k) (omega arith))
+
+returns : tie.Need-returns Inv-loop μ-loop
+unfolding onesW
+returns c =
+    let s = c .before in
+    let ws = s .before .args .t1 .indices in
+    let long : length ws ≡ wordsN = search needs in
+    omega (arith, number-ones (words ws (λ i. search needs)), ap onesW (drop-of-length-le ws {i = s .loop .k} (omega arith)))
+
+pub len-spec : {M : Type 1} → statement M
+len-spec =
+    tie.close
+    (tie.spec
+    Inv-loop
+    μ-loop
+    loop-holds
+    mul-n
+    element-copy-out-n
+    cast-n
+    add-n
+    add-k
+    loop-less
+    loop-again
+    returns)

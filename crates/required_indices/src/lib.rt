@@ -1,0 +1,254 @@
+//! required_indices: the set of field indices that are asked of a plan node. Port of
+//! `optimize_projections/required_indices.rs`.
+//!
+//! The Rust keeps a sorted `Vec` of indices. Here a set over 128 indices stands in two words: index
+//! i is in it where digit i of the words, the lowest word first, is 1. Every contract says what a set
+//! is by `setOf`, the number that the words hold; `proofs/Methods.antt` says the same by masks.
+ghost use mathlib.Core.Path.{_≡_};
+ghost use mathlib.Core.Bool.{true, false};
+ghost use Prim.Native.Nat.{_-_, _*_, _/_, _%_, _^_, _≤_, _<_, min};
+ghost use lib.Bits.{bitOr};
+ghost use lib.Count.{ones};
+ghost use lib.Dec.{eqb};
+ghost use lib.ListN.{getD};
+ghost use Rattle.required_indices.specs.Set.{has};
+ghost use Rattle.required_indices.specs.Request.{wordsN, setOf, flagOf, Holds, IsNext};
+
+// The number of words; `wordsN` of specs/Request.antt is the same.
+const WORDS: usize = 2;
+
+// The number of indices that a set can have.
+const INDICES: usize = WORDS * 64;
+
+/// The Rust's `RequiredIndices`: indices in order and without duplicates, and whether putting a
+/// projection above the children is beneficial for the parent.
+pub struct RequiredIndices {
+    indices: [u64; WORDS],
+    projection_beneficial: bool,
+}
+
+/// The next index of a set, if there is one.
+pub enum Next {
+    At(usize),
+    Nothing,
+}
+
+/// A set split at n: the indices below n, and the others less n.
+pub struct Split {
+    pub below: RequiredIndices,
+    pub rest: RequiredIndices,
+}
+
+// The n lowest digits of a word, all 64 where n is more.
+fn low_bits(n: usize) -> u64
+    ensures { λ r. ⌜ r ≡ 2 ^ min n 64 - 1 ⌝ }
+{
+    if n < 64 {
+        (1u64 << n) - 1
+    } else {
+        0xffff_ffff_ffff_ffff
+    }
+}
+
+// The n lowest digits of a word, as the uppermost of the word below it.
+fn carry(w: u64, n: usize) -> u64
+    requires { ⌜ n < 64 ⌝ }
+    ensures { λ r. ⌜ r ≡ (w % 2 ^ n) * 2 ^ (64 - n) ⌝ }
+{
+    if n == 0 { 0 } else { w << (64 - n) }
+}
+
+// Less 64, and no less than 0.
+fn less(n: usize) -> usize
+    ensures { λ r. ⌜ r ≡ n - 64 ⌝ }
+{
+    if n < 64 { 0 } else { n - 64 }
+}
+
+impl RequiredIndices {
+    /// No index. Rust: `new`.
+    pub fn new() -> Self
+        ensures { λ r. ⌜ Holds r 0 false ⌝ }
+    {
+        Self {
+            indices: [0u64; WORDS],
+            projection_beneficial: false,
+        }
+    }
+
+    /// Every index below width. Rust: `new_for_all_exprs`, which takes the width from the plan's
+    /// schema. Requires a width of at most 128, which every plan that was accepted has.
+    pub fn new_for_all_exprs(width: usize) -> Self
+        requires { ⌜ width ≤ wordsN * 64 ⌝ }
+        ensures { λ r. ⌜ Holds r (2 ^ width - 1) false ⌝ }
+    {
+        let mut out = RequiredIndices::new();
+        let mut left = width;
+        let mut k = 0;
+        while k < WORDS {
+            out.indices[k] = low_bits(left);
+            left = less(left);
+            k += 1;
+        }
+        out
+    }
+
+    /// The same set, with the flag set. Rust: `with_projection_beneficial`.
+    pub fn with_projection_beneficial(mut self) -> Self
+        ensures { λ r. ⌜ Holds r (setOf self) true ⌝ }
+    {
+        self.projection_beneficial = true;
+        self
+    }
+
+    /// The flag. Rust: `projection_beneficial`.
+    pub fn projection_beneficial(self) -> bool
+        ensures { λ r. ⌜ r ≡ flagOf self ⌝ }
+    {
+        self.projection_beneficial
+    }
+
+    /// Whether i is in the set. Rust: `indices().contains(&i)`.
+    pub fn contains(self, i: usize) -> bool
+        ensures { λ r. ⌜ r ≡ has (setOf self) i ⌝ }
+    {
+        let k = i / 64;
+        if i < INDICES {
+            (self.indices[k] >> (i % 64)) % 2 == 1
+        } else {
+            false
+        }
+    }
+
+    /// The index i added; the flag stays. Rust: the push and `compact` of `add_expr`. Requires an
+    /// index below 128, which every field's is.
+    pub fn with_index(mut self, i: usize) -> Self
+        requires { ⌜ i < wordsN * 64 ⌝ }
+        ensures { λ r. ⌜ Holds r (bitOr (setOf self) (2 ^ i)) (flagOf self) ⌝ }
+    {
+        let k = i / 64;
+        self.indices[k] = self.indices[k] | (1u64 << (i % 64));
+        self
+    }
+
+    /// All indices of other added; the flag stays. Rust: `append`.
+    pub fn append(self, other: RequiredIndices) -> Self
+        ensures { λ r. ⌜ Holds r (bitOr (setOf self) (setOf other)) (flagOf self) ⌝ }
+    {
+        let mut out = self;
+        let mut k = 0;
+        while k < WORDS {
+            out.indices[k] = self.indices[k] | other.indices[k];
+            k += 1;
+        }
+        out
+    }
+
+    /// How many indices there are. Rust: `indices().len()`.
+    pub fn len(self) -> usize
+        ensures { λ r. ⌜ r ≡ ones (setOf self) ⌝ }
+    {
+        let mut n: usize = 0;
+        let mut k = 0;
+        while k < WORDS {
+            n += u64::count_ones(self.indices[k]) as usize;
+            k += 1;
+        }
+        n
+    }
+
+    /// The first index at or above from. Rust: a turn of `indices().iter()`.
+    pub fn next(self, from: usize) -> Next
+        ensures { λ r. ⌜ IsNext (setOf self) from r ⌝ }
+    {
+        let mut k = from / 64;
+        let mut at = from % 64;
+        while k < WORDS {
+            let w = self.indices[k] >> at;
+            if w != 0 {
+                return Next::At(k * 64 + at + u64::trailing_zeros(w) as usize);
+            }
+            at = 0;
+            k += 1;
+        }
+        Next::Nothing
+    }
+
+    /// The indices below n, and the others less n; both keep the flag. Rust: `split_off`.
+    pub fn split_off(self, n: usize) -> Split
+        ensures { λ r. ⌜ Holds (r .below) (setOf self % 2 ^ n) (flagOf self) ⌝ }
+        ensures { λ r. ⌜ Holds (r .rest) (setOf self / 2 ^ n) (flagOf self) ⌝ }
+    {
+        let below = self.below(n);
+        let rest = self.rest(n);
+        Split { below, rest }
+    }
+
+    // The indices below n. Rust: the first half of `partition`.
+    fn below(self, n: usize) -> RequiredIndices
+        ensures { λ r. ⌜ Holds r (setOf self % 2 ^ n) (flagOf self) ⌝ }
+    {
+        let mut out = self;
+        let mut left = n;
+        let mut k = 0;
+        while k < WORDS {
+            out.indices[k] = self.indices[k] & low_bits(left);
+            left = less(left);
+            k += 1;
+        }
+        out
+    }
+
+    // The indices from n on, less n. Rust: the second half of `partition`, and `map_indices`.
+    fn rest(self, n: usize) -> RequiredIndices
+        ensures { λ r. ⌜ Holds r (setOf self / 2 ^ n) (flagOf self) ⌝ }
+    {
+        let mut out = self;
+        let q = n / 64;
+        let m = n % 64;
+        let mut k = 0;
+        while k < WORDS {
+            let w = self.word(q + k);
+            let v = self.word(q + k + 1);
+            out.indices[k] = (w >> m) | carry(v, m);
+            k += 1;
+        }
+        out
+    }
+
+    // A word, and 0 past the last.
+    fn word(self, k: usize) -> u64
+        ensures { λ r. ⌜ r ≡ getD (self .indices) k 0 ⌝ }
+    {
+        if k < WORDS { self.indices[k] } else { 0 }
+    }
+
+    /// Whether the two sets have the same indices. Rust: `==` of `indices()`.
+    pub fn equals(self, other: RequiredIndices) -> bool
+        ensures { λ r. ⌜ r ≡ eqb (setOf self) (setOf other) ⌝ }
+    {
+        let mut k = 0;
+        while k < WORDS {
+            if self.indices[k] != other.indices[k] {
+                return false;
+            }
+            k += 1;
+        }
+        true
+    }
+
+    /// Whether there is no index. Rust: `indices().is_empty()`.
+    pub fn is_empty(self) -> bool
+        ensures { λ r. ⌜ r ≡ eqb (setOf self) 0 ⌝ }
+    {
+        self.equals(RequiredIndices::new())
+    }
+
+    /// Whether each index of other is in the set. Rust: `iter().all(|i| indices().contains(i))`.
+    pub fn contains_all(self, other: RequiredIndices) -> bool
+        ensures { λ r. ⌜ r ≡ eqb (bitOr (setOf other) (setOf self)) (setOf self) ⌝ }
+    {
+        let both = other.append(self);
+        both.equals(self)
+    }
+}

@@ -1,0 +1,92 @@
+//! sets_show: runs the request sets at the edges of their words and writes what they answer.
+ghost use Prim.Native.Nat.{_≤_};
+use required_indices::Next;
+use required_indices::RequiredIndices;
+
+fn text(s: &[u8]) {
+    io::write_all(1, s);
+}
+
+fn number(n: usize) {
+    io::print_decimal(1, n as u64);
+}
+
+fn answer(b: bool) {
+    if b {
+        text(b" yes");
+    } else {
+        text(b" no");
+    }
+}
+
+// The indices of a set in order.
+fn indices(r: RequiredIndices) {
+    let mut at = 0;
+    loop {
+        match r.next(at) {
+            Next::At(i) => {
+                text(b" ");
+                number(i);
+                at = i + 1;
+            }
+            Next::Nothing => {
+                text(b"\n");
+                return;
+            }
+        }
+    }
+}
+
+// Whether r has n, and its two parts at n.
+fn parts(r: RequiredIndices, n: usize) {
+    text(b"at ");
+    number(n);
+    answer(r.contains(n));
+    text(b"\n  below:");
+    let s = r.split_off(n);
+    indices(s.below);
+    text(b"  rest:");
+    indices(s.rest);
+}
+
+// All indices below n: how many, whether r has all of them, what r is with them, whether that is all below 128.
+fn all(r: RequiredIndices, n: usize)
+    requires { ⌜ n ≤ 128 ⌝ }
+{
+    let a = RequiredIndices::new_for_all_exprs(n);
+    let both = r.append(a);
+    let whole = RequiredIndices::new_for_all_exprs(128);
+    text(b"all below ");
+    number(n);
+    text(b": ");
+    number(a.len());
+    answer(a.is_empty());
+    answer(r.contains_all(a));
+    answer(whole.contains_all(a));
+    text(b" ");
+    number(both.len());
+    answer(both.equals(whole));
+    answer(both.projection_beneficial());
+    text(b"\n");
+}
+
+fn main() {
+    let r = RequiredIndices::new()
+        .with_index(127)
+        .with_index(0)
+        .with_index(64)
+        .with_index(63)
+        .with_index(0);
+    text(b"set:");
+    indices(r);
+    parts(r, 0);
+    parts(r, 63);
+    parts(r, 64);
+    parts(r, 127);
+    parts(r, 128);
+    all(r, 0);
+    all(r, 63);
+    all(r, 64);
+    all(r, 127);
+    all(r.with_projection_beneficial(), 128);
+}
