@@ -1,6 +1,6 @@
 -- What acceptance says of a plan, node by node and without node numbers: `check` finds no fault exactly where `Accepted` holds.
-use mathlib.Core.Path.{_≡_, refl, _∙_, ap, ap₂}
-use mathlib.Core.List.{List, [], _∷_, _++_, map}
+use mathlib.Core.Path.{_≡_, refl, ap₂}
+use mathlib.Core.List.{List}
 use mathlib.Core.Bool.{Bool, true, false, not, true≢false}
 use mathlib.Core.Option.{Option, none, some}
 use Prim.Native.Nat.{ℕ, suc, _+_, _≤_}
@@ -12,7 +12,7 @@ use Rattle.cpl.specs.Codes.{CLASH, UNKNOWN, WIDTH, FIELDS}
 use Rattle.cpl.specs.Plan.{Pair, Binary, union, join, Plan, leaf, unary, binary, Catalogue}
 use Rattle.cpl.specs.Exprs.{known, unaryExprs, planNodes}
 use Rattle.cpl.specs.Fields.{leafFields, unaryFields, binaryFields, fieldsOf}
-use Rattle.cpl.specs.Accept.{clash, knownBinary, even, together, Fault, fault, _then_, must, nodeFault, check}
+use Rattle.cpl.specs.Accept.{clash, knownBinary, even, together, Fault, _then_, must, nodeFault, check}
 use Rattle.cpl.proofs.Clash.{Clear, clear, no-clash, clear-join}
 
 -- a node without a fault

@@ -1,11 +1,11 @@
 -- Field lists without a clash: no two pairs are equal, and parts of such lists are such lists.
-use mathlib.Core.Path.{_≡_, refl}
-use mathlib.Core.List.{List, [], _∷_, _++_, map}
-use mathlib.Core.Bool.{Bool, true, false, not, _||_}
+use mathlib.Core.Path.{_≡_}
+use mathlib.Core.List.{List, [], _∷_, _++_}
+use mathlib.Core.Bool.{false, not}
 use lib.Dec.{T}
 use Rattle.cpl.specs.Tests.{anyB}
 use Rattle.cpl.specs.Lists.{All, a[], _a∷_}
-use Rattle.cpl.specs.Plan.{Pair, pair, eqP, JoinType, j-inner, j-left, j-right, j-full, j-lsemi, j-lanti, j-rsemi, j-ranti}
+use Rattle.cpl.specs.Plan.{Pair, eqP, JoinType, j-inner, j-left, j-right, j-full, j-lsemi, j-lanti, j-rsemi, j-ranti}
 use Rattle.cpl.specs.Fields.{joinFields}
 use Rattle.cpl.specs.Accept.{halfNamed, conflict, clash}
 use Rattle.cpl.proofs.Bools.{nor, nor-T, is-false}

@@ -1,6 +1,6 @@
 -- The fields of a writable plan are writable pairs.
 use mathlib.Core.Path.{_≡_, refl, ap}
-use mathlib.Core.List.{List, [], _∷_, _++_, map}
+use mathlib.Core.List.{List, []}
 use mathlib.Core.Option.{Option, none, some}
 use Prim.Native.Nat.{ℕ, zero, suc, _+_, _<_, _≤_}
 use native.Mathlib.Omega.{arith}
@@ -10,7 +10,7 @@ use Rattle.cpl.specs.Limits.{maxColumns}
 use Rattle.cpl.specs.Lists.{All, a[], _a∷_}
 use Rattle.cpl.specs.Plan.{Pair, pair, Item, bare, named, Agg, agg, Win, win, JoinType, j-inner, j-left, j-right, j-full, j-lsemi, j-lanti, j-rsemi, j-ranti, Leaf, scan, empty, Unary, projection, filter, sort, limit, aggregate, window, subqueryAlias, distinct, Binary, union, join, Plan, leaf, unary, binary, Catalogue, itemPair, aggPair, winPair}
 use Rattle.cpl.specs.Fields.{columnsOf, scanField, leafFields, requalify, unaryFields, joinFields, binaryFields, fieldsOf}
-use Rattle.cpl.specs.Writable.{FitList, FitName, FitPair, FitItem, FitAgg, FitWin, FitColumns, FitLeaf, FitUnary, FitBinary, FitPlan, FitCatalogue}
+use Rattle.cpl.specs.Writable.{FitList, FitName, FitPair, FitItem, FitAgg, FitWin, FitColumns, FitLeaf, FitUnary, FitPlan, FitCatalogue}
 use Rattle.cpl.proofs.Lists.{All-map, All-mapped, All-++}
 
 pub All-getD : {A : Type 0} {P : A → Type 0} (d : A) {xs : List A} (i : ℕ) → All P xs → i < length xs → P (getD xs i d)

@@ -1,13 +1,13 @@
 -- Laws of lists: of `map`, and of what holds of each element (`All`) or of two lists place by place (`All2`, `Fit`).
-use mathlib.Core.Path.{_≡_, refl, sym, _∙_, ap, ap₂}
+use mathlib.Core.Path.{_≡_, refl, ap, ap₂}
 use mathlib.Core.List.{List, [], _∷_, _++_, map}
-use mathlib.Core.Bool.{Bool, true, false, cond, _&&_}
-use Prim.Native.Nat.{ℕ, zero, suc, _≤_}
+use mathlib.Core.Bool.{Bool, true, false, cond}
+use Prim.Native.Nat.{suc}
 use native.Mathlib.Omega.{arith}
 use lib.Dec.{T}
 use lib.ListN.{length, take, drop}
 use Rattle.cpl.specs.Tests.{allB, concatMap}
-use Rattle.cpl.specs.Lists.{All, a[], _a∷_, All2, z[], _z∷_, Fit}
+use Rattle.cpl.specs.Lists.{All, a[], _a∷_, z[], _z∷_, Fit}
 use Rattle.cpl.proofs.Bools.{halves, both-T}
 
 -- ── map ─────────────────────────────────────────────────────────────────────────────────────

@@ -1,6 +1,5 @@
 -- Every refusal of reading has a code from 2 to 6, and every fault of acceptance one from 7 to 10.
-use mathlib.Core.Path.{_≡_, refl}
-use mathlib.Core.Bool.{Bool, true, false, not, _&&_}
+use mathlib.Core.Bool.{Bool, true, false}
 use mathlib.Core.List.{List, [], _∷_}
 use mathlib.Core.Option.{Option, none, some}
 use Prim.Native.Nat.{ℕ, zero, suc, _+_, _≤_}
@@ -8,9 +7,9 @@ use native.Mathlib.Omega.{arith}
 use lib.Dec.{ltb, leb, eqb}
 use lib.ListN.{length, getD}
 use Rattle.cpl.specs.Limits.{maxTables, maxColumns, maxItems, maxKeys, maxNodes, maxTags, maxFields}
-use Rattle.cpl.specs.Codes.{MARK, CUT, VALUE, MANY, TAIL, CLASH, UNKNOWN, WIDTH, FIELDS, aliasTag}
-use Rattle.cpl.specs.Plan.{Pair, Expr, Plan, leaf, unary, binary, Catalogue, Source}
-use Rattle.cpl.specs.Read.{Res, ok, bad, Reader, andThen, _>>=_, give, refuse, pick, here, field, value, isNot, nonzero, below, count, any, tag, nodeTag, times, counted}
+use Rattle.cpl.specs.Codes.{VALUE, MANY, CLASH, UNKNOWN, WIDTH, FIELDS, aliasTag}
+use Rattle.cpl.specs.Plan.{Pair, Plan, leaf, unary, binary, Catalogue}
+use Rattle.cpl.specs.Read.{Res, ok, bad, Reader, andThen, give, refuse, pick, here, field, value, isNot, nonzero, below, count, any, tag, nodeTag, times, counted}
 use Rattle.cpl.specs.ReadExpr.{readPair, readColumn, readLiteral, leafRest, exprRest, exprTo, readExpr, readAlias, readBare, readItem, readKey, readCall, readAgg, readWin, readOn}
 use Rattle.cpl.specs.ReadPlan.{Head, h0, h1, h2, readLimit, readAggregate, readCond, readJoin, readColumns, readScan, readEmpty, readHead, readInputs, planTo, starts, markBytes, readMark, readCatalogue, readEnd, readSource, readFile}
 use Rattle.cpl.specs.Accept.{Fault, fault, _then_, must, nodeFault, check}

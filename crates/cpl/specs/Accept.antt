@@ -1,5 +1,5 @@
 -- Acceptance: codes 7 to 10 of document 01, each with its node. "8, 9, 10, 7 at each node, children first, left before right."
-use mathlib.Core.List.{List, [], _∷_, _++_, map}
+use mathlib.Core.List.{List, [], _∷_, _++_}
 use mathlib.Core.Bool.{Bool, true, false, cond, not, _&&_, _||_}
 use mathlib.Core.Option.{Option, none, some}
 use Prim.Native.Nat.{ℕ, suc, _+_}
@@ -8,7 +8,7 @@ use lib.ListN.{length}
 use Rattle.cpl.specs.Tests.{anyB, allB}
 use Rattle.cpl.specs.Limits.{maxFields}
 use Rattle.cpl.specs.Codes.{CLASH, UNKNOWN, WIDTH, FIELDS}
-use Rattle.cpl.specs.Plan.{Pair, pair, eqP, Expr, On, on, Unary, Binary, union, join, Plan, leaf, unary, binary, Catalogue}
+use Rattle.cpl.specs.Plan.{Pair, pair, eqP, On, on, Binary, union, join, Plan, leaf, unary, binary, Catalogue}
 use Rattle.cpl.specs.Exprs.{known, unaryExprs, condExprs, planNodes}
 use Rattle.cpl.specs.Fields.{leafFields, unaryFields, binaryFields, fieldsOf}
 

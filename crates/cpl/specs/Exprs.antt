@@ -2,9 +2,9 @@
 use mathlib.Core.List.{List, [], _∷_, _++_, map}
 use mathlib.Core.Bool.{Bool, true, false, cond, _&&_, _||_}
 use mathlib.Core.Option.{Option, none, some}
-use Prim.Native.Nat.{ℕ, zero, suc, _+_}
-use Rattle.cpl.specs.Tests.{anyB, allB, concatMap, sumOf}
-use Rattle.cpl.specs.Plan.{Pair, pair, eqP, Op1, Op2, Expr, col, lit, miss, un, bin, Item, bare, named, Key, key, Call, rows, over, Agg, agg, Win, win, On, on, Leaf, scan, empty, Unary, projection, filter, sort, limit, aggregate, window, subqueryAlias, distinct, Binary, union, join, Plan, leaf, unary, binary, itemExpr, keyExpr, onLeft, onRight}
+use Prim.Native.Nat.{ℕ, suc, _+_}
+use Rattle.cpl.specs.Tests.{anyB, concatMap, sumOf}
+use Rattle.cpl.specs.Plan.{Pair, eqP, Expr, col, lit, miss, un, bin, Item, bare, named, Key, Call, rows, over, Agg, agg, Win, win, On, on, Unary, projection, filter, sort, limit, aggregate, window, subqueryAlias, distinct, Binary, union, join, Plan, leaf, unary, binary, itemExpr, keyExpr}
 
 -- ── the expressions of a node ───────────────────────────────────────────────────────────────
 

@@ -1,10 +1,10 @@
 -- The fields of a plan: document 01's "Fields and meaning", first paragraph.
-use mathlib.Core.List.{List, [], _∷_, _++_, map}
+use mathlib.Core.List.{List, [], _++_, map}
 use mathlib.Core.Option.{Option, none, some}
 use Prim.Native.Nat.{ℕ}
 use lib.ListN.{length, getD}
 use Rattle.cpl.specs.Tests.{iota}
-use Rattle.cpl.specs.Plan.{Pair, pair, Expr, Item, JoinType, j-inner, j-left, j-right, j-full, j-lsemi, j-lanti, j-rsemi, j-ranti, Leaf, scan, empty, Unary, projection, filter, sort, limit, aggregate, window, subqueryAlias, distinct, Binary, union, join, Plan, leaf, unary, binary, Catalogue, itemPair, aggPair, winPair}
+use Rattle.cpl.specs.Plan.{Pair, pair, JoinType, j-inner, j-left, j-right, j-full, j-lsemi, j-lanti, j-rsemi, j-ranti, Leaf, scan, empty, Unary, projection, filter, sort, limit, aggregate, window, subqueryAlias, distinct, Binary, union, join, Plan, leaf, unary, binary, Catalogue, itemPair, aggPair, winPair}
 
 -- the columns of a scan: "the names at its projection, or all"
 unfoldable pub columnsOf : List ℕ → Option (List ℕ) → List ℕ

@@ -1,12 +1,10 @@
 -- How a file's bytes are read as expressions, items and the other parts of a node: document 01's first table.
-use Prim.Native.Nat.{ℕ, zero, suc, _+_, _/_, _%_}
-use mathlib.Core.Bool.{Bool, true, false}
-use mathlib.Core.List.{List, [], _∷_}
-use lib.Dec.{ltb, leb, eqb}
+use Prim.Native.Nat.{ℕ, zero, suc, _/_, _%_}
+use lib.Dec.{ltb, eqb}
 use Rattle.cpl.specs.Limits.{maxTags, maxKeys}
 use Rattle.cpl.specs.Codes.{VALUE, MANY, op1Of, op2Of, aliasTag, signed, fnOf}
 use Rattle.cpl.specs.Plan.{Pair, pair, Expr, col, lit, miss, un, bin, Item, bare, named, Key, key, Call, rows, over, Agg, agg, Win, win, On, on}
-use Rattle.cpl.specs.Read.{Res, Reader, _>>=_, _>>_, give, refuse, pick, here, field, value, nonzero, below, count, any, tag, times, counted}
+use Rattle.cpl.specs.Read.{Reader, _>>=_, give, refuse, pick, here, field, nonzero, below, any, tag, counted}
 
 -- "A pair is u16 qualifier (0 = none), u16 name (never 0)."
 unfoldable pub readPair : Reader Pair

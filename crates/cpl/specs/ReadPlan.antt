@@ -1,14 +1,14 @@
 -- How a file's bytes are read as a plan: document 01's second table, its header and its end.
-use Prim.Native.Nat.{ℕ, zero, suc, _+_}
-use mathlib.Core.Bool.{Bool, true, false, not, _&&_, _||_}
+use Prim.Native.Nat.{ℕ, zero, suc}
+use mathlib.Core.Bool.{Bool, true, false, not, _&&_}
 use mathlib.Core.List.{List, [], _∷_}
 use mathlib.Core.Option.{Option, none, some}
 use lib.ListN.{length, getD}
-use lib.Dec.{ltb, leb, eqb}
+use lib.Dec.{eqb}
 use Rattle.cpl.specs.Limits.{maxTables, maxColumns, maxItems, maxKeys, maxNodes, noFetch}
 use Rattle.cpl.specs.Codes.{MARK, VALUE, MANY, TAIL, joinOf}
-use Rattle.cpl.specs.Plan.{Pair, Expr, Item, Leaf, scan, empty, Unary, projection, filter, sort, limit, aggregate, window, subqueryAlias, distinct, Binary, union, join, Plan, leaf, unary, binary, Catalogue, Source}
-use Rattle.cpl.specs.Read.{Res, ok, bad, Reader, _>>=_, _>>_, give, refuse, pick, here, field, isNot, nonzero, below, count, any, nodeTag, times, counted}
+use Rattle.cpl.specs.Plan.{Expr, Leaf, scan, empty, Unary, projection, filter, sort, limit, aggregate, window, subqueryAlias, distinct, Binary, union, join, Plan, leaf, unary, binary, Catalogue, Source}
+use Rattle.cpl.specs.Read.{Res, ok, bad, Reader, _>>=_, give, refuse, pick, here, field, isNot, nonzero, below, any, nodeTag, counted}
 use Rattle.cpl.specs.ReadExpr.{readPair, readExpr, readItem, readKey, readAgg, readWin, readOn}
 
 -- ── nodes without their inputs ──────────────────────────────────────────────────────────────

@@ -1,10 +1,8 @@
 -- What can be written in a plan file: each number fits its field, each count its limit, each name is one. Every plan that a file reads as is so.
-use Prim.Native.Nat.{ℕ, zero, suc, _+_, _^_, _<_, _≤_}
-use mathlib.Core.Bool.{Bool}
-use mathlib.Core.List.{List, [], _∷_}
+use Prim.Native.Nat.{ℕ, _+_, _^_, _<_, _≤_}
+use mathlib.Core.List.{List, []}
 use mathlib.Core.Option.{Option, none, some}
 use lib.ListN.{length, getD}
-use lib.IntN.{ℤ, pos, negsuc}
 use lib.Signed.{mag}
 use Rattle.cpl.specs.Limits.{maxTables, maxColumns, maxItems, maxKeys, maxNodes, maxTags, noFetch}
 use Rattle.cpl.specs.Lists.{All}

@@ -1,52 +1,20 @@
 -- Union and Join: where each rewritten input has exactly what was asked of it, the rewritten node is the old node narrowed.
 use mathlib.Core.Path.{sym, _∙_, ap₂}
 use mathlib.Core.List.{List, _++_, map}
-use mathlib.Core.Bool.{false}
-use lib.Dec.{T}
-use lib.ListN.{length}
 use Rattle.cpl.specs.Lists.{Fit}
-use Rattle.cpl.specs.Plan.{Pair, JoinType, j-inner, j-left, j-right, j-full, j-lsemi, j-lanti, j-rsemi, j-ranti, Binary, union, join, Plan, binary, Catalogue}
+use Rattle.cpl.specs.Plan.{Pair, Binary, union, join, Plan, binary, Catalogue}
 use Rattle.cpl.specs.Fields.{joinFields, binaryFields, fieldsOf}
-use Rattle.cpl.specs.Accept.{even}
-use Rattle.cpl.proofs.Lists.{map-++, Fit-map, Fit-trans, Fit-sym, take-fit, drop-fit}
-use Rattle.rules.specs.Mask.{Mask, select, zeros, LeM}
+use Rattle.cpl.proofs.Lists.{map-++}
+use Rattle.rules.specs.Mask.{Mask, select}
 use Rattle.rules.specs.Rules.{plus, leftPart, rightPart, leftExprs, rightExprs, leftAsk, rightAsk, binaryKept}
-use Rattle.rules.proofs.Masks.{LeM-refl, LeM-parts}
-use Rattle.rules.proofs.BinaryKinds.{join-fields}
+use Rattle.rules.proofs.Masks.{LeM-refl}
+use Rattle.rules.proofs.Asked.{plus-cov, plus-fit, plus-keeps, part-fits, join-keeps, join-fields}
 use Rattle.meaning.specs.Value.{Row, Log}
 use Rattle.meaning.specs.Joins.{matches, binaryRows}
 use Rattle.meaning.specs.Meaning.{meaning}
-use Rattle.meaning.proofs.Wide.{WideRows, even-fit}
+use Rattle.meaning.proofs.Wide.{WideRows}
 use Rattle.meaning.proofs.Joins.{matches-select, joinRows-select}
-use Rattle.meaning.proofs.Rows.{Narrowed, plus-cov, plus-fit, plus-keeps}
-
--- a join's request, split: each part fits its side
-part-fits : (t : JoinType) (fl fr : List Pair) {R : Mask} → Fit R (joinFields t fl fr) → Fit (leftPart t fl R) fl × Fit (rightPart t fl fr R) fr
-unfolding joinFields leftPart rightPart zeros
-part-fits j-inner fl fr f = (take-fit fl fr f, drop-fit fl fr f)
-part-fits j-left fl fr f = (take-fit fl fr f, drop-fit fl fr f)
-part-fits j-right fl fr f = (take-fit fl fr f, drop-fit fl fr f)
-part-fits j-full fl fr f = (take-fit fl fr f, drop-fit fl fr f)
-part-fits j-lsemi fl fr f = (f, Fit-map (λ g. false) fr)
-part-fits j-lanti fl fr f = (f, Fit-map (λ g. false) fr)
-part-fits j-rsemi fl fr f = (Fit-map (λ g. false) fl, f)
-part-fits j-ranti fl fr f = (Fit-map (λ g. false) fl, f)
-
-join-keeps : (t : JoinType) (fl fr : List Pair) (R : Mask) {Kl Kr : Mask} → LeM (leftPart t fl R) Kl → LeM (rightPart t fl fr R) Kr → LeM R (joinFields t Kl Kr)
-unfolding leftPart rightPart joinFields
-join-keeps j-inner fl fr R h k = LeM-parts (length fl) R h k
-join-keeps j-left fl fr R h k = LeM-parts (length fl) R h k
-join-keeps j-right fl fr R h k = LeM-parts (length fl) R h k
-join-keeps j-full fl fr R h k = LeM-parts (length fl) R h k
-join-keeps j-lsemi fl fr R h k = h
-join-keeps j-lanti fl fr R h k = h
-join-keeps j-rsemi fl fr R h k = k
-join-keeps j-ranti fl fr R h k = k
-
-pub ask-fits : (h : Binary) (fl fr : List Pair) {R : Mask} → T (even h fl fr) → Fit R (binaryFields h fl fr) → Fit (leftAsk h fl fr R) fl × Fit (rightAsk h fl fr R) fr
-unfolding binaryFields leftAsk rightAsk
-ask-fits union fl fr e f = (f, Fit-trans f (Fit-sym (even-fit fl fr e)))
-ask-fits (join t os c) fl fr e f = let h = part-fits t fl fr f in (plus-fit (leftExprs os c) (h .0), plus-fit (rightExprs os c) (h .1))
+use Rattle.meaning.proofs.Rows.{Narrowed}
 
 module _ (C : Catalogue) (D : Log) (fl fr : List Pair) {ls rs : List Row} (w : WideRows fl ls) where
   pub binary-narrows : (h : Binary) (R : Mask) {p₁ p₂ : Plan} → Fit R (binaryFields h fl fr)

@@ -1,21 +1,15 @@
 -- Demand 3 of files and answers: every house-mode answer of code 0 keeps its promise.
-use mathlib.Core.Path.{_≡_, refl, sym, _∙_, ap, subst, subst⁻¹}
-use mathlib.Core.List.{List, map}
+use mathlib.Core.Path.{_≡_, _∙_, ap, subst}
+use mathlib.Core.List.{List}
 use Prim.Native.Nat.{ℕ}
 use lib.ListN.{length}
 use Rattle.cpl.specs.AreBytes.{AreBytes}
-use Rattle.cpl.specs.Plan.{Plan, Catalogue}
 use Rattle.cpl.specs.Fields.{fieldsOf}
-use Rattle.rules.specs.Mask.{Mask, select}
-use Rattle.rules.specs.Request.{maskOf}
-use Rattle.rules.specs.Rewrite.{Walked, rewrite}
+use Rattle.rules.specs.Rewrite.{rewrite}
 use Rattle.rules.specs.Answer.{Answer, reply, mergeOf}
 use Rattle.rules.specs.Success.{Success}
 use Rattle.rules.proofs.Successes.{read-back}
-use Rattle.meaning.specs.Value.{Log}
-use Rattle.meaning.specs.Meaning.{meaning}
 use Rattle.meaning.specs.Reads.{Agree}
-use Rattle.meaning.specs.Narrowing.{Narrowing}
 use Rattle.meaning.specs.Promise.{Promise}
 use Rattle.meaning.proofs.Demand3.{housePass, demand3, demand3-logs}
 

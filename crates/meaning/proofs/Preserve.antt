@@ -28,7 +28,8 @@ use Rattle.meaning.specs.Meaning.{meaning}
 use Rattle.meaning.proofs.Wide.{WideRows, projection-wide, unary-wide, leaf-wide, wide}
 use Rattle.meaning.proofs.Columns.{columns-rows}
 use Rattle.meaning.proofs.Rows.{Narrowed, JobNarrows, projection-narrows, unary-narrows, leaf-narrows}
-use Rattle.meaning.proofs.BinaryRows.{ask-fits, binary-narrows}
+use Rattle.rules.proofs.Asked.{ask-fits}
+use Rattle.meaning.proofs.BinaryRows.{binary-narrows}
 use Rattle.meaning.proofs.HouseMerge.{step-rows}
 
 -- what the pass does with a plan that has the fields fs and the rows rs

@@ -5,14 +5,15 @@ use mathlib.Core.Bool.{Bool, true, false}
 use lib.ListN.{length, take, drop, getD}
 use Rattle.cpl.specs.Tests.{anyB, concatMap}
 use Rattle.cpl.specs.Lists.{z[], _z∷_, Fit}
-use Rattle.cpl.specs.Plan.{Pair, Expr, Item, Agg, Win, Leaf, scan, empty, Unary, projection, filter, sort, limit, aggregate, window, subqueryAlias, distinct, Plan, leaf, unary, Catalogue, itemPair, itemExpr, keyExpr, aggPair, winPair}
+use Rattle.cpl.specs.Plan.{Pair, Item, Agg, Win, Leaf, scan, empty, Unary, projection, filter, sort, limit, aggregate, window, subqueryAlias, distinct, Plan, leaf, unary, Catalogue, itemPair, itemExpr, keyExpr, aggPair, winPair}
 use Rattle.cpl.specs.Exprs.{usesAny, aggExprs, winExprs, unaryExprs}
 use Rattle.cpl.specs.Fields.{columnsOf, scanField, leafFields, requalify, unaryFields, fieldsOf}
-use Rattle.cpl.proofs.Lists.{All-mapped, map-cong, map-map, Fit-map, Fit-maps, fit-self, Fit-trans, take-fit}
+use Rattle.cpl.proofs.Lists.{All-mapped, map-cong, map-map, Fit-map, fit-self, Fit-trans, take-fit}
 use Rattle.cpl.proofs.Clash.{Clear}
 use Rattle.rules.specs.Mask.{Mask, select, ones, LeM}
-use Rattle.rules.specs.Rules.{used, plus, leafRule, leafKept, Job, done, ask, projectionJob, aggregateJob, windowJob, unaryJob}
-use Rattle.rules.proofs.Masks.{Cov, c[], _c∷_, Cov-or, Cov-used, Cov-le, LeB-true, LeM-refl, LeM-trans, LeM-or, LeM-parts, LeM-fit, fit-ones, ones-le, Fit-or, Fit-select, select-map, select-ones, select-++}
+use Rattle.rules.specs.Rules.{used, leafRule, leafKept, Job, done, ask, projectionJob, aggregateJob, windowJob, unaryJob}
+use Rattle.rules.proofs.Masks.{Cov, c[], _c∷_, LeM-refl, LeM-trans, LeM-parts, LeM-fit, fit-ones, ones-le, Fit-select, select-map, select-ones}
+use Rattle.rules.proofs.Asked.{used-fit, used-cov, plus-fit, plus-cov, plus-keeps, all-groups, aggregate-fields, window-fields}
 use Rattle.rules.proofs.Known.{used-head, used-left, used-right, clear-select}
 use Rattle.meaning.specs.Value.{missing, Row, Log, yes?, sameRow}
 use Rattle.meaning.specs.Lists.{firsts}
@@ -35,46 +36,12 @@ unfoldable pub JobNarrows : Catalogue → Log → List Pair → List Row → (R 
 JobNarrows C D fs rs R gs qs (done p′ K) = Narrowed C D gs qs R K p′
 JobNarrows C D fs rs R gs qs (ask b Q topped node left) = Fit Q fs × ((K : Mask) (p′ : Plan) → Narrowed C D fs rs Q K p′ → Narrowed C D gs qs R (left K) (node p′))
 
--- ── the columns that are asked for ──────────────────────────────────────────────────────────
-
-used-cov : (es : List Expr) (fs : List Pair) {K : Mask} → LeM (used es fs) K → Cov (usesAny es) fs K
-unfolding used
-used-cov es fs l = Cov-le (Cov-used (usesAny es) fs) l
-
-used-fit : (es : List Expr) (fs : List Pair) → Fit (used es fs) fs
-unfolding used
-used-fit es fs = Fit-map (usesAny es) fs
-
-pub plus-cov : (es : List Expr) {fs : List Pair} {R K : Mask} → Fit R fs → LeM (plus es fs R) K → Cov (usesAny es) fs K
-unfolding plus used
-plus-cov es f l = Cov-le (Cov-or (usesAny es) f) l
-
-pub plus-fit : (es : List Expr) {fs : List Pair} {R : Mask} → Fit R fs → Fit (plus es fs R) fs
-unfolding plus used
-plus-fit es f = Fit-or (usesAny es) f
-
-pub plus-keeps : (es : List Expr) {fs : List Pair} {R K : Mask} → Fit R fs → LeM (plus es fs R) K → LeM R K
-unfolding plus used
-plus-keeps es f l = LeM-trans (LeM-or (usesAny es) f) l
+-- ── one input ───────────────────────────────────────────────────────────────────────────────
 
 no-windows : {fs : List Pair} {K : Mask} → Fit K fs → Cov (usesAny (concatMap winExprs [])) fs K
 unfolding usesAny anyB concatMap
 no-windows z[] = c[]
 no-windows (_ z∷ hs) = tt c∷ no-windows hs
-
--- ── fields ──────────────────────────────────────────────────────────────────────────────────
-
-all-groups : (gs : List Item) (fs : List Pair) {R : Mask} → Fit R (map itemPair gs ++ fs) → LeM R (ones gs ++ drop (length gs) R)
-unfolding ones
-all-groups [] fs {R} h = LeM-refl R
-all-groups (g ∷ gs) fs (_z∷_ {x = r} _ hs) = LeB-true r z∷ all-groups gs fs hs
-
-aggregate-fields : (gs : List Item) (A : Mask) (vs : List Agg) → map itemPair gs ++ map aggPair (select A vs) ≡ select (ones gs ++ A) (map itemPair gs ++ map aggPair vs)
-unfolding ones
-aggregate-fields gs A vs = sym (select-++ (Fit-maps (λ g. true) itemPair gs) A (map aggPair vs) ∙ ap₂ _++_ (select-ones (Fit-map itemPair gs)) (select-map aggPair A vs))
-
-window-fields : {fs : List Pair} {K : Mask} → Fit K fs → (S : Mask) (ws : List Win) → select K fs ++ map winPair (select S ws) ≡ select (K ++ S) (fs ++ map winPair ws)
-window-fields {fs} {K} h S ws = sym (select-++ h S (map winPair ws) ∙ ap (select K fs ++_) (select-map winPair S ws))
 
 -- ── one input ───────────────────────────────────────────────────────────────────────────────
 

@@ -1,23 +1,20 @@
 -- What is known of every answer: its code, what it leaves of the buffer, and that two conforming answers are the same.
-use mathlib.Core.Path.{_≡_, refl, sym, _∙_, ap, subst}
-use mathlib.Core.List.{List, [], _∷_, _++_}
-use mathlib.Core.Bool.{Bool, true, false, _&&_, true≢false}
+use mathlib.Core.Path.{_≡_, refl, sym, _∙_}
+use mathlib.Core.List.{List}
+use mathlib.Core.Bool.{Bool, true, false}
 use mathlib.Core.Option.{Option, none, some}
-use Prim.Native.Nat.{ℕ, zero, suc, _+_, _-_, _≤_}
+use Prim.Native.Nat.{ℕ, _≤_}
 use native.Mathlib.Omega.{arith}
 use lib.Dec.{T, leb, leb→le}
-use lib.ListN.{length, take, drop, length-append, length-drop}
-use lib.Seq.{take-append-seam, drop-append-seam}
-use Rattle.cpl.specs.Tests.{iota}
-use Rattle.cpl.specs.Codes.{SETTING, REQUEST, LARGE, ROOM}
+use lib.ListN.{length, drop, length-append, length-drop}
+use lib.Seq.{drop-append-seam}
+use Rattle.cpl.specs.Codes.{ROOM}
 use Rattle.cpl.specs.Plan.{Plan, Catalogue, Source}
 use Rattle.cpl.specs.Read.{Res, ok, bad, pick}
 use Rattle.cpl.specs.ReadPlan.{readFile}
 use Rattle.cpl.specs.Bytes.{bytesOf}
-use Rattle.cpl.specs.Fields.{fieldsOf}
-use Rattle.cpl.specs.Accept.{Fault, fault, check}
+use Rattle.cpl.specs.Accept.{Fault, fault}
 use Rattle.cpl.proofs.Refusals.{Within, Coded, reading-coded, Faulty, check-coded}
-use Rattle.rules.specs.Request.{requestFault}
 use Rattle.rules.specs.Merge.{Merge}
 use Rattle.rules.specs.Rewrite.{Walked}
 use Rattle.rules.specs.Answer.{Verdict, refused, narrowed, settingsOk, mergeOf, large, finish, requested, checked, judged, verdict, Answer, refusal, success, written, deliver, reply}

@@ -1,83 +1,28 @@
 -- Union and Join: the rule keeps the fields, and its result is accepted and can be written.
-use mathlib.Core.Path.{_≡_, refl, sym, _∙_, ap, ap₂, subst, subst⁻¹}
+use mathlib.Core.Path.{_≡_, refl, sym, _∙_, ap₂, subst}
 use mathlib.Core.List.{List, [], _∷_, _++_, map}
-use mathlib.Core.Bool.{Bool, true, false, _&&_}
-use mathlib.Core.Option.{Option, none, some}
-use Prim.Native.Nat.{ℕ, _≤_}
+use mathlib.Core.Bool.{true, _&&_}
+use mathlib.Core.Option.{Option}
 use native.Mathlib.Omega.{arith}
-use lib.Dec.{T, eqb, eqb→eq, eqb-refl}
-use lib.ListN.{length, take, drop}
-use Rattle.cpl.specs.Tests.{anyB, allB}
-use Rattle.cpl.specs.Lists.{z[], _z∷_, Fit}
-use Rattle.cpl.specs.Plan.{Pair, Expr, JoinType, j-inner, j-left, j-right, j-full, j-lsemi, j-lanti, j-rsemi, j-ranti, On, on, Binary, union, join, Plan, binary, Catalogue, onLeft, onRight}
-use Rattle.cpl.specs.Exprs.{known, uses, usesAny, condExprs}
-use Rattle.cpl.specs.Fields.{joinFields, binaryFields, fieldsOf}
+use lib.Dec.{T, eqb, eqb-refl}
+use lib.ListN.{length}
+use Rattle.cpl.specs.Tests.{allB}
+use Rattle.cpl.specs.Lists.{Fit}
+use Rattle.cpl.specs.Plan.{Pair, Expr, JoinType, On, on, Binary, union, join, Catalogue, onLeft, onRight}
+use Rattle.cpl.specs.Exprs.{known, usesAny, condExprs}
+use Rattle.cpl.specs.Fields.{binaryFields, fieldsOf}
 use Rattle.cpl.specs.Accept.{knownOn, knownBinary, even, together}
 use Rattle.cpl.specs.Writable.{FitBinary, FitPlan}
 use Rattle.cpl.proofs.Bools.{halves, both-T}
-use Rattle.cpl.proofs.Lists.{Fit-map, Fit-trans, Fit-++, length-Fit, take-fit, drop-fit}
 use Rattle.cpl.proofs.Clash.{Clear}
 use Rattle.cpl.proofs.Accepted.{NodeOk, Accepted}
-use Rattle.rules.specs.Mask.{Mask, select, orM, zeros, count, LeM}
-use Rattle.rules.specs.Rules.{used, plus, leftPart, rightPart, leftExprs, rightExprs, leftAsk, rightAsk, binaryKept, topUp}
-use Rattle.rules.specs.Rewrite.{Walked, Go, binaryWalk}
-use Rattle.rules.specs.Kept.{Kept}
-use Rattle.rules.proofs.Masks.{Cov, Cov-or, Cov-sub, Cov-++, LeB-left, LeB-right, LeM-or, LeM-refl, LeM-parts, Fit-or, length-select, select-++, select-short}
+use Rattle.rules.specs.Mask.{Mask, select, LeM}
+use Rattle.rules.specs.Rules.{leftExprs, rightExprs, leftAsk, rightAsk, binaryKept}
+use Rattle.rules.specs.Rewrite.{Go, binaryWalk}
+use Rattle.rules.proofs.Masks.{Cov, Cov-++, LeM-refl, length-select, select-++, select-short}
+use Rattle.rules.proofs.Asked.{plus-cov, plus-keeps, part-fits, ask-fits, join-keeps, join-fields}
 use Rattle.rules.proofs.Known.{known-select, known-all, used-head, used-tail, used-left, used-right, clear-select}
-use Rattle.rules.proofs.Inputs.{Fields, Result, Good, Input, topped}
-
--- ── the parts of a join's request ───────────────────────────────────────────────────────────
-
-left-fit : (t : JoinType) (fl fr : List Pair) {R : Mask} → Fit R (joinFields t fl fr) → Fit (leftPart t fl R) fl
-unfolding joinFields leftPart zeros
-left-fit j-inner fl fr h = take-fit fl fr h
-left-fit j-left fl fr h = take-fit fl fr h
-left-fit j-right fl fr h = take-fit fl fr h
-left-fit j-full fl fr h = take-fit fl fr h
-left-fit j-lsemi fl fr h = h
-left-fit j-lanti fl fr h = h
-left-fit j-rsemi fl fr h = Fit-map (λ f. false) fl
-left-fit j-ranti fl fr h = Fit-map (λ f. false) fl
-
-right-fit : (t : JoinType) (fl fr : List Pair) {R : Mask} → Fit R (joinFields t fl fr) → Fit (rightPart t fl fr R) fr
-unfolding joinFields rightPart zeros
-right-fit j-inner fl fr h = drop-fit fl fr h
-right-fit j-left fl fr h = drop-fit fl fr h
-right-fit j-right fl fr h = drop-fit fl fr h
-right-fit j-full fl fr h = drop-fit fl fr h
-right-fit j-lsemi fl fr h = Fit-map (λ f. false) fr
-right-fit j-lanti fl fr h = Fit-map (λ f. false) fr
-right-fit j-rsemi fl fr h = h
-right-fit j-ranti fl fr h = h
-
-join-keeps : (t : JoinType) (fl fr : List Pair) (R : Mask) {Kl Kr : Mask} → LeM (leftPart t fl R) Kl → LeM (rightPart t fl fr R) Kr → LeM R (joinFields t Kl Kr)
-unfolding leftPart rightPart joinFields
-join-keeps j-inner fl fr R h k = LeM-parts (length fl) R h k
-join-keeps j-left fl fr R h k = LeM-parts (length fl) R h k
-join-keeps j-right fl fr R h k = LeM-parts (length fl) R h k
-join-keeps j-full fl fr R h k = LeM-parts (length fl) R h k
-join-keeps j-lsemi fl fr R h k = h
-join-keeps j-lanti fl fr R h k = h
-join-keeps j-rsemi fl fr R h k = k
-join-keeps j-ranti fl fr R h k = k
-
-pub join-fields : (t : JoinType) {fl : List Pair} (fr : List Pair) {Kl : Mask} (Kr : Mask) → Fit Kl fl → joinFields t (select Kl fl) (select Kr fr) ≡ select (joinFields t Kl Kr) (joinFields t fl fr)
-unfolding joinFields
-join-fields j-inner fr Kr h = sym (select-++ h Kr fr)
-join-fields j-left fr Kr h = sym (select-++ h Kr fr)
-join-fields j-right fr Kr h = sym (select-++ h Kr fr)
-join-fields j-full fr Kr h = sym (select-++ h Kr fr)
-join-fields j-lsemi fr Kr h = refl
-join-fields j-lanti fr Kr h = refl
-join-fields j-rsemi fr Kr h = refl
-join-fields j-ranti fr Kr h = refl
-
--- what is asked of the two inputs
-module _ (fl fr : List Pair) {R : Mask} where
-  even-fit : (h : Binary) → T (even h fl fr) → Fit R (binaryFields h fl fr) → Fit (leftAsk h fl fr R) fl × Fit (rightAsk h fl fr R) fr
-  unfolding even binaryFields leftAsk rightAsk plus used
-  even-fit union e f = (f, Fit-trans f (length-Fit fl fr (eqb→eq _ _ e)))
-  even-fit (join t os c) e f = (Fit-or (usesAny (leftExprs os c)) (left-fit t fl fr f), Fit-or (usesAny (rightExprs os c)) (right-fit t fl fr f))
+use Rattle.rules.proofs.Inputs.{Fields, Good, topped}
 
 -- ── columns of a join ───────────────────────────────────────────────────────────────────────
 
@@ -108,37 +53,37 @@ module _ (fl fr : List Pair) {R : Mask} where
   binary-fields : (h : Binary) → T (even h fl fr) → Fit R (binaryFields h fl fr) → binaryFields h (select (leftAsk h fl fr R) fl) (select (rightAsk h fl fr R) fr) ≡ select (binaryKept h fl fr R) (binaryFields h fl fr)
   unfolding binaryFields leftAsk rightAsk binaryKept
   binary-fields union e f = refl
-  binary-fields (join t os c) e f = join-fields t fr _ (even-fit fl fr (join t os c) e f .0)
+  binary-fields (join t os c) e f = join-fields t fr _ (ask-fits (join t os c) fl fr e f .0)
 
   binary-keeps : (h : Binary) → Fit R (binaryFields h fl fr) → LeM R (binaryKept h fl fr R)
-  unfolding binaryFields binaryKept leftAsk rightAsk plus used
+  unfolding binaryFields binaryKept leftAsk rightAsk
   binary-keeps union f = LeM-refl R
-  binary-keeps (join t os c) f = join-keeps t fl fr R (LeM-or (usesAny (leftExprs os c)) (left-fit t fl fr f)) (LeM-or (usesAny (rightExprs os c)) (right-fit t fl fr f))
+  binary-keeps (join t os c) f = join-keeps t fl fr R (plus-keeps (leftExprs os c) (part-fits t fl fr f .0) (LeM-refl _)) (plus-keeps (rightExprs os c) (part-fits t fl fr f .1) (LeM-refl _))
 
   binary-known : (h : Binary) → T (even h fl fr) → Fit R (binaryFields h fl fr) → T (knownBinary h fl fr) → T (knownBinary h (select (leftAsk h fl fr R) fl) (select (rightAsk h fl fr R) fr))
-  unfolding binaryFields leftAsk rightAsk plus used knownBinary
+  unfolding binaryFields leftAsk rightAsk knownBinary
   binary-known union e f k = k
   binary-known (join t os c) e f k =
-      known-join t os c (even-fit fl fr (join t os c) e f .0) (Cov-or (usesAny (leftExprs os c)) (left-fit t fl fr f)) (Cov-or (usesAny (rightExprs os c)) (right-fit t fl fr f)) k
+      known-join t os c (ask-fits (join t os c) fl fr e f .0) (plus-cov (leftExprs os c) (part-fits t fl fr f .0) (LeM-refl _)) (plus-cov (rightExprs os c) (part-fits t fl fr f .1) (LeM-refl _)) k
 
   binary-even : (h : Binary) → T (even h fl fr) → Fit R (binaryFields h fl fr) → T (even h (select (leftAsk h fl fr R) fl) (select (rightAsk h fl fr R) fr))
   unfolding even leftAsk rightAsk binaryFields
   binary-even union e f =
-      let k = even-fit fl fr union e f in
+      let k = ask-fits union fl fr e f in
       subst (λ n. T (eqb (length (select R fl)) n)) (length-select (k .0) ∙ sym (length-select (k .1))) (eqb-refl (length (select R fl)))
   binary-even (join t os c) e f = e
 
   binary-clear : (h : Binary) → T (even h fl fr) → Fit R (binaryFields h fl fr) → Clear (together h fl fr) → Clear (together h (select (leftAsk h fl fr R) fl) (select (rightAsk h fl fr R) fr))
   unfolding together leftAsk
   binary-clear union e f k = clear-select R k
-  binary-clear (join t os c) e f k = subst Clear (select-++ (even-fit fl fr (join t os c) e f .0) (rightAsk (join t os c) fl fr R) fr) (clear-select _ k)
+  binary-clear (join t os c) e f k = subst Clear (select-++ (ask-fits (join t os c) fl fr e f .0) (rightAsk (join t os c) fl fr R) fr) (clear-select _ k)
 
 module _ (C : Catalogue) (h : Binary) {fl fr : List Pair} (l : Fields fl) (r : Fields fr) (o : NodeOk (knownBinary h fl fr) (even h fl fr) (binaryFields h fl fr) (together h fl fr))
     (fit : FitBinary h) (go₁ go₂ : Go) (g₁ : Good C fl go₁) (g₂ : Good C fr go₂) where
   pub binary-good : Good C (binaryFields h fl fr) (binaryWalk C h fl fr go₁ go₂)
   unfolding binaryWalk fieldsOf Accepted FitPlan
   binary-good b R f =
-      let fits = even-fit fl fr h (o .as-wide) f in
+      let fits = ask-fits h fl fr (o .as-wide) f in
       let i₁ = topped C l (fits .0) (g₁ true (leftAsk h fl fr R) (fits .0)) in
       let i₂ = topped C r (fits .1) (g₂ true (rightAsk h fl fr R) (fits .1)) in
       let same = binary-fields fl fr h (o .as-wide) f in

@@ -1,23 +1,23 @@
 -- What is proved of every step of the pass: the fields are kept, the new plan is accepted, and it can be written. Then: a topped-up input has exactly
 -- the fields that were requested.
-use mathlib.Core.Path.{_≡_, refl, sym, _∙_, ap, subst, subst⁻¹}
-use mathlib.Core.List.{List, [], _∷_, _++_, map}
+use mathlib.Core.Path.{_≡_, sym, _∙_, ap, subst}
+use mathlib.Core.List.{List, map}
 use mathlib.Core.Bool.{Bool, true, false, cond, not}
-use Prim.Native.Nat.{ℕ, _≤_}
+use Prim.Native.Nat.{_≤_}
 use native.Mathlib.Omega.{arith}
 use lib.Dec.{T, ltb, nltb→le}
 use lib.ListN.{length, length-map}
 use Rattle.cpl.specs.Tests.{allB}
-use Rattle.cpl.specs.Limits.{maxItems, maxFields}
+use Rattle.cpl.specs.Limits.{maxFields}
 use Rattle.cpl.specs.Lists.{All, Fit}
-use Rattle.cpl.specs.Plan.{Pair, Item, bare, Unary, projection, Plan, leaf, unary, Catalogue, itemPair, itemExpr}
+use Rattle.cpl.specs.Plan.{Pair, bare, projection, Plan, unary, Catalogue, itemExpr}
 use Rattle.cpl.specs.Exprs.{known, unaryExprs}
 use Rattle.cpl.specs.Fields.{unaryFields, fieldsOf}
 use Rattle.cpl.specs.Writable.{FitList, FitPair, FitItem, FitUnary, FitPlan}
 use Rattle.cpl.proofs.Lists.{All-mapped}
 use Rattle.cpl.proofs.Clash.{Clear}
 use Rattle.cpl.proofs.Accepted.{NodeOk, Accepted}
-use Rattle.rules.specs.Mask.{Mask, select, count, LeM}
+use Rattle.rules.specs.Mask.{Mask, select, count}
 use Rattle.rules.specs.Rules.{topUp}
 use Rattle.rules.specs.Rewrite.{Walked, Go}
 use Rattle.rules.specs.Kept.{Kept}

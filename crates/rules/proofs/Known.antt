@@ -1,17 +1,17 @@
 -- Narrowed fields: what is known stays known where the mask keeps the columns that are used, and no clash arises.
-use mathlib.Core.Path.{_≡_, refl, sym, _∙_, ap, subst, subst⁻¹}
+use mathlib.Core.Path.{_≡_, _∙_, subst, subst⁻¹}
 use mathlib.Core.List.{List, [], _∷_, _++_, map}
-use mathlib.Core.Bool.{Bool, true, false, _&&_, _||_}
+use mathlib.Core.Bool.{Bool, true, false, _||_}
 use lib.Dec.{T}
 use Rattle.cpl.specs.Tests.{anyB, allB}
-use Rattle.cpl.specs.Lists.{All, a[], _a∷_, z[], _z∷_, Fit}
-use Rattle.cpl.specs.Plan.{Pair, eqP, Expr, col, lit, miss, un, bin, Item, bare, itemPair, itemExpr}
-use Rattle.cpl.specs.Exprs.{fits, find, present, known, uses, usesAny}
-use Rattle.cpl.proofs.Bools.{halves, both-T, left-T, right-T, is-true}
+use Rattle.cpl.specs.Lists.{All, a[], _a∷_}
+use Rattle.cpl.specs.Plan.{Pair, Expr, col, lit, miss, un, bin, bare, itemPair, itemExpr}
+use Rattle.cpl.specs.Exprs.{fits, known, uses, usesAny}
+use Rattle.cpl.proofs.Bools.{halves, both-T, left-T, right-T}
 use Rattle.cpl.proofs.Lists.{All-map, All-mapped, T-all, map-map, map-id}
 use Rattle.cpl.proofs.Pairs.{eqP-refl, find-any}
 use Rattle.cpl.proofs.Clash.{Clear, n[], _n∷_}
-use Rattle.rules.specs.Mask.{Mask, select, LeB, LeM}
+use Rattle.rules.specs.Mask.{Mask, select, LeB}
 use Rattle.rules.proofs.Masks.{Cov, c[], _c∷_, Cov-sub, LeB-refl, LeB-trans, LeB-left, LeB-right, All-select}
 
 -- what passes is still there

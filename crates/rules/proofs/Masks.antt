@@ -1,14 +1,12 @@
 -- Laws of masks: selecting, containment, and masks that keep what a test wants (`Cov`).
-use mathlib.Core.Path.{_≡_, refl, sym, _∙_, ap, ap₂}
+use mathlib.Core.Path.{_≡_, refl, ap}
 use mathlib.Core.List.{List, [], _∷_, _++_, map}
-use mathlib.Core.Bool.{Bool, true, false, cond, _||_}
-use Prim.Native.Nat.{ℕ, zero, suc, _≤_}
+use mathlib.Core.Bool.{Bool, true, false, _||_}
+use Prim.Native.Nat.{ℕ, suc, _≤_}
 use native.Mathlib.Omega.{arith}
-use lib.Dec.{T}
 use lib.ListN.{length, take, drop, take-append-drop}
-use Rattle.cpl.specs.Lists.{All, a[], _a∷_, All2, z[], _z∷_, Fit}
-use Rattle.cpl.proofs.Lists.{Fit-map}
-use Rattle.rules.specs.Mask.{Mask, select, orM, ones, zeros, count, LeB, LeM}
+use Rattle.cpl.specs.Lists.{All, a[], _a∷_, z[], _z∷_, Fit}
+use Rattle.rules.specs.Mask.{Mask, select, orM, ones, count, LeB, LeM}
 
 -- the mask keeps every element that passes the test
 pub data Cov {A : Type 0} (P : A → Bool) : List A → Mask → Type 0 where

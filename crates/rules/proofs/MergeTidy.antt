@@ -3,18 +3,18 @@
 use mathlib.Core.Path.{_≡_, refl, sym, _∙_, ap, ap₂, subst, subst⁻¹}
 use mathlib.Core.List.{List, [], _∷_, map}
 use mathlib.Core.Bool.{Bool, true, false, cond, not, _&&_, _||_, decide, true≢false}
-use mathlib.Core.Option.{Option, none, some, Option·some-injective}
+use mathlib.Core.Option.{none, some, Option·some-injective}
 use Prim.Native.Nat.{ℕ, zero, suc}
 use lib.Dec.{T}
 use Rattle.cpl.specs.Tests.{anyB, allB}
 use Rattle.cpl.specs.Lists.{All, a[], _a∷_}
 use Rattle.cpl.specs.Plan.{Pair, pair, eqP, Expr, col, lit, miss, un, bin, Item, bare, named, itemPair, itemExpr}
-use Rattle.cpl.specs.Exprs.{fits, find, present, known}
+use Rattle.cpl.specs.Exprs.{fits, known}
 use Rattle.cpl.specs.Writable.{FitPair, FitExpr, FitItem}
 use Rattle.cpl.proofs.Bools.{halves, both-T}
-use Rattle.cpl.proofs.Lists.{map-map, map-cong, all-T, T-all, All-map, All-mapped}
+use Rattle.cpl.proofs.Lists.{map-map, map-cong, T-all, All-mapped}
 use Rattle.cpl.proofs.Pairs.{eqP-eq, find-any}
-use Rattle.rules.specs.Merge.{Merge, itemD, eqItems, plain, defOf, replace, define, item, replaceItem, held, usesNone, dropsChild, mergeStep}
+use Rattle.rules.specs.Merge.{itemD, eqItems, plain, defOf, replace, define, item, replaceItem, held, usesNone, dropsChild, mergeStep}
 
 -- ── equal lists ─────────────────────────────────────────────────────────────────────────────
 

@@ -1,26 +1,25 @@
 -- The pass over a whole plan, in either mode: what it makes of an accepted, writable plan keeps the fields, is accepted and can be written.
-use mathlib.Core.Path.{_≡_, refl, sym, _∙_, ap, subst, subst⁻¹}
-use mathlib.Core.List.{List, [], _∷_, _++_, map}
-use mathlib.Core.Bool.{Bool, true, false, _||_}
+use mathlib.Core.Path.{_≡_, refl, sym, ap, subst, subst⁻¹}
+use mathlib.Core.List.{List, [], map}
+use mathlib.Core.Bool.{Bool}
 use mathlib.Core.Option.{Option, none, some}
-use Prim.Native.Nat.{ℕ, _≤_}
+use Prim.Native.Nat.{ℕ}
 use native.Mathlib.Omega.{arith}
 use lib.Dec.{T}
 use lib.ListN.{length, getD, length-map}
 use Rattle.cpl.specs.Tests.{allB}
-use Rattle.cpl.specs.Lists.{All, Fit}
-use Rattle.cpl.specs.Plan.{Pair, Item, Leaf, scan, empty, Unary, projection, filter, sort, limit, aggregate, window, subqueryAlias, distinct, Binary, Plan, leaf, unary, binary, Catalogue, itemPair, itemExpr}
+use Rattle.cpl.specs.Lists.{Fit}
+use Rattle.cpl.specs.Plan.{Pair, Item, Leaf, scan, empty, Unary, projection, filter, sort, limit, aggregate, window, subqueryAlias, distinct, Plan, leaf, unary, binary, Catalogue, itemPair, itemExpr}
 use Rattle.cpl.specs.Exprs.{known, unaryExprs}
-use Rattle.cpl.specs.Fields.{columnsOf, scanField, leafFields, unaryFields, binaryFields, fieldsOf}
+use Rattle.cpl.specs.Fields.{columnsOf, scanField, leafFields, unaryFields, fieldsOf}
 use Rattle.cpl.specs.Writable.{FitList, FitItem, FitColumns, FitLeaf, FitUnary, FitPlan, FitCatalogue}
-use Rattle.cpl.proofs.Lists.{map-map, fit-self}
-use Rattle.cpl.proofs.Accepted.{NodeOk, Accepted, few-fields, distinct-fields}
-use Rattle.cpl.proofs.FitFields.{leaf-pairs, unary-pairs, binary-pairs, field-pairs, columns-below, columns-few}
-use Rattle.rules.specs.Mask.{Mask, select, ones, LeM}
-use Rattle.rules.specs.Merge.{Merge, mergeStep}
-use Rattle.rules.specs.Rules.{leafRule, leafKept, projectionJob, unaryJob}
-use Rattle.rules.specs.Rewrite.{Walked, Go, runJob, pend, tooLong, counted, merged, leafWalk, nodeWalk, unaryWalk, binaryWalk, walk}
-use Rattle.rules.specs.Kept.{Kept}
+use Rattle.cpl.proofs.Lists.{fit-self}
+use Rattle.cpl.proofs.Accepted.{Accepted, few-fields, distinct-fields}
+use Rattle.cpl.proofs.FitFields.{unary-pairs, field-pairs, columns-below, columns-few}
+use Rattle.rules.specs.Mask.{Mask}
+use Rattle.rules.specs.Merge.{mergeStep}
+use Rattle.rules.specs.Rules.{leafRule, leafKept}
+use Rattle.rules.specs.Rewrite.{Walked, Go, pend, counted, merged, leafWalk, nodeWalk, unaryWalk, walk}
 use Rattle.rules.proofs.Masks.{LeM-refl, fit-ones, select-map, select-ones, select-short, All-select}
 use Rattle.rules.proofs.Known.{clear-select}
 use Rattle.rules.proofs.Inputs.{Fields, Result, Good}

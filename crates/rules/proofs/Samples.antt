@@ -7,13 +7,13 @@ use Prim.Native.Nat.{ℕ, _≤_}
 use lib.Dec.{T, eqb, eqb→eq, leb, le→leb}
 use lib.ListN.{length}
 use Rattle.cpl.specs.Lists.{All}
-use Rattle.cpl.specs.Tests.{iota, allB}
+use Rattle.cpl.specs.Tests.{iota}
 use Rattle.cpl.specs.Codes.{ROOM}
 use Rattle.cpl.specs.Read.{pick}
 use Rattle.cpl.specs.Bytes.{bytesOf}
 use Rattle.cpl.proofs.Bools.{halves, is-true}
 use Rattle.cpl.proofs.Lists.{all-T, All-map}
-use Rattle.rules.specs.Answer.{Answer, Verdict, refused, narrowed, verdict, success, refusal, written, deliver, reply}
+use Rattle.rules.specs.Answer.{Verdict, refused, narrowed, verdict, success, refusal, written, deliver, reply}
 use Rattle.rules.specs.Samples.{Sample, sample, header, asked, Right, samples}
 use Rattle.rules.specs.Computes.{rules-computes}
 

@@ -1,12 +1,12 @@
 -- An answer of code 0: where it comes from, and that it reads back as the rewritten plan, accepted.
-use mathlib.Core.Path.{_≡_, refl, sym, _∙_, ap, subst, subst⁻¹}
-use mathlib.Core.List.{List, [], _∷_, _++_}
-use mathlib.Core.Bool.{Bool, true, false, _||_, _&&_, not, true≢false}
+use mathlib.Core.Path.{_≡_, refl, sym, _∙_, ap, subst⁻¹}
+use mathlib.Core.List.{List, [], _∷_}
+use mathlib.Core.Bool.{Bool, true, false, _||_, not, true≢false}
 use mathlib.Core.Option.{Option, none, some}
-use Prim.Native.Nat.{ℕ, zero, suc, _≤_}
+use Prim.Native.Nat.{ℕ, suc, _≤_}
 use native.Mathlib.Omega.{arith}
-use lib.Dec.{T, ltb, leb, leb→le, nltb→le, eqb}
-use lib.ListN.{length, take, drop}
+use lib.Dec.{T, ltb, leb, nltb→le, eqb}
+use lib.ListN.{length, drop}
 use lib.Seq.{take-append-seam}
 use Rattle.cpl.specs.Limits.{maxNodes, maxTags}
 use Rattle.cpl.specs.Codes.{ROOM}
@@ -25,9 +25,8 @@ use Rattle.cpl.specs.Lists.{Fit, z[], _z∷_}
 use Rattle.cpl.specs.Tests.{anyB, iota}
 use Rattle.cpl.proofs.Accepted.{accepted, no-fault}
 use Rattle.cpl.proofs.RoundTrip.{read-written, written-read}
-use Rattle.rules.specs.Mask.{Mask}
 use Rattle.rules.specs.Request.{requestFault, maskOf}
-use Rattle.rules.specs.Merge.{Merge, mergeStep}
+use Rattle.rules.specs.Merge.{Merge}
 use Rattle.rules.specs.Rewrite.{Walked, rewrite}
 use Rattle.rules.specs.Answer.{Verdict, refused, narrowed, settingsOk, mergeOf, large, finish, requested, checked, judged, verdict, Answer, refusal, success, written, deliver, reply}
 use Rattle.rules.specs.Success.{ReadsAs, wrote, sourceOf, Success}

@@ -1,28 +1,27 @@
 -- Each kind of node with one input: the rule keeps the fields, and its result is accepted and can be written.
 use mathlib.Core.Path.{_≡_, refl, sym, _∙_, ap, ap₂, subst, subst⁻¹}
 use mathlib.Core.List.{List, [], _∷_, _++_, map, append-nil}
-use mathlib.Core.Bool.{Bool, true, false, cond, not, _&&_}
-use mathlib.Core.Option.{Option, none, some}
-use Prim.Native.Nat.{ℕ, zero, suc, _+_, _≤_, _<_}
+use mathlib.Core.Bool.{Bool, true, false, cond}
+use Prim.Native.Nat.{ℕ, _+_, _<_}
 use native.Mathlib.Omega.{arith}
 use lib.Dec.{T}
 use lib.ListN.{length, take, drop}
 use Rattle.cpl.specs.Tests.{allB, concatMap}
-use Rattle.cpl.specs.Lists.{All, a[], _a∷_, z[], _z∷_, Fit}
-use Rattle.cpl.specs.Plan.{Pair, eqP, Expr, Item, bare, named, Agg, Win, Leaf, empty, Unary, projection, filter, sort, limit, aggregate, window, subqueryAlias, distinct, Plan, leaf, unary, Catalogue, itemPair, itemExpr, keyExpr, aggPair, winPair}
-use Rattle.cpl.specs.Exprs.{known, uses, usesAny, aggExprs, winExprs, unaryExprs}
+use Rattle.cpl.specs.Lists.{All, a[], Fit}
+use Rattle.cpl.specs.Plan.{Pair, eqP, Expr, Item, bare, named, Agg, Win, Unary, projection, filter, sort, limit, aggregate, window, subqueryAlias, distinct, Plan, unary, Catalogue, itemPair, itemExpr, keyExpr, aggPair, winPair}
+use Rattle.cpl.specs.Exprs.{known, aggExprs, winExprs, unaryExprs}
 use Rattle.cpl.specs.Fields.{leafFields, unaryFields, requalify, fieldsOf}
 use Rattle.cpl.specs.Writable.{FitList, FitItem, FitAgg, FitWin, FitLeaf, FitUnary, FitPlan}
 use Rattle.cpl.proofs.Bools.{halves}
-use Rattle.cpl.proofs.Lists.{All-left, All-right, All-++, all-T, T-all, Fit-map, Fit-maps, Fit-trans, take-fit, drop-fit}
+use Rattle.cpl.proofs.Lists.{All-left, All-right, All-++, all-T, T-all, Fit-map, Fit-trans, take-fit}
 use Rattle.cpl.proofs.Pairs.{eqP-eq}
-use Rattle.cpl.proofs.Clash.{Clear, n[]}
-use Rattle.cpl.proofs.Accepted.{NodeOk, Accepted}
-use Rattle.rules.specs.Mask.{Mask, select, orM, ones, LeM}
-use Rattle.rules.specs.Rules.{used, plus, sameColumns, overChild, Job, done, ask, projectionJob, aggregateJob, windowJob, unaryJob}
+use Rattle.cpl.proofs.Clash.{n[]}
+use Rattle.cpl.proofs.Accepted.{Accepted}
+use Rattle.rules.specs.Mask.{Mask, select, ones, LeM}
+use Rattle.rules.specs.Rules.{used, plus, sameColumns, overChild, ask, projectionJob, aggregateJob, windowJob, unaryJob}
 use Rattle.rules.specs.Rewrite.{Walked, Go, input, runJob}
-use Rattle.rules.specs.Kept.{Kept}
-use Rattle.rules.proofs.Masks.{Cov, Cov-or, Cov-used, Cov-le, LeM-or, LeM-refl, LeM-trans, LeM-fit, LeM-parts, LeB-true, Fit-or, fit-ones, select-map, select-ones, select-++, select-short, All-select}
+use Rattle.rules.proofs.Masks.{LeM-refl, LeM-trans, LeM-fit, LeM-parts, fit-ones, select-map, select-short, All-select}
+use Rattle.rules.proofs.Asked.{used-fit, used-cov, plus-fit, plus-cov, plus-keeps, all-groups, aggregate-fields, window-fields}
 use Rattle.rules.proofs.Known.{known-all, bare-fields, clear-select}
 use Rattle.rules.proofs.Inputs.{Fields, Result, Good, Input, topped, as-it-is}
 
@@ -67,24 +66,10 @@ fit-select P most K xs h = (let s = select-short K xs in let m = h .0 in omega a
 
 -- the columns used are kept, and known
 used-known : (es : List Expr) (fs : List Pair) {K : Mask} → LeM (used es fs) K → T (allB (known fs) es) → T (allB (known (select K fs)) es)
-unfolding used
-used-known es fs l t = known-all es (Cov-le (Cov-used (usesAny es) fs) l) t
+used-known es fs l t = known-all es (used-cov es fs l) t
 
 plus-known : (es : List Expr) {fs : List Pair} {R : Mask} → Fit R fs → T (allB (known fs) es) → T (allB (known (select (plus es fs R) fs)) es)
-unfolding plus used
-plus-known es f t = known-all es (Cov-or (usesAny es) f) t
-
-plus-keeps : (es : List Expr) {fs : List Pair} {R : Mask} → Fit R fs → LeM R (plus es fs R)
-unfolding plus used
-plus-keeps es f = LeM-or (usesAny es) f
-
-plus-fit : (es : List Expr) {fs : List Pair} {R : Mask} → Fit R fs → Fit (plus es fs R) fs
-unfolding plus used
-plus-fit es f = Fit-or (usesAny es) f
-
-used-fit : (es : List Expr) (fs : List Pair) → Fit (used es fs) fs
-unfolding used
-used-fit es fs = Fit-map (usesAny es) fs
+plus-known es f t = known-all es (plus-cov es f (LeM-refl _)) t
 
 -- ── Projection ──────────────────────────────────────────────────────────────────────────────
 
@@ -131,15 +116,6 @@ module _ (C : Catalogue) (is : List Item) {fs : List Pair} (known-items : T (all
           (used-known (map itemExpr js) fs (r .kept .keeps) (selected-known R is fs known-items)) (fit-select FitItem 128 R is few)
 
 -- ── Aggregate ───────────────────────────────────────────────────────────────────────────────
-
-all-groups : (gs : List Item) (fs : List Pair) {R : Mask} → Fit R (map itemPair gs ++ fs) → LeM R (ones gs ++ drop (length gs) R)
-unfolding ones
-all-groups [] fs {R} h = LeM-refl R
-all-groups (g ∷ gs) fs (_z∷_ {x = r} _ hs) = LeB-true r z∷ all-groups gs fs hs
-
-aggregate-fields : (gs : List Item) (A : Mask) (vs : List Agg) → map itemPair gs ++ map aggPair (select A vs) ≡ select (ones gs ++ A) (map itemPair gs ++ map aggPair vs)
-unfolding ones
-aggregate-fields gs A vs = sym (select-++ (Fit-maps (λ g. true) itemPair gs) A (map aggPair vs) ∙ ap₂ _++_ (select-ones (Fit-map itemPair gs)) (select-map aggPair A vs))
 
 module _ (C : Catalogue) {fs : List Pair} (below : Fields fs) (gs : List Item) (vs : List Agg) (known-exprs : T (allB (known fs) (unaryExprs (aggregate gs vs))))
     (own : Fields (unaryFields (aggregate gs vs) fs)) (fit : FitUnary (aggregate gs vs)) (go : Go) (g : Good C fs go) (R : Mask) (f : Fit R (unaryFields (aggregate gs vs) fs)) where
@@ -196,9 +172,6 @@ module _ (C : Catalogue) {fs : List Pair} (below : Fields fs) (ws : List Win) (k
   unfolding unaryFields
   pass-fit = take-fit fs (map winPair ws) f
 
-  window-fields : {K : Mask} → Fit K fs → select K fs ++ map winPair (select S ws) ≡ select (K ++ S) (fs ++ map winPair ws)
-  window-fields {K} h = sym (select-++ h S (map winPair ws) ∙ ap (select K fs ++_) (select-map winPair S ws))
-
   kept-windows : T (allB (known fs) (unaryExprs (window (select S ws))))
   unfolding unaryExprs
   kept-windows = T-all (known fs) (concat-select winExprs S ws (all-T (known fs) (concatMap winExprs ws) known-exprs))
@@ -214,7 +187,7 @@ module _ (C : Catalogue) {fs : List Pair} (below : Fields fs) (ws : List Win) (k
           record {
             kept = record {
               keeps = LeM-parts (length fs) R (r .kept .keeps) (LeM-refl S);
-              fields = r .kept .fields ∙ (sym (append-nil _) ∙ (ap (λ us. select (go b R₀ .kept) fs ++ map winPair us) e ∙ window-fields k));
+              fields = r .kept .fields ∙ (sym (append-nil _) ∙ (ap (λ us. select (go b R₀ .kept) fs ++ map winPair us) e ∙ window-fields k S ws));
             };
             accepted = r .accepted;
             fit = r .fit;
@@ -223,8 +196,8 @@ module _ (C : Catalogue) {fs : List Pair} (below : Fields fs) (ws : List Win) (k
           let es = unaryExprs (window (v ∷ vs)) in
           let Q = plus es fs R₀ in
           let r = g b Q (plus-fit es pass-fit) in
-          node C (window ws) (window (v ∷ vs)) own (Q ++ S) (topped C below (plus-fit es pass-fit) r) (ap (λ us. select Q fs ++ map winPair us) e ∙ window-fields (plus-fit es pass-fit)) _
-          (LeM-parts (length fs) R (plus-keeps es pass-fit) (LeM-refl S)) (plus-known es pass-fit (subst⁻¹ (λ us. T (allB (known fs) (unaryExprs (window us)))) e kept-windows))
+          node C (window ws) (window (v ∷ vs)) own (Q ++ S) (topped C below (plus-fit es pass-fit) r) (ap (λ us. select Q fs ++ map winPair us) e ∙ window-fields (plus-fit es pass-fit) S ws) _
+          (LeM-parts (length fs) R (plus-keeps es pass-fit (LeM-refl _)) (LeM-refl S)) (plus-known es pass-fit (subst⁻¹ (λ us. T (allB (known fs) (unaryExprs (window us)))) e kept-windows))
           (omega arith, subst⁻¹ (FitList FitWin 128) e (fit-select FitWin 128 S ws (fit .1)))
 
 -- ── every kind ──────────────────────────────────────────────────────────────────────────────
@@ -236,11 +209,11 @@ module _ (C : Catalogue) {fs : List Pair} (below : Fields fs) (go : Go) (g : Goo
   unary-good (projection is) k own fit b R f = projection-good C is k own (unfold FitUnary in fit) go g R f
   unary-good (filter e) k own fit b R f =
       let q = plus-fit (e ∷ []) f in
-      node C (filter e) (filter e) own _ (topped C below q (g true _ q)) refl _ (plus-keeps (e ∷ []) f) (plus-known (e ∷ []) f k) fit
+      node C (filter e) (filter e) own _ (topped C below q (g true _ q)) refl _ (plus-keeps (e ∷ []) f (LeM-refl _)) (plus-known (e ∷ []) f k) fit
   unary-good (sort ks) k own fit b R f =
       let es = map keyExpr ks in
       let q = plus-fit es f in
-      node C (sort ks) (sort ks) own _ (topped C below q (g true _ q)) refl _ (plus-keeps es f) (plus-known es f k) fit
+      node C (sort ks) (sort ks) own _ (topped C below q (g true _ q)) refl _ (plus-keeps es f (LeM-refl _)) (plus-known es f k) fit
   unary-good (limit s n) k own fit true R f = node C (limit s n) (limit s n) own R (topped C below f (g true R f)) refl _ (LeM-refl R) tt fit
   unary-good (limit s n) k own fit false R f = let r = g false R f in node C (limit s n) (limit s n) own _ (as-it-is C r) refl _ (r .kept .keeps) tt fit
   unary-good (aggregate gs vs) k own fit b R f = aggregate-good C below gs vs k own fit go g R f

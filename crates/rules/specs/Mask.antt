@@ -1,5 +1,5 @@
 -- Masks: a request, and a set of kept fields, is a list of yes and no as long as the fields that it speaks of.
-use mathlib.Core.List.{List, [], _∷_, _++_, map}
+use mathlib.Core.List.{List, [], _∷_, map}
 use mathlib.Core.Bool.{Bool, true, false, _||_}
 use Prim.Native.Nat.{ℕ, suc}
 use lib.Dec.{T}

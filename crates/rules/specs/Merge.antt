@@ -1,5 +1,5 @@
 -- The step that merges two projections: document 01's "Merge" and "House mode".
-use mathlib.Core.Path.{_≡_, refl, sym, ap}
+use mathlib.Core.Path.{sym, ap}
 use mathlib.Core.HLevel.{Discrete}
 use mathlib.Core.List.{List, [], _∷_, map}
 use mathlib.Core.Bool.{Bool, true, false, cond, not, _&&_, _||_, decide}
@@ -10,7 +10,7 @@ use native.Mathlib.Decide.{ℕ-discrete}
 use Prim.Native.Nat.{ℕ, zero, suc, _+_, _/_, _%_, _^_}
 use Rattle.cpl.specs.Tests.{anyB, allB, sumOf}
 use Rattle.cpl.specs.Codes.{tagOf}
-use Rattle.cpl.specs.Plan.{Pair, pair, eqP, Op1, Op2, Expr, col, lit, miss, un, bin, Item, bare, named, itemPair, itemExpr, Item-discrete, Expr-discrete, Pair-discrete, Op1-discrete, Op2-discrete}
+use Rattle.cpl.specs.Plan.{Pair, pair, eqP, Expr, col, lit, miss, un, bin, Item, bare, named, itemPair, itemExpr, Item-discrete, Expr-discrete, Pair-discrete, Op1-discrete, Op2-discrete}
 use Rattle.cpl.specs.Exprs.{fits, columns?}
 
 -- what a step makes of the upper and the lower list; none: stop

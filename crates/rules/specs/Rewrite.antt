@@ -1,8 +1,7 @@
 -- The pass over a whole plan: document 01's rules applied from the root downwards, with merges.
-use mathlib.Core.List.{List, [], _∷_, _++_, map}
+use mathlib.Core.List.{List, map}
 use mathlib.Core.Bool.{Bool, true, false, cond, _||_}
 use mathlib.Core.Option.{Option, none, some}
-use Prim.Native.Nat.{ℕ}
 use lib.Dec.{ltb}
 use Rattle.cpl.specs.Tests.{sumOf}
 use Rattle.cpl.specs.Limits.{maxTags}

@@ -2,11 +2,10 @@
 -- input, and which of the node's fields are left.
 use mathlib.Core.List.{List, [], _∷_, _++_, map}
 use mathlib.Core.Bool.{Bool, true, false, cond, _&&_}
-use mathlib.Core.Option.{Option, none, some}
-use Prim.Native.Nat.{ℕ}
+use mathlib.Core.Option.{Option, some}
 use lib.Dec.{ltb}
 use lib.ListN.{length, take, drop, getD}
-use Rattle.cpl.specs.Plan.{Pair, eqP, Expr, Item, bare, named, Key, Agg, Win, JoinType, j-inner, j-left, j-right, j-full, j-lsemi, j-lanti, j-rsemi, j-ranti, On, Leaf, scan, empty, Unary, projection, filter, sort, limit, aggregate, window, subqueryAlias, distinct, Binary, union, join, Plan, leaf, unary, binary, Catalogue, itemExpr, keyExpr, onLeft, onRight}
+use Rattle.cpl.specs.Plan.{Pair, eqP, Expr, Item, bare, named, Agg, Win, JoinType, j-inner, j-left, j-right, j-full, j-lsemi, j-lanti, j-rsemi, j-ranti, On, Leaf, scan, empty, Unary, projection, filter, sort, limit, aggregate, window, subqueryAlias, distinct, Binary, union, join, Plan, leaf, unary, Catalogue, itemExpr, keyExpr, onLeft, onRight}
 use Rattle.cpl.specs.Exprs.{usesAny, unaryExprs, condExprs}
 use Rattle.cpl.specs.Fields.{columnsOf, fieldsOf, joinFields}
 use Rattle.rules.specs.Mask.{Mask, select, orM, ones, zeros, count}

@@ -7,9 +7,8 @@ use Prim.Native.Nat.{ℕ}
 use lib.ListN.{length, take}
 use Rattle.cpl.specs.Plan.{Plan, Catalogue, Source}
 use Rattle.cpl.specs.Exprs.{planNodes, planTags}
-use Rattle.cpl.specs.Read.{Res, ok}
+use Rattle.cpl.specs.Read.{ok}
 use Rattle.cpl.specs.ReadPlan.{readFile}
-use Rattle.cpl.specs.Bytes.{bytesOf}
 use Rattle.cpl.specs.Fields.{fieldsOf}
 use Rattle.cpl.specs.Accept.{check}
 use Rattle.rules.specs.Mask.{Mask}

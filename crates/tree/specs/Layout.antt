@@ -4,12 +4,12 @@
 --   rows:  the parts of a node, four numbers a row. An expression stands there by the number of its root in the cells.
 --   nodes: the plan's nodes in prefix order, seven numbers a node: kind (the file's tag), number of the second input, first row, number of rows,
 --          and three more that depend on the kind.
-use mathlib.Core.List.{List, [], _∷_, _++_, map}
+use mathlib.Core.List.{List, [], _∷_, _++_}
 use mathlib.Core.Bool.{Bool, true, false}
 use mathlib.Core.Option.{Option, none, some}
-use Prim.Native.Nat.{ℕ, zero, suc, _+_, _*_, _-_}
+use Prim.Native.Nat.{ℕ, _+_, _*_, _-_}
 use lib.ListN.{length}
-use Rattle.cpl.specs.Plan.{Pair, pair, Op1, Op2, Expr, col, lit, miss, un, bin, Item, bare, named, Key, key, Call, rows, over, Agg, agg, Win, win, On, on, Leaf, scan, empty, Unary, projection, filter, sort, limit, aggregate, window, subqueryAlias, distinct, Binary, union, join, Plan, leaf, unary, binary, itemExpr}
+use Rattle.cpl.specs.Plan.{Pair, pair, Expr, col, lit, miss, un, bin, Item, bare, named, Key, key, Call, rows, over, Agg, agg, Win, win, On, on, Leaf, scan, empty, Unary, projection, filter, sort, limit, aggregate, window, subqueryAlias, distinct, Binary, union, join, Plan, leaf, unary, binary, itemExpr}
 use Rattle.cpl.specs.Codes.{op1Tag, op2Tag, unsigned, joinNumber, bit}
 use Rattle.cpl.specs.Exprs.{exprTags, planNodes}
 use Rattle.cpl.specs.Bytes.{callNumber, fetchNumber}
