@@ -1,5 +1,6 @@
 -- Laws and theorems of the rules.
 pub mod Masks
+pub mod Requests
 pub mod Asked
 pub mod Known
 pub mod Inputs

@@ -3,7 +3,7 @@ use mathlib.Core.Bool.{decide}
 use native.Mathlib.Decide.{ℕ-discrete}
 use Rattle.cpl.specs.Computes.{cpl-computes}
 use Rattle.rules.specs.Mask.{select, orM, ones, zeros, count}
-use Rattle.rules.specs.Request.{faultFrom, requestFault, maskOf}
+use Rattle.rules.specs.Request.{faultFrom, requestFault, maskOf, indicesFrom}
 use Rattle.rules.specs.Merge.{inZ, zD, exprD, itemD, eqItems, plain, occurs, occursIn, pushes, held, usesNone, defOf, replace, define, item, replaceItem, dropsChild, mergeStep}
 use Rattle.rules.specs.Rules.{topUp, used, plus, sameColumns, overChild, leafRule, leafKept, projectionJob, aggregateJob, windowJob, unaryJob, leftPart, rightPart, leftExprs, rightExprs, leftAsk, rightAsk, binaryKept}
 use Rattle.rules.specs.Rewrite.{input, runJob, pend, tooLong, counted, merged, leafWalk, nodeWalk, unaryWalk, binaryWalk, walk}

@@ -1,6 +1,6 @@
 -- Requests: "Strictly increasing indices."
 use mathlib.Core.List.{List, [], _∷_, map}
-use mathlib.Core.Bool.{_&&_}
+use mathlib.Core.Bool.{true, false, _&&_}
 use mathlib.Core.Option.{Option, none, some}
 use Prim.Native.Nat.{ℕ, suc}
 use lib.Dec.{eqb, ltb, leb}
@@ -22,3 +22,9 @@ requestFault width is = faultFrom 0 0 width is
 -- the request as a mask over that many fields
 unfoldable pub maskOf : (width : ℕ) → List ℕ → Mask
 maskOf width is = map (λ i. anyB (eqb i) is) (iota 0 width)
+
+-- the indices of a mask whose first field has the number `from`, in order: the request that it is
+unfoldable pub indicesFrom : (from : ℕ) → Mask → List ℕ
+indicesFrom from [] = []
+indicesFrom from (true ∷ ks) = from ∷ indicesFrom (suc from) ks
+indicesFrom from (false ∷ ks) = indicesFrom (suc from) ks
