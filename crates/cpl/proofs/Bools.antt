@@ -1,6 +1,6 @@
 -- Laws of yes and no: what a test that says yes says of its parts.
-use mathlib.Core.Path.{_≡_, refl}
-use mathlib.Core.Bool.{Bool, true, false, cond, not, _&&_, _||_}
+use mathlib.Core.Path.{_≡_, refl, sym}
+use mathlib.Core.Bool.{Bool, true, false, cond, not, _&&_, _||_, true≢false}
 use lib.Dec.{T}
 
 pub halves : (a b : Bool) → T (a && b) → T a × T b
@@ -12,6 +12,15 @@ pub both-T : (a b : Bool) → T a → T b → T (a && b)
 both-T true true s t = tt
 both-T true false s t = absurd t
 both-T false b s t = absurd s
+
+-- the same of equations
+pub and-left : (a b : Bool) → (a && b) ≡ true → a ≡ true
+and-left true b e = refl
+and-left false b e = e
+
+pub and-right : (a b : Bool) → (a && b) ≡ true → b ≡ true
+and-right true b e = e
+and-right false b e = absurd (true≢false (sym e))
 
 pub left-T : (a b : Bool) → T a → T (a || b)
 left-T true b t = tt

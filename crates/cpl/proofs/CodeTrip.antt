@@ -1,12 +1,13 @@
 -- The numbers in a file and what they stand for: there and back. Assumes nothing.
 use Prim.Native.Nat.{ℕ, zero, suc, _+_, _*_, _-_, _/_, _%_, _^_, _≤_, _<_}
-use mathlib.Core.Path.{_≡_, refl, sym, ap}
-use mathlib.Core.Bool.{Bool, true, false, cond, _&&_, true≢false}
+use mathlib.Core.Path.{_≡_, refl, ap}
+use mathlib.Core.Bool.{Bool, true, false, cond, _&&_}
 use native.Mathlib.Omega.{arith}
 use lib.Dec.{ltb, eqb}
 use lib.IntN.{ℤ, pos, negsuc}
 use lib.Signed.{mag}
 use borrow.Author.Tests.{eqb-true, eqb-false, lt-ltb, le-ltb, ltb-true, ltb-false}
+use Rattle.cpl.proofs.Bools.{and-left, and-right}
 use Rattle.cpl.specs.Plan.{Op1, o-not, o-missing, Op2, o-add, o-sub, o-mul, o-eq, o-lt, o-and, o-or, Fn, f-count, f-sum, f-min, f-max, JoinType, j-inner, j-left, j-right, j-full, j-lsemi, j-lanti, j-rsemi, j-ranti}
 use Rattle.cpl.specs.Codes.{op1Tag, op1Of, op2Tag, op2Of, signed, unsigned, fnNumber, fnOf, joinNumber, joinOf, bit}
 
@@ -16,14 +17,6 @@ use Rattle.cpl.specs.Codes.{op1Tag, op1Of, op2Tag, op2Of, signed, unsign
 gives-back : (f : ℕ → ℕ) (from n : ℕ) → Bool
 gives-back f from zero = true
 gives-back f from (suc n) = eqb (f from) from && gives-back f (suc from) n
-
-pub and-left : (a b : Bool) → (a && b) ≡ true → a ≡ true
-and-left true b e = refl
-and-left false b e = e
-
-pub and-right : (a b : Bool) → (a && b) ≡ true → b ≡ true
-and-right true b e = e
-and-right false b e = absurd (true≢false (sym e))
 
 -- tried at each number of a range, it holds of each
 tried : (f : ℕ → ℕ) (from n : ℕ) → gives-back f from n ≡ true → (x : ℕ) → from ≤ x → x < from + n → f x ≡ x

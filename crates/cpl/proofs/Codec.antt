@@ -9,7 +9,8 @@ use Rattle.cpl.specs.Limits.{maxNodes, maxTags}
 use Rattle.cpl.specs.Lists.{a[]}
 use Rattle.cpl.specs.AreBytes.{AreBytes}
 use Rattle.cpl.specs.Read.{Res, ok, bad, Reader, andThen, _>>=_, give, refuse, pick, here}
-use Rattle.cpl.proofs.Stands.{Stands, stands-fits, stands-first, stands-rest, stands-both, all-append}
+use Rattle.cpl.proofs.Lists.{All-++}
+use Rattle.cpl.proofs.Stands.{Stands, stands-fits, stands-first, stands-rest, stands-both}
 
 -- ── from the bytes to the value ─────────────────────────────────────────────────────────────
 
@@ -28,7 +29,7 @@ pub reads-then : {A B : Type 0} {p : Reader A} (k : A → Reader B) {a : A} {b :
     Reads p a xs t n → Reads (k a) b ys t′ n′ → Reads (p >>= k) b (xs ++ ys) (t + t′) (n + n′)
 reads-then k {b = b} {xs} {ys} {t} {t′} {n} {n′} r q =
     record {
-      are-bytes = all-append (r .are-bytes) (q .are-bytes);
+      are-bytes = All-++ (r .are-bytes) (q .are-bytes);
       read =
           λ file at u m s l j.
           rw (r .read file at u m (stands-first file xs ys at s) (omega arith) (omega arith))

@@ -17,9 +17,10 @@ use Rattle.cpl.specs.Read.{ok, _>>=_, give}
 use Rattle.cpl.specs.ReadPlan.{markBytes, starts, readMark, readCatalogue, planTo, readEnd, readSource, readFile}
 use Rattle.cpl.specs.Bytes.{planBytes, catalogueBytes, bytesOf}
 use Rattle.cpl.specs.Writable.{FitPlan, FitCatalogue, Writable}
-use Rattle.cpl.proofs.Stands.{Stands, stands-cons, stands-self, stands-first, stands-rest, stands-all, all-append}
+use Rattle.cpl.proofs.Lists.{All-++}
+use Rattle.cpl.proofs.Stands.{Stands, stands-cons, stands-self, stands-first, stands-rest, stands-all}
 use Rattle.cpl.proofs.Codec.{same-ok, Holds, holds-then, holds-pick, holds-ok, Stood, stood-inside, stood-then, found-stood}
-use Rattle.cpl.proofs.CodeTrip.{and-left, and-right}
+use Rattle.cpl.proofs.Bools.{and-left, and-right}
 use Rattle.cpl.proofs.CatalogueTrip.{catalogue-codec}
 use Rattle.cpl.proofs.PlanTrip.{plan-codec}
 
@@ -39,7 +40,7 @@ starts-stands (m ∷ ms) (b ∷ file) e = (omega arith, sym (eqb-true m b (and-l
 pub bytes-are-bytes : (s : Source) → Writable s → AreBytes (bytesOf s)
 unfolding bytesOf
 bytes-are-bytes s w =
-    all-append mark-bytes (all-append (catalogue-codec .reads (s .catalogue) (w .tables) .are-bytes) (plan-codec (s .catalogue) (w .tables) .reads (s .plan) (w .nodes-fit) .are-bytes))
+    All-++ mark-bytes (All-++ (catalogue-codec .reads (s .catalogue) (w .tables) .are-bytes) (plan-codec (s .catalogue) (w .tables) .reads (s .plan) (w .nodes-fit) .are-bytes))
 
 -- a mark, a catalogue, a plan and the end
 source-ok : (file : List ℕ) (C : Catalogue) (p : Plan) (at at′ tags nodes : ℕ) → readMark file 0 0 0 ≡ ok 0 5 0 0 → readCatalogue file 5 0 0 ≡ ok C at 0 0 →

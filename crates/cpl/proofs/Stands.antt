@@ -53,10 +53,6 @@ stands-all file bs s e = ext-getD 0 bs file e (λ i h. stands-get file bs 0 s i 
 
 -- ── each element ────────────────────────────────────────────────────────────────────────────
 
-pub all-append : {A : Type 0} {P : A → Type 0} {xs ys : List A} → All P xs → All P ys → All P (xs ++ ys)
-all-append a[] r = r
-all-append (h a∷ hs) r = h a∷ all-append hs r
-
 -- what holds of each element and of the default holds at each place
 pub all-at : {A : Type 0} {P : A → Type 0} {xs : List A} (d : A) → All P xs → P d → (i : ℕ) → P (getD xs i d)
 all-at d a[] h i = h
