@@ -2,3 +2,4 @@
 pub mod Laws
 pub mod Same
 pub mod Rows
+pub mod Kept

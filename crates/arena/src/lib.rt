@@ -8,7 +8,7 @@ ghost use Prim.Native.Nat.{ℕ, _+_, _*_, _^_, _<_, _≤_};
 ghost use lib.ListN.{length};
 ghost use Rattle.cpl.specs.Codes.{tagOf};
 ghost use Rattle.cpl.specs.Exprs.{columns?, exprTags, itemTags};
-ghost use Rattle.cpl.specs.Plan.{pair};
+ghost use Rattle.cpl.specs.Plan.{col, pair};
 ghost use Rattle.cpl.specs.Tests.{allB, sumOf};
 ghost use Rattle.rules.specs.Merge.{eqItems, exprD, itemD, occurs, occursIn, plain, usesNone};
 ghost use Rattle.arena.specs.Cells.{exprAt, NodeIs, Wf};
@@ -73,6 +73,21 @@ pub fn tag_at(cells: &[u64], i: usize) -> u64
 {
     let w = words_at(cells, i);
     w.tag
+}
+
+/// Is node `i`'s expression the column (q, n)? The nodes up to it are well formed.
+pub fn is_column(cells: &[u64], i: usize, q: u16, n: u16) -> bool
+    requires { ⌜ Wf (now cells) (i + 1) ⌝ }
+    ensures { λ r. ⌜ r ≡ decide (exprD (exprAt (now (cells .entry)) i) (col (pair q n))) ⌝ }
+{
+    let v = node_at(cells, i);
+    match v {
+        View::Col(a, b) => (a == q) & (b == n),
+        View::Lit(_) => false,
+        View::Miss => false,
+        View::One(_, _) => false,
+        View::Two(_, _, _) => false,
+    }
 }
 
 /// The four numbers of a row.
