@@ -106,8 +106,8 @@ pub fn subst(
             let Built::Done(node, more) = b else {
                 return Built::Full;
             };
-            let c = subst(src, y, items, first, count, cells, level, dst, more);
-            let Built::Done(node2, most) = c else {
+            let d = subst(src, y, items, first, count, cells, level, dst, more);
+            let Built::Done(node2, most) = d else {
                 return Built::Full;
             };
             push(dst, most, t, node as u64, node2 as u64)
