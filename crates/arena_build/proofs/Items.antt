@@ -123,8 +123,8 @@ module _ (s : List ℕ) (i q n m k : ℕ) (h : i * 4 + 3 < length s) where
   unfolding putRow r₃
   row-is = record {
     pair-is = sym (ap₂ pair
-      (getD-set-other r₃ (i * 4 + 3) (i * 4) k 0 (omega arith) ∙ getD-set-other r₂ (i * 4 + 2) (i * 4) m 0 (omega arith) ∙ getD-set-other r₁ (i * 4 + 1) (i * 4) n 0 (omega arith) ∙ getD-set-same s (i * 4) q 0 (omega arith))
-      (getD-set-other r₃ (i * 4 + 3) (i * 4 + 1) k 0 (omega arith) ∙ getD-set-other r₂ (i * 4 + 2) (i * 4 + 1) m 0 (omega arith) ∙ getD-set-same r₁ (i * 4 + 1) n 0 (simp length-set (omega arith))));
+        (getD-set-other r₃ (i * 4 + 3) (i * 4) k 0 (omega arith) ∙ getD-set-other r₂ (i * 4 + 2) (i * 4) m 0 (omega arith) ∙ getD-set-other r₁ (i * 4 + 1) (i * 4) n 0 (omega arith) ∙ getD-set-same s (i * 4) q 0 (omega arith))
+        (getD-set-other r₃ (i * 4 + 3) (i * 4 + 1) k 0 (omega arith) ∙ getD-set-other r₂ (i * 4 + 2) (i * 4 + 1) m 0 (omega arith) ∙ getD-set-same r₁ (i * 4 + 1) n 0 (simp length-set (omega arith))));
     mark-is = sym (getD-set-other r₃ (i * 4 + 3) (i * 4 + 2) k 0 (omega arith) ∙ getD-set-same r₂ (i * 4 + 2) m 0 (simp length-set (omega arith)));
     root-is = sym (getD-set-same r₃ (i * 4 + 3) k 0 (simp length-set (omega arith)));
   }
@@ -158,7 +158,7 @@ module _ {s : List ℕ} {i q n m r : ℕ} (c : List ℕ) (is : List Item) (v : R
     copy-placed d e = rw e (place _ rows k q n m (exprAt c r) cells used node more cells′ h (rw (copy-same is (exprAt c r)) at d) (read-expr c v o) (sym (read-row c v)) (read-col c v o))
 
     pub replace-placed : {z : ℕ} → Made (replace (putFor 1 is) (exprAt c r)) cells used node more cells′ → Marked m (pair q n) (exprAt cells′ node) z → rows′ ≡ putRow rows k q n z node
-      → Placed (replaceItem is (itemAt s c i)) k rows cells used node more rows′ cells′
+        → Placed (replaceItem is (itemAt s c i)) k rows cells used node more rows′ cells′
     replace-placed {z} d w e =
         let y = rw (d .means) at w in
         let x = replace-row c is v o in
@@ -192,8 +192,7 @@ map-more g [] i = refl
 map-more g (j ∷ is) i = ap (_∷_ (g j)) (map-more g is i)
 
 module _ {is : List Item} {it : Item} {to n : ℕ} {rows cells : List ℕ} {used u : ℕ} {rows₁ cells₁ : List ℕ} {node more : ℕ} {rows₂ cells₂ : List ℕ}
-  (p : Listing is to n rows cells used u rows₁ cells₁) (q : Placed it (to + n) rows₁ cells₁ u node more rows₂ cells₂) where
-
+    (p : Listing is to n rows cells used u rows₁ cells₁) (q : Placed it (to + n) rows₁ cells₁ u node more rows₂ cells₂) where
   old-or-new : (P : ℕ → Type 0) → ((k : ℕ) → to ≤ k → k < to + n → P k) → P (to + n) → (k : ℕ) → to ≤ k → k < to + (n + 1) → P k
   old-or-new P f g k h l = elim (ℕ-discrete k (to + n)) [ yes e ↦ subst⁻¹ P e g | no z ↦ f k h (omega arith) ]
 
@@ -233,6 +232,12 @@ module _ (g : Item → Item) (s c : List ℕ) (f : ℕ) where
   pub made-more : (n : ℕ) → made-of (n + 1) ≡ made-of n ++ (g (itemAt s c (f + n)) ∷ [])
   made-more n = ap (map g) (items-more s c f n) ∙ map-more g (itemsAt s c f n) (itemAt s c (f + n))
 
+  -- one row more is done
+  pub made-step : {n to : ℕ} {rows cells : List ℕ} {used u : ℕ} {rows₁ cells₁ : List ℕ} {node more : ℕ} {rows₂ cells₂ : List ℕ}
+      → Listing (made-of n) to n rows cells used u rows₁ cells₁ → Placed (g (itemAt s c (f + n))) (to + n) rows₁ cells₁ u node more rows₂ cells₂
+      → Listing (made-of (n + 1)) to (n + 1) rows cells used more rows₂ cells₂
+  made-step {n} p q = rw (made-more n) (listing-more p q)
+
   nodes-more : (n : ℕ) → nodesOf (made-of (n + 1)) ≡ nodesOf (made-of n) + exprTags (itemExpr (g (itemAt s c (f + n))))
   unfolding nodesOf
   nodes-more n = ap nodesOf (made-more n) ∙ sum-more (λ i. exprTags (itemExpr i)) (made-of n) (g (itemAt s c (f + n)))
@@ -243,8 +248,8 @@ module _ (g : Item → Item) (s c : List ℕ) (f : ℕ) where
 
   -- an item for which there is no room
   pub listing-full : {i to : ℕ} {rows cells : List ℕ} {used u : ℕ} {rows₁ cells₁ rows₂ cells₂ : List ℕ} (n : ℕ) → i < n
-    → Listing (made-of i) to i rows cells used u rows₁ cells₁ → Left (g (itemAt s c (f + i))) rows₁ cells₁ u rows₂ cells₂
-    → Overflown (made-of n) to rows cells used rows₂ cells₂
+      → Listing (made-of i) to i rows cells used u rows₁ cells₁ → Left (g (itemAt s c (f + i))) rows₁ cells₁ u rows₂ cells₂
+      → Overflown (made-of n) to rows cells used rows₂ cells₂
   listing-full {i} n h p q =
       let e : i + 1 + (n - (i + 1)) ≡ n = omega arith in
       record {
