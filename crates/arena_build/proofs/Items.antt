@@ -19,7 +19,7 @@ use Rattle.arena.specs.Rows.{RowIs, RowOk, RowsOk, itemAt, itemsAt, markAt, pai
 use Rattle.arena.proofs.Kept.{kept-items, kept-refl, kept-root, kept-rows, kept-trans, kept-wf}
 use Rattle.arena.proofs.Laws.{here, wf-less}
 use Rattle.arena.proofs.Rows.{read-col, read-expr, read-row, row-bare, row-named}
-use Rattle.arena.proofs.Same.{dec-true, is-no, same-cols}
+use Rattle.arena.proofs.Same.{dec-true, is-no, items-length, same-cols}
 use Rattle.arena_build.specs.Build.{Made, Refused, putFor}
 use Rattle.arena_build.proofs.Defs.{copy-same}
 use Rattle.arena_build.specs.Lists.{Left, Listing, Marked, Overflown, Placed, again, nodesOf, putRow}
@@ -268,3 +268,8 @@ pub tags-within : (is : List Item) → sumOf itemTags is ≤ nodesOf is + length
 unfolding nodesOf sumOf
 tags-within [] = omega arith
 tags-within (i ∷ is) = omega (arith, one-more i, tags-within is)
+
+pub listing-tags : {is : List Item} {to n : ℕ} {rows cells : List ℕ} {used more : ℕ} {rows′ cells′ : List ℕ}
+    → Listing is to n rows cells used more rows′ cells′ → sumOf itemTags (itemsAt rows′ cells′ to n) ≤ more + n
+listing-tags {is} {to} {n} {rows′ = rows′} {cells′ = cells′} p =
+    omega (arith, ap (sumOf itemTags) (p .means), tags-within is, p .grown, ap length (p .means), items-length rows′ cells′ to n)
