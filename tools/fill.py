@@ -62,7 +62,8 @@ if cyc:
     uses=[l.replace(f'as {f}-lts','as lts') for l in uses if 'Prim.Native.Nat' not in l]
     ind='  '
 else:
-    needs=re.findall(r'\n(\S+) : tie\.(Need-\S+)',s); f=None
+    needs=re.findall(r'\n(\S+) :\s+tie\.(Need-\S+)',s); f=None
+    loops=' '+' '.join(x for m in re.findall(r'abbrev (Inv-\S+) :',s) for x in (m,m.replace('Inv-','μ-'))) if 'abbrev Inv-' in s else ''
     uses=[l for l in s.split('\n') if l.startswith('use ') and not re.search(r'as (reads|lts|\S+-reads)$',l) and 'needs}' not in l]
     ind=''
 o=head.rstrip()+'\n'+'\n'.join(uses)+'\n\n'
@@ -92,7 +93,7 @@ for n,N in needs:
         if x not in names: names.append(x)
     t=re.sub(r'@([\w-]*\w)',r'\1',t)
     req=' κs' if re.search(r'requires(-\d+)?$',n) else ''
-    sig=f'lts.{N} (callees t) (given t) {f}.Post' if cyc else f'tie.{N}'
+    sig=f'lts.{N} (callees t) (given t) {f}.Post' if cyc else f'tie.{N}{loops}'
     o+=f'{ind}{n} : {sig}\n'
     mm=re.match(r'unfolding ([^;]*);\s*',t)
     if mm: o+=f'{ind}unfolding {mm.group(1)}\n'; t=t[mm.end():]
@@ -105,6 +106,6 @@ if cyc:
     o+=' '.join(f'({n} t)' for n,_ in needs)+'\n'
 else:
     g=re.search(r'\npub (\S+)-spec :',s).group(1)
-    o+=f'pub {g}-spec : {{M : Type 1}} → statement M\n{g}-spec = tie.close (tie.spec {" ".join(n for n,_ in needs)})\n'
+    o+=f'pub {g}-spec : {{M : Type 1}} → statement M\n{g}-spec = tie.close (tie.spec{loops} {" ".join(n for n,_ in needs)})\n'
 os.makedirs(os.path.dirname(proof),exist_ok=True)
 open(proof,'w').write(o); print('wrote',proof,o.count('\n'),'lines,',len(needs),'needs')

@@ -17,6 +17,12 @@ xAt s i = getD s (i * 3 + 1) 0
 abbrev pub yAt : List ℕ → ℕ → ℕ
 yAt s i = getD s (i * 3 + 2) 0
 
+-- t, x and y are the numbers of node i
+pub record NodeIs (s : List ℕ) (i t x y : ℕ) : Type 0 where
+  pub tag-is : t ≡ tagAt s i
+  pub x-is : x ≡ xAt s i
+  pub y-is : y ≡ yAt s i
+
 -- a node by document 01's table of tags: 0 column (x its qualifier, y its name), 1 literal (x its 64 bits), 2 missing, 3 and 4 with
 -- one operand, 5 to 11 with two
 unfoldable pub nodeOf : (tag x y : ℕ) (first second : Expr) → Expr

@@ -18,6 +18,12 @@ markAt s i = getD s (i * 4 + 2) 0
 abbrev pub rootAt : List ℕ → ℕ → ℕ
 rootAt s i = getD s (i * 4 + 3) 0
 
+-- q, n, m and k are the numbers of row i
+pub record RowIs (s : List ℕ) (i q n m k : ℕ) : Type 0 where
+  pub pair-is : pair q n ≡ pairAt s i
+  pub mark-is : m ≡ markAt s i
+  pub root-is : k ≡ rootAt s i
+
 -- the item with a mark, a pair and an expression
 unfoldable pub rowItem : (mark : ℕ) → Pair → Expr → Item
 rowItem m c e = cond (eqb m 0) (bare c) (named c e)

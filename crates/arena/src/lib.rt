@@ -8,11 +8,11 @@ ghost use Prim.Native.Nat.{ℕ, _+_, _*_, _^_, _<_, _≤_};
 ghost use lib.ListN.{length};
 ghost use Rattle.cpl.specs.Codes.{tagOf};
 ghost use Rattle.cpl.specs.Exprs.{columns?, exprTags, itemTags};
-ghost use Rattle.cpl.specs.Plan.{pair};
+ghost use Rattle.cpl.specs.Plan.{col, pair};
 ghost use Rattle.cpl.specs.Tests.{allB, sumOf};
 ghost use Rattle.rules.specs.Merge.{eqItems, exprD, itemD, occurs, occursIn, plain, usesNone};
-ghost use Rattle.arena.specs.Cells.{exprAt, tagAt, xAt, yAt, Wf};
-ghost use Rattle.arena.specs.Rows.{itemAt, itemsAt, markAt, pairAt, rootAt, RowOk, RowsOk};
+ghost use Rattle.arena.specs.Cells.{exprAt, NodeIs, Wf};
+ghost use Rattle.arena.specs.Rows.{itemAt, itemsAt, RowIs, RowOk, RowsOk};
 ghost use Rattle.arena.specs.View.{Shows};
 
 /// The three numbers of a node.
@@ -25,7 +25,7 @@ pub struct Node {
 /// The numbers of node `i`, which lies in the array.
 pub fn words_at(cells: &[u64], i: usize) -> Node
     requires { ⌜ i * 3 + 2 < length (now cells) ⌝ }
-    ensures { λ r. ⌜ (r .tag ≡ tagAt (now (cells .entry)) i) × (r .x ≡ xAt (now (cells .entry)) i) × (r .y ≡ yAt (now (cells .entry)) i) ⌝ }
+    ensures { λ r. ⌜ NodeIs (now (cells .entry)) i (r .tag) (r .x) (r .y) ⌝ }
 {
     let at = i * 3;
     Node {
@@ -75,6 +75,21 @@ pub fn tag_at(cells: &[u64], i: usize) -> u64
     w.tag
 }
 
+/// Is node `i`'s expression the column (q, n)? The nodes up to it are well formed.
+pub fn is_column(cells: &[u64], i: usize, q: u16, n: u16) -> bool
+    requires { ⌜ Wf (now cells) (i + 1) ⌝ }
+    ensures { λ r. ⌜ r ≡ decide (exprD (exprAt (now (cells .entry)) i) (col (pair q n))) ⌝ }
+{
+    let v = node_at(cells, i);
+    match v {
+        View::Col(a, b) => (a == q) & (b == n),
+        View::Lit(_) => false,
+        View::Miss => false,
+        View::One(_, _) => false,
+        View::Two(_, _, _) => false,
+    }
+}
+
 /// The four numbers of a row.
 pub struct Row {
     pub qualifier: u16,
@@ -86,7 +101,7 @@ pub struct Row {
 /// The numbers of row `i`, which lies in the array.
 pub fn row_at(items: &[u16], i: usize) -> Row
     requires { ⌜ i * 4 + 3 < length (now items) ⌝ }
-    ensures { λ r. ⌜ (pair (r .qualifier) (r .name) ≡ pairAt (now (items .entry)) i) × (r .mark ≡ markAt (now (items .entry)) i) × (r .root ≡ rootAt (now (items .entry)) i) ⌝ }
+    ensures { λ r. ⌜ RowIs (now (items .entry)) i (r .qualifier) (r .name) (r .mark) (r .root) ⌝ }
 {
     let at = i * 4;
     Row {
@@ -123,14 +138,7 @@ pub fn count_uses(cells: &[u64], i: usize, q: u16, n: u16) -> usize
 }
 
 /// How often the column (q, n) occurs over the whole list. Its rows are well formed, and it has fewer than 2^32 tags.
-pub fn list_uses(
-    items: &[u16],
-    first: usize,
-    count: usize,
-    cells: &[u64],
-    q: u16,
-    n: u16,
-) -> usize
+pub fn list_uses(items: &[u16], first: usize, count: usize, cells: &[u64], q: u16, n: u16) -> usize
     requires { ⌜ RowsOk (now items) (now cells) first count ⌝ }
     requires { ⌜ sumOf itemTags (itemsAt (now items) (now cells) first count) < 2 ^ 32 ⌝ }
     ensures { λ r. ⌜ r ≡ occursIn (pair q n) (itemsAt (now (items .entry)) (now (cells .entry)) first count) ⌝ }
@@ -169,7 +177,21 @@ pub fn count_tags(cells: &[u64], i: usize) -> usize
     }
 }
 
-/// The number of tags of a list, an alias being a tag. Its rows are well formed, and there are fewer than 2^32.
+/// The number of tags of the item of row `i`, an alias being a tag. The row is well formed, and there are fewer than 2^32.
+pub fn item_tags(items: &[u16], i: usize, cells: &[u64]) -> usize
+    requires { ⌜ RowOk (now items) (now cells) i ⌝ }
+    requires { ⌜ itemTags (itemAt (now items) (now cells) i) < 2 ^ 32 ⌝ }
+    ensures { λ r. ⌜ r ≡ itemTags (itemAt (now (items .entry)) (now (cells .entry)) i) ⌝ }
+{
+    let row = row_at(items, i);
+    if row.mark == 0 {
+        return 1;
+    }
+    let tags = count_tags(cells, row.root);
+    tags + 1
+}
+
+/// The number of tags of a list. Its rows are well formed, and there are fewer than 2^32.
 pub fn list_tags(items: &[u16], first: usize, count: usize, cells: &[u64]) -> usize
     requires { ⌜ RowsOk (now items) (now cells) first count ⌝ }
     requires { ⌜ sumOf itemTags (itemsAt (now items) (now cells) first count) < 2 ^ 32 ⌝ }
@@ -178,11 +200,7 @@ pub fn list_tags(items: &[u16], first: usize, count: usize, cells: &[u64]) -> us
     let mut sum = 0;
     let mut i = 0;
     while i < count {
-        let row = row_at(items, first + i);
-        let tags = count_tags(cells, row.root);
-        if row.mark != 0 {
-            sum += 1;
-        }
+        let tags = item_tags(items, first + i, cells);
         sum += tags;
         i += 1;
     }
@@ -230,19 +248,17 @@ pub fn same_item(
 {
     let v = row_at(items, i);
     let w = row_at(items2, j);
-    if (v.mark == 0) != (w.mark == 0) {
-        return false;
-    }
-    if v.qualifier != w.qualifier {
-        return false;
-    }
-    if v.name != w.name {
-        return false;
-    }
+    let pairs = (v.qualifier == w.qualifier) & (v.name == w.name);
     if v.mark == 0 {
-        return true;
+        return (w.mark == 0) & pairs;
     }
-    same_expr(cells, v.root, cells2, w.root)
+    if w.mark == 0 {
+        return false;
+    }
+    if pairs {
+        return same_expr(cells, v.root, cells2, w.root);
+    }
+    false
 }
 
 /// Are two lists the same, item by item? The rows of both are well formed.
@@ -265,7 +281,8 @@ pub fn same_list(
     }
     let mut i = 0;
     while i < count {
-        if !same_item(items, first + i, cells, items2, first2 + i, cells2) {
+        let same = same_item(items, first + i, cells, items2, first2 + i, cells2);
+        if !same {
             return false;
         }
         i += 1;
@@ -301,12 +318,26 @@ pub fn uses_no_column(items: &[u16], first: usize, count: usize, cells: &[u64]) 
     let mut i = 0;
     while i < count {
         let row = row_at(items, first + i);
-        if has_column(cells, row.root) {
+        let found = has_column(cells, row.root);
+        if found {
             return false;
         }
         i += 1;
     }
     true
+}
+
+/// Is the item of row `i` a bare column or without columns? The row is well formed.
+pub fn is_plain(items: &[u16], i: usize, cells: &[u64]) -> bool
+    requires { ⌜ RowOk (now items) (now cells) i ⌝ }
+    ensures { λ r. ⌜ r ≡ plain (itemAt (now (items .entry)) (now (cells .entry)) i) ⌝ }
+{
+    let row = row_at(items, i);
+    if row.mark == 0 {
+        return true;
+    }
+    let found = has_column(cells, row.root);
+    !found
 }
 
 /// Is each item of a list a bare column or without columns? Its rows are well formed.
@@ -316,11 +347,9 @@ pub fn all_plain(items: &[u16], first: usize, count: usize, cells: &[u64]) -> bo
 {
     let mut i = 0;
     while i < count {
-        let row = row_at(items, first + i);
-        if row.mark != 0 {
-            if has_column(cells, row.root) {
-                return false;
-            }
+        let yes = is_plain(items, first + i, cells);
+        if !yes {
+            return false;
         }
         i += 1;
     }

@@ -5,7 +5,7 @@ use Prim.Native.Nat.{ℕ, _<_, _≤_}
 use native.Mathlib.Omega.{arith}
 use Rattle.cpl.specs.Codes.{signed}
 use Rattle.cpl.specs.Plan.{col, lit, pair}
-use Rattle.arena.specs.Cells.{NodeOk, tagAt, xAt, yAt}
+use Rattle.arena.specs.Cells.{NodeIs, NodeOk, tagAt}
 use Rattle.arena.specs.View.{Shows}
 use Rattle.arena.specs.declared.View.the-variants.{Col, Lit, Miss, One, Two}
 use Rattle.arena.proofs.Laws.{at-col, at-lit, at-miss, at-one, at-two, here}
@@ -13,28 +13,28 @@ use Rattle.arena.proofs.node_at.Statement.{statement}
 use Rattle.arena.proofs.node_at.Tie as tie
 
 -- once the three numbers are read
-module _ {s : List ℕ} {i : ℕ} (o : NodeOk s i) {t x y : ℕ} (e : (t ≡ tagAt s i) × (x ≡ xAt s i) × (y ≡ yAt s i)) where
+module _ {s : List ℕ} {i : ℕ} (o : NodeOk s i) {t x y : ℕ} (e : NodeIs s i t x y) where
   as-col : t ≡ 0 → Shows s i (Col x y)
-  as-col h = at-col s i (sym (e .0) ∙ h) ∙ sym (ap₂ (λ a b. col (pair a b)) (e .1) (e .2))
+  as-col h = at-col s i (sym (e .tag-is) ∙ h) ∙ sym (ap₂ (λ a b. col (pair a b)) (e .x-is) (e .y-is))
 
   as-lit : t ≡ 1 → Shows s i (Lit x)
-  as-lit h = at-lit s i (sym (e .0) ∙ h) ∙ sym (ap (λ a. lit (signed a)) (e .1))
+  as-lit h = at-lit s i (sym (e .tag-is) ∙ h) ∙ sym (ap (λ a. lit (signed a)) (e .x-is))
 
   as-miss : t ≡ 2 → Shows s i Miss
-  as-miss h = at-miss s i (sym (e .0) ∙ h)
+  as-miss h = at-miss s i (sym (e .tag-is) ∙ h)
 
   as-one : 3 ≤ t → t < 5 → Shows s i (One t x)
   as-one h k =
-      let three : 3 ≤ tagAt s i = omega (arith, e .0) in
+      let three : 3 ≤ tagAt s i = omega (arith, e .tag-is) in
       let f = o .first three in
-      rw (e .0, e .1) (at-one s i three (omega (arith, e .0)) f, f, three, omega (arith, e .0))
+      rw (e .tag-is, e .x-is) (at-one s i three (omega (arith, e .tag-is)) f, f, three, omega (arith, e .tag-is))
 
   as-two : 5 ≤ t → Shows s i (Two t x y)
   as-two h =
-      let five : 5 ≤ tagAt s i = omega (arith, e .0) in
+      let five : 5 ≤ tagAt s i = omega (arith, e .tag-is) in
       let f = o .first (omega arith) in
       let g = o .second five in
-      rw (e .0, e .1, e .2) (at-two s i five f g, f, g, five, o .known)
+      rw (e .tag-is, e .x-is, e .y-is) (at-two s i five f g, f, g, five, o .known)
 
 words-at-requires : tie.Need-words-at-requires
 words-at-requires c κs =
@@ -46,14 +46,14 @@ cast-t6 c =
     let pre = c .before .before .before .before .pre in
     let words-at = c .before .before .words-at in
     let if1 = c .before .if1 in
-    record { fits = omega (arith, here _ _ pre .column (sym (words-at .ensures .0) ∙ if1 .taken) .0, words-at .ensures .1) }
+    record { fits = omega (arith, here _ _ pre .column (sym (words-at .ensures .tag-is) ∙ if1 .taken) .0, words-at .ensures .x-is) }
 
 cast-t7 : tie.Need-cast-t7
 cast-t7 c =
     let pre = c .before .before .before .before .before .pre in
     let words-at = c .before .before .before .words-at in
     let if1 = c .before .before .if1 in
-    record { fits = omega (arith, here _ _ pre .column (sym (words-at .ensures .0) ∙ if1 .taken) .1, words-at .ensures .2) }
+    record { fits = omega (arith, here _ _ pre .column (sym (words-at .ensures .tag-is) ∙ if1 .taken) .1, words-at .ensures .y-is) }
 
 returns : tie.Need-returns
 returns c =

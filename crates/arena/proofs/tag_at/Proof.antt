@@ -13,7 +13,7 @@ returns : tie.Need-returns
 returns c =
     let words-at = c .words-at in
     let pre = c .before .before .pre in
-    words-at .ensures .0 ∙ sym (tag _ _ (here _ _ pre))
+    words-at .ensures .tag-is ∙ sym (tag _ _ (here _ _ pre))
 
 pub tag-at-spec : {M : Type 1} → statement M
 tag-at-spec = tie.close (tie.spec words-at-requires returns)
