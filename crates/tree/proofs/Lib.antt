@@ -5,4 +5,5 @@ pub mod Exprs
 pub mod Lists
 pub mod Stores
 pub mod Windows
+pub mod Heads
 pub mod Plans
