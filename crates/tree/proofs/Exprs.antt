@@ -93,10 +93,10 @@ expr-back {s} (un o a) made f w h =
     let t = number-op1 o in
     record {
       is = ap (exprAt s) (omega arith)
-      ∙ at-one s (made + exprTags a) (omega (arith, v .tag, t .0)) (omega (arith, v .tag, t .1)) (omega (arith, v .first, tags-pos a))
-      ∙ ap₂ un (ap op1Of (v .tag) ∙ t .2) (ap (exprAt s) (v .first) ∙ A .is);
+          ∙ at-one s (made + exprTags a) (omega (arith, v .tag, t .0)) (omega (arith, v .tag, t .1)) (omega (arith, v .first, tags-pos a))
+          ∙ ap₂ un (ap op1Of (v .tag) ∙ t .2) (ap (exprAt s) (v .first) ∙ A .is);
       wf = subst (Wf s) (omega arith)
-      (more (A .wf) (ok v (omega (arith, t .1)) (λ e. absurd (omega (arith, t .0))) (λ l. omega (arith, tags-pos a)) (λ l. absurd (omega (arith, t .1)))));
+          (more (A .wf) (ok v (omega (arith, t .1)) (λ e. absurd (omega (arith, t .0))) (λ l. omega (arith, tags-pos a)) (λ l. absurd (omega (arith, t .1)))));
     }
 expr-back {s} (bin o a b) made f w h =
     let A = expr-back a made (f .0) w (held-left (exprCells made a) _ h) in
@@ -108,8 +108,8 @@ expr-back {s} (bin o a b) made f w h =
     let t = number-op2 o in
     record {
       is = ap (exprAt s) (omega arith)
-      ∙ at-two s (made + exprTags a + exprTags b) (omega (arith, v .tag, t .0)) (omega (arith, v .first, tags-pos a)) (omega (arith, v .second, tags-pos b))
-      ∙ bin-same (ap op2Of (v .tag) ∙ t .2) (ap (exprAt s) (v .first) ∙ A .is) (ap (exprAt s) (v .second) ∙ B .is);
+          ∙ at-two s (made + exprTags a + exprTags b) (omega (arith, v .tag, t .0)) (omega (arith, v .first, tags-pos a)) (omega (arith, v .second, tags-pos b))
+          ∙ bin-same (ap op2Of (v .tag) ∙ t .2) (ap (exprAt s) (v .first) ∙ A .is) (ap (exprAt s) (v .second) ∙ B .is);
       wf = subst (Wf s) (omega arith)
-      (more (B .wf) (ok v (omega (arith, t .1)) (λ e. absurd (omega (arith, t .0))) (λ l. omega (arith, tags-pos a)) (λ l. omega (arith, tags-pos b))));
+          (more (B .wf) (ok v (omega (arith, t .1)) (λ e. absurd (omega (arith, t .0))) (λ l. omega (arith, tags-pos a)) (λ l. omega (arith, tags-pos b))));
     }

@@ -75,13 +75,14 @@ module _ (a : Arrays) {k t r f n x y z : ℕ} (h : Held (a .nodes) (k * 7) (t �
 
 module _ (a : Arrays) where
   pub unary-back : (h : Unary) (k made row : ℕ) → FitUnary h → Wf (a .cells) made → Held (a .cells) (made * 3) (unaryCells made h) → Held (a .rows) (row * 4) (unaryRows made h)
-    → Held (a .nodes) (k * 7) (unaryNode made row h) → HeadBack a k 0 (h1 h) × Wf (a .cells) (made + unaryNodes h)
+      → Held (a .nodes) (k * 7) (unaryNode made row h) → HeadBack a k 0 (h1 h) × Wf (a .cells) (made + unaryNodes h)
   unfolding unaryCells unaryRows unaryNode unaryNodes FitUnary FitList FitName nodeOf
   unary-back (projection is) k made row f w h g n =
-      let L = each-back (a .cells) (a .rows) itemStore item-sized FitItem (itemAt (a .rows) (a .cells)) (RowOk (a .rows) (a .cells)) (λ x. refl) (item-reads (a .cells) (a .rows)) made row (f .1) w h g in
-      ( back a n (Projection row (length is)) (omega arith) refl (ap (λ l. h1 (projection l)) (items-list (a .rows) (a .cells) row (length is) ∙ L .0 .is))
-        (record { room = L .1 .room; each = L .1 .each }) refl
-      , L .0 .wf)
+      let L = each-back (a .cells) (a .rows) itemStore item-sized FitItem (itemAt (a .rows) (a .cells)) (RowOk (a .rows) (a .cells)) (λ x. refl) (item-reads (a .cells) (a .rows)) made row (f .1) w h g in (
+        back a n (Projection row (length is)) (omega arith) refl (ap (λ l. h1 (projection l)) (items-list (a .rows) (a .cells) row (length is) ∙ L .0 .is))
+            (record { room = L .1 .room; each = L .1 .each }) refl,
+        L .0 .wf,
+      )
   unary-back (filter e) k made row f w h g n =
       let b = expr-back e made f w h in
       (back a n (Filter (rootOf made e)) (omega arith) refl (ap (λ x. h1 (filter x)) (b .is)) (root-wf b refl) refl, b .wf)
@@ -96,14 +97,15 @@ module _ (a : Arrays) where
       let p : made * 3 + allNodes itemStore gs * 3 ≡ made₁ * 3 = omega arith in
       let q : row * 4 + allRowsIn itemStore gs * 4 ≡ (row + length gs) * 4 = omega (arith, one-each itemStore item-sized (λ x. refl) gs) in
       let L = each-back (a .cells) (a .rows) itemStore item-sized FitItem (itemAt (a .rows) (a .cells)) (RowOk (a .rows) (a .cells)) (λ x. refl) (item-reads (a .cells) (a .rows)) made row (f .1 .1) w
-              (held-left (allCells itemStore made gs) _ h) (held-left (allRows itemStore made gs) _ g) in
+      (held-left (allCells itemStore made gs) _ h) (held-left (allRows itemStore made gs) _ g) in
       let M = each-back (a .cells) (a .rows) aggStore agg-sized FitAgg (aggAt (a .rows) (a .cells)) (AggOk (a .rows) (a .cells)) (λ x. refl) (agg-reads (a .cells) (a .rows)) made₁ (row + length gs) (f .2 .1) (L .0 .wf)
-              (moved p (held-right (allCells itemStore made gs) _ (allNodes itemStore gs * 3) (all-cells-long itemStore item-sized made gs) h))
-              (moved q (held-right (allRows itemStore made gs) _ (allRowsIn itemStore gs * 4) (all-rows-long itemStore item-sized made gs) g)) in
-      ( back a n (Aggregate row (length gs) (length vs)) (omega arith) refl
-        (ap₂ (λ x y. h1 (aggregate x y)) (items-list (a .rows) (a .cells) row (length gs) ∙ L .0 .is) (M .0 .is))
-        (record { room = L .1 .room; each = L .1 .each }, M .1) refl
-      , subst (Wf (a .cells)) (omega arith) (M .0 .wf))
+      (moved p (held-right (allCells itemStore made gs) _ (allNodes itemStore gs * 3) (all-cells-long itemStore item-sized made gs) h))
+      (moved q (held-right (allRows itemStore made gs) _ (allRowsIn itemStore gs * 4) (all-rows-long itemStore item-sized made gs) g)) in (
+        back a n (Aggregate row (length gs) (length vs)) (omega arith) refl
+            (ap₂ (λ x y. h1 (aggregate x y)) (items-list (a .rows) (a .cells) row (length gs) ∙ L .0 .is) (M .0 .is))
+            (record { room = L .1 .room; each = L .1 .each }, M .1) refl,
+        subst (Wf (a .cells)) (omega arith) (M .0 .wf),
+      )
   unary-back (window ws) k made row f w h g n =
       let L = list-back (a .cells) (a .rows) winStore win-sized FitWin (winAt (a .rows) (a .cells)) (WinOk (a .rows) (a .cells)) (winSize (a .rows)) (win-reads (a .cells) (a .rows)) made row (f .1 .1) w h g in
       (back a n (Window row (length ws)) (omega arith) refl (ap (λ l. h1 (window l)) (L .is)) (L .good) refl, L .wf)
@@ -139,18 +141,19 @@ join-same p q r = cc
 
 module _ (a : Arrays) where
   pub binary-back : (h : Binary) (k made row right : ℕ) → FitBinary h → Wf (a .cells) made → Held (a .cells) (made * 3) (binaryCells made h) → Held (a .rows) (row * 4) (binaryRows made h)
-    → Held (a .nodes) (k * 7) (binaryNode made row right h) → HeadBack a k right (h2 h) × Wf (a .cells) (made + binaryNodes h)
+      → Held (a .nodes) (k * 7) (binaryNode made row right h) → HeadBack a k right (h2 h) × Wf (a .cells) (made + binaryNodes h)
   unfolding binaryCells binaryRows binaryNode binaryNodes FitBinary FitList nodeOf joinNode
   binary-back union k made row right f w h g n = (back a n (Union right) (omega arith) refl refl tt refl, subst (Wf (a .cells)) (omega arith) w)
   binary-back (join t os c) k made row right f w h g n =
       let made₁ = made + allNodes onStore os in
       let p : made * 3 + allNodes onStore os * 3 ≡ made₁ * 3 = omega arith in
       let L = each-back (a .cells) (a .rows) onStore on-sized FitOn (onAt (a .rows) (a .cells)) (OnOk (a .rows) (a .cells)) (λ x. refl) (on-reads (a .cells) (a .rows)) made row (f .0 .1) w
-              (held-left (allCells onStore made os) _ h) g in
-      let b = cond-back c made₁ (f .1) (L .0 .wf) (moved p (held-right (allCells onStore made os) _ (allNodes onStore os * 3) (all-cells-long onStore on-sized made os) h)) in
-      ( back a n (Join (joinNode (words 10 right row (length os) (joinNumber t) (bit (given c)) (condRoot made₁ c)))) (omega arith) refl
-        (join-same (type-is t) (L .0 .is) (b .is)) (L .1, b .node) refl
-      , subst (Wf (a .cells)) (omega arith) (b .wf))
+      (held-left (allCells onStore made os) _ h) g in
+      let b = cond-back c made₁ (f .1) (L .0 .wf) (moved p (held-right (allCells onStore made os) _ (allNodes onStore os * 3) (all-cells-long onStore on-sized made os) h)) in (
+        back a n (Join (joinNode (words 10 right row (length os) (joinNumber t) (bit (given c)) (condRoot made₁ c)))) (omega arith) refl
+            (join-same (type-is t) (L .0 .is) (b .is)) (L .1, b .node) refl,
+        subst (Wf (a .cells)) (omega arith) (b .wf),
+      )
 
 -- ── no input ────────────────────────────────────────────────────────────────────────────────
 
@@ -166,7 +169,7 @@ held-none xs e = record { room = omega arith; same = λ i l. absurd (omega arith
 columns-back : (a : Arrays) (row : ℕ) (xs : List ℕ) → Held (a .rows) (row * 4) (allRows columnStore 0 xs) → (columnsAt (a .rows) row (length xs) ≡ xs) × EachOk (Inside (a .rows)) (a .rows) row (length xs)
 columns-back a row xs g =
     let L = each-back (a .cells) (a .rows) columnStore column-sized (λ c. Unit {0}) (numberAt (a .rows)) (Inside (a .rows)) (λ x. refl) (column-reads (a .cells) (a .rows)) 0 row (always (λ x. tt) xs) (wf-none (a .cells))
-            (held-none _ (omega (arith, all-cells-long columnStore column-sized 0 xs, no-nodes columnStore (λ x. refl) xs))) g in
+    (held-none _ (omega (arith, all-cells-long columnStore column-sized 0 xs, no-nodes columnStore (λ x. refl) xs))) g in
     (L .0 .is, L .1)
 
 given-is : (a : Arrays) (row : ℕ) (is : Option (List ℕ)) → columnsAt (a .rows) row (length (columnsOf is)) ≡ columnsOf is → if? (eqb (bit (given is)) 1) (columnsAt (a .rows) row (length (columnsOf is))) ≡ is
@@ -182,5 +185,5 @@ module _ (C : Catalogue) (a : Arrays) where
       back a n (Scan (scanNode (words 11 0 row (length (columnsOf is)) t q (bit (given is))))) (omega (arith, f .1 .1)) refl (ap (λ x. h0 (scan t q x)) (given-is a row is (L .0))) (L .1) refl
   leaf-back (empty b cs) k row f g n =
       let L = each-back (a .cells) (a .rows) pairStore pair-sized (λ c. Unit {0}) (pairAt (a .rows)) (Inside (a .rows)) (λ x. refl) (pair-reads (a .cells) (a .rows)) 0 row (always (λ x. tt) cs) (wf-none (a .cells))
-              (held-none _ (omega (arith, all-cells-long pairStore pair-sized 0 cs, no-nodes pairStore (λ x. refl) cs))) g in
+      (held-none _ (omega (arith, all-cells-long pairStore pair-sized 0 cs, no-nodes pairStore (λ x. refl) cs))) g in
       back a n (Empty (eqb (bit b) 1) row (length cs)) (omega arith) refl (ap₂ (λ x y. h0 (empty x y)) (number-bit b .1) (L .0 .is)) (L .1) refl

@@ -6,4 +6,6 @@ pub mod Lists
 pub mod Stores
 pub mod Windows
 pub mod Heads
+pub mod Long
 pub mod Plans
+pub mod Stored

@@ -103,7 +103,7 @@ pub record ListBack (cells : List ℕ) {A : Type 0} (s : Store A) (read : ℕ �
 
 module _ (cells rows : List ℕ) {A : Type 0} (s : Store A) (z : Sized s) (Fit : A → Type 0) (read : ℕ → A) (Ok : ℕ → Type 0) where
   pub list-back : (size : ℕ → ℕ) → Reads cells rows s Fit read Ok size → {xs : List A} (made row : ℕ) → All Fit xs → Wf cells made
-    → Held cells (made * 3) (allCells s made xs) → Held rows (row * 4) (allRows s made xs) → ListBack cells s read Ok size made row xs
+      → Held cells (made * 3) (allCells s made xs) → Held rows (row * 4) (allRows s made xs) → ListBack cells s read Ok size made row xs
   unfolding allCells allNodes allRows listAt AllAt
   list-back size b made row a[] w h g = record { is = refl; good = tt; wf = subst (Wf cells) (omega arith) w }
   list-back size b made row (_a∷_ {x = x} {xs = xs} f fs) w h g =
@@ -111,13 +111,13 @@ module _ (cells rows : List ℕ) {A : Type 0} (s : Store A) (z : Sized s) (Fit :
       let X = b x made row f w (held-left (s .cellsOf made x) _ h) (held-left (s .rowsOf made x) _ g) in
       let q : row * 4 + s .rowsIn x * 4 ≡ (row + size row) * 4 = omega (arith, X .long) in
       let R = list-back size b (made + s .nodesIn x) (row + size row) fs (X .wf)
-              (moved p (held-right (s .cellsOf made x) _ (s .nodesIn x * 3) (z .cells-long made x) h))
-              (moved q (held-right (s .rowsOf made x) _ (s .rowsIn x * 4) (z .rows-long made x) g)) in
+      (moved p (held-right (s .cellsOf made x) _ (s .nodesIn x * 3) (z .cells-long made x) h))
+      (moved q (held-right (s .rowsOf made x) _ (s .rowsIn x * 4) (z .rows-long made x) g)) in
       record { is = ap₂ _∷_ (X .is) (R .is); good = (X .good, R .good); wf = subst (Wf cells) (omega arith) (R .wf) }
 
   -- things of one row
   pub each-back : ((x : A) → s .rowsIn x ≡ 1) → Reads cells rows s Fit read Ok one → {xs : List A} (made row : ℕ) → All Fit xs → Wf cells made
-    → Held cells (made * 3) (allCells s made xs) → Held rows (row * 4) (allRows s made xs) → ListBack cells s read Ok one made row xs × EachOk Ok rows row (length xs)
+      → Held cells (made * 3) (allCells s made xs) → Held rows (row * 4) (allRows s made xs) → ListBack cells s read Ok one made row xs × EachOk Ok rows row (length xs)
   each-back o b {xs} made row f w h g =
       let l = list-back one b made row f w h g in
       (l, record { room = omega (arith, g .room, all-rows-long s z made xs, one-each s z o xs); each = each-at Ok row (length xs) (l .good) })

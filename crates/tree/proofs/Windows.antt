@@ -61,9 +61,9 @@ win-reads cells s (win (pair q n) g ps ks) made i f w h H =
     let r₁ = row (held-left (length ks ∷ 0 ∷ 0 ∷ 0 ∷ []) _ H₂) in
     let r₂ = row H₄ in
     let P = each-back cells s exprStore expr-sized FitExpr (λ z. exprAt cells (rootAt s z)) (ExprOk s cells) (λ e. refl) (expr-reads cells s) made (i + 1) (f .2 .1) w
-            (held-left (allCells exprStore made ps) _ h) (held-left (allRows exprStore made ps) _ H₁) in
+    (held-left (allCells exprStore made ps) _ h) (held-left (allRows exprStore made ps) _ H₁) in
     let K = each-back cells s keyStore key-sized FitKey (keyAt s cells) (KeyOk s cells) (λ k. refl) (key-reads cells s) made₁ (j + 1) (f .3 .1) (P .0 .wf)
-            (held-left (allCells keyStore made₁ ks) _ h₁) (held-left (allRows keyStore made₁ ks) _ H₃) in
+    (held-left (allCells keyStore made₁ ks) _ h₁) (held-left (allRows keyStore made₁ ks) _ H₃) in
     let G = call-back g made₂ (f .1) (K .0 .wf) h₂ in
     let mid : keysRow s i ≡ j = ap (λ x. i + 1 + x) (r₀ .root) in
     let many : numberAt s (keysRow s i) ≡ length ks = ap (numberAt s) mid ∙ r₁ .number in
@@ -72,7 +72,7 @@ win-reads cells s (win (pair q n) g ps ks) made i f w h H =
     let after : keysRow s i + 1 ≡ j + 1 = ap (λ x. x + 1) mid in
     record {
       is = win-same (pair-is r₀) (ap₂ (λ k z. callOf k (exprAt cells z)) (r₀ .mark) root ∙ G .is)
-      (ap (exprsAt s cells (i + 1)) (r₀ .root) ∙ P .0 .is) (ap₂ (keysAt s cells) after many ∙ K .0 .is);
+          (ap (exprsAt s cells (i + 1)) (r₀ .root) ∙ P .0 .is) (ap₂ (keysAt s cells) after many ∙ K .0 .is);
       good = record {
         inside = subst (Inside s) (sym last) (r₂ .inside);
         function = omega (arith, r₀ .mark, G .number);
