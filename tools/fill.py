@@ -16,7 +16,7 @@ proof=f'crates/{crate}/proofs/{fn}/Proof.antt'
 skel=f'target/skel-{crate}-{fn}.antt'; lts=f'target/lts-{crate}-{fn}.antt'
 if '--new' in sys.argv or not os.path.exists(skel) or not os.path.exists(lts):
     if os.path.exists(proof): os.remove(proof)
-    out=subprocess.run(['/work/slot','rt','dev',crate],capture_output=True,text=True); out=(out.stdout+out.stderr).split('\n')
+    out=subprocess.run(['rt','dev',crate],capture_output=True,text=True); out=(out.stdout+out.stderr).split('\n')
     i=0; lines=None
     while i<len(out):
         m=re.match(r'help: write (\S+) with these lines',out[i]); i+=1
@@ -25,7 +25,7 @@ if '--new' in sys.argv or not os.path.exists(skel) or not os.path.exists(lts):
             while i<len(out) and (out[i].startswith('    ') or out[i].strip()==''): lines.append(out[i][4:]); i+=1
     assert lines,'no skeleton printed'
     open(skel,'w').write('\n'.join(lines)+'\n')
-    subprocess.run(['rm','-rf','target/gen']); subprocess.run(['/work/slot','rt','dev',crate,'--generated','target/gen'],capture_output=True)
+    subprocess.run(['rm','-rf','target/gen']); subprocess.run(['rt','dev',crate,'--generated','target/gen'],capture_output=True)
     open(lts,'w').write(open(glob.glob(f'target/gen/*{crate}*proofs/proofs/{fn}/Lts*.antt')[0]).read())
 s=open(skel).read()
 # the paths
