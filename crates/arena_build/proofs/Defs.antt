@@ -1,19 +1,16 @@
 -- The laws of definitions: what a column finds, and what replacing makes of an expression. Assumes nothing.
 use mathlib.Core.Path.{_≡_, refl, sym, ap, ap₂, _∙_}
 use mathlib.Core.Bool.{Bool, true, false, cond, _&&_}
-use mathlib.Core.List.{List, [], _∷_}
-use Prim.Native.Nat.{ℕ, zero, suc, _+_, _*_, _-_, _<_, _≤_}
+use mathlib.Core.List.{List}
+use Prim.Native.Nat.{ℕ, zero, suc, _+_, _-_, _<_, _≤_}
 use native.Mathlib.Omega.{arith}
 use lib.Dec.{eqb}
-use lib.ListN.{length}
-use Rattle.cpl.specs.Exprs.{exprTags, fits}
-use Rattle.cpl.specs.Plan.{Expr, Item, Op1, Op2, Pair, bare, bin, col, eqP, itemExpr, itemPair, lit, miss, named, pair, un}
+use Rattle.cpl.specs.Plan.{Expr, Item, Pair, bare, bin, col, eqP, itemPair, lit, miss, named, pair, un}
 use Rattle.rules.specs.Merge.{defOf, replace}
 use Rattle.arena.specs.Cells.{Wf, exprAt}
 use Rattle.arena.specs.Rows.{RowIs, RowOk, RowsOk, itemAt, itemsAt, markAt, pairAt, rootAt, rowItem}
 use Rattle.arena.proofs.Rows.{item-expr}
 use Rattle.arena_build.specs.Build.{findIn, putFor}
-use Rattle.arena_build.specs.declared.Found.{Found}
 use Rattle.arena_build.specs.declared.Found.the-variants.{At, Nothing}
 
 -- ── what a column finds ─────────────────────────────────────────────────────────────────────

@@ -2,27 +2,27 @@
 use mathlib.Core.Path.{_≡_, refl, sym, ap, ap₂, subst⁻¹, _∙_}
 use mathlib.Core.Bool.{Bool, true, false, cond, decide, not, true≢false, _&&_}
 use mathlib.Core.List.{List, [], _∷_, _++_, map}
-use Prim.Native.Nat.{ℕ, zero, suc, _+_, _*_, _-_, _/_, _<_, _≤_}
+use Prim.Native.Nat.{ℕ, zero, suc, _+_, _*_, _-_, _<_, _≤_}
 use native.Mathlib.Decide.{ℕ-discrete}
 use native.Mathlib.Omega.{arith}
-use borrow.Author.Tests.{eqb-true, ne-eqb, not-false}
+use borrow.Author.Tests.{ne-eqb}
 use lib.Dec.{eqb}
 use lib.ListN.{length, length-set, set}
 use lib.Seq.{getD-set-other, getD-set-same}
 use Rattle.cpl.specs.Exprs.{exprTags, itemTags}
 use Rattle.cpl.specs.Plan.{Expr, Item, Pair, bare, bin, col, eqP, itemExpr, lit, miss, named, pair, un}
 use Rattle.cpl.specs.Tests.{sumOf}
-use Rattle.rules.specs.Merge.{defOf, define, exprD, item, replace, replaceItem}
+use Rattle.rules.specs.Merge.{define, exprD, item, replace, replaceItem}
 use Rattle.arena.specs.Cells.{Wf, exprAt}
 use Rattle.arena.specs.Kept.{Kept}
-use Rattle.arena.specs.Rows.{RowIs, RowOk, RowsOk, itemAt, itemsAt, markAt, pairAt, rootAt, rowItem}
-use Rattle.arena.proofs.Kept.{kept-items, kept-refl, kept-root, kept-rows, kept-trans, kept-wf}
+use Rattle.arena.specs.Rows.{RowIs, RowOk, itemAt, itemsAt, rootAt, rowItem}
+use Rattle.arena.proofs.Kept.{kept-items, kept-refl, kept-root, kept-rows, kept-trans}
 use Rattle.arena.proofs.Laws.{here, wf-less}
 use Rattle.arena.proofs.Rows.{read-col, read-expr, read-row, row-bare, row-named}
 use Rattle.arena.proofs.Same.{dec-true, is-no, items-length, same-cols}
 use Rattle.arena_build.specs.Build.{Made, Refused, putFor}
 use Rattle.arena_build.proofs.Defs.{copy-same}
-use Rattle.arena_build.specs.Lists.{Left, Listing, Marked, Overflown, Placed, again, nodesOf, putRow}
+use Rattle.arena_build.specs.Lists.{ItemRefused, Listing, Marked, ListRefused, Placed, again, nodesOf, putRow}
 
 -- ── marks ───────────────────────────────────────────────────────────────────────────────────
 
@@ -131,7 +131,7 @@ module _ (s : List ℕ) (i q n m k : ℕ) (h : i * 4 + 3 < length s) where
 
 -- a row names a node in 16 bits
 pub node-small : {e : Expr} {s : List ℕ} {used node more : ℕ} {s′ : List ℕ} → Made e s used node more s′ → length s ≤ 196608 → node < 65536
-node-small {node = node} {more = more} {s′ = s′} d h = omega (arith, here s′ node (wf-less s′ (node + 1) more (omega (arith, d .within)) (d .wf)) .inside, d .kept .long)
+node-small {node = node} {more = more} {s′ = s′} d h = omega (arith, here s′ node (wf-less s′ (node + 1) more (omega (arith, d .last)) (d .wf)) .inside, d .kept .long)
 
 -- an item put into row k, behind its expression
 pub place : (it : Item) (rows : List ℕ) (k q n m : ℕ) (e : Expr) (cells : List ℕ) (used node more : ℕ) (cells′ : List ℕ) → k * 4 + 3 < length rows
@@ -146,7 +146,7 @@ place it rows k q n m e cells used node more cells′ h d x r b =
       root = sym (o .root-is);
       ok = record {
         inside = rw (row-kept rows k q n m node h .long) h;
-        node = rw (← o .root-is) (wf-less cells′ (node + 1) more (omega (arith, d .within)) (d .wf));
+        node = rw (← o .root-is) (wf-less cells′ (node + 1) more (omega (arith, d .last)) (d .wf));
         bare = λ z. ap (exprAt cells′) (sym (o .root-is)) ∙ d .means ∙ b (o .mark-is ∙ z) ∙ ap col (o .pair-is);
       };
     }
@@ -165,10 +165,10 @@ module _ {s : List ℕ} {i q n m r : ℕ} (c : List ℕ) (is : List Item) (v : R
         rw e (place _ rows k q n z (replace (putFor 1 is) (exprAt c r)) cells used node more cells′ h d (ap itemExpr x ∙ again-has _ _)
         (y .item-is ∙ again-row m (pair q n) _ (exprAt c r) _ ∙ sym (x ∙ ap (λ j. again j (replace (putFor 1 is) (exprAt c r))) (read-row c v))) (y .bare-is))
 
-  pub copy-left : (rows : List ℕ) → Refused (replace (putFor 0 is) (exprAt c r)) cells used cells′ → Left (itemAt s c i) rows cells used rows cells′
+  pub copy-left : (rows : List ℕ) → Refused (replace (putFor 0 is) (exprAt c r)) cells used cells′ → ItemRefused (itemAt s c i) rows cells used rows cells′
   copy-left rows d = record { refused = rw (read-expr c v o) (rw (copy-same is (exprAt c r)) at d); same = refl }
 
-  pub replace-left : (rows : List ℕ) → Refused (replace (putFor 1 is) (exprAt c r)) cells used cells′ → Left (replaceItem is (itemAt s c i)) rows cells used rows cells′
+  pub replace-left : (rows : List ℕ) → Refused (replace (putFor 1 is) (exprAt c r)) cells used cells′ → ItemRefused (replaceItem is (itemAt s c i)) rows cells used rows cells′
   replace-left rows d = record { refused = rw (ap itemExpr (replace-row c is v o) ∙ again-has _ _) d; same = refl }
 
 -- ── a list ──────────────────────────────────────────────────────────────────────────────────
@@ -207,7 +207,7 @@ module _ {is : List Item} {it : Item} {to n : ℕ} {rows cells : List ℕ} {used
       room = omega (arith, q .ok .inside);
       each = old-or-new (RowOk rows₂ cells₂) (λ k h l. kept-rows (to + n) u (q .kept) (q .made .kept) to n (omega arith) (p .below) (p .ok) .each k h l) (q .ok);
     };
-    below = old-or-new (λ k. rootAt rows₂ k < more) (λ k h l. omega (arith, p .below k h l, q .made .grown, kept-root (to + n) u (q .kept) (q .made .kept) k l)) (omega (arith, q .root, q .made .within));
+    below = old-or-new (λ k. rootAt rows₂ k < more) (λ k h l. omega (arith, p .below k h l, q .made .grown, kept-root (to + n) u (q .kept) (q .made .kept) k l)) (omega (arith, q .root, q .made .last));
     grown = omega (arith, p .grown, q .made .grown, sum-more (λ i. exprTags (itemExpr i)) is it);
     wf = q .made .wf;
   }
@@ -248,8 +248,8 @@ module _ (g : Item → Item) (s c : List ℕ) (f : ℕ) where
 
   -- an item for which there is no room
   pub listing-full : {i to : ℕ} {rows cells : List ℕ} {used u : ℕ} {rows₁ cells₁ rows₂ cells₂ : List ℕ} (n : ℕ) → i < n
-      → Listing (made-of i) to i rows cells used u rows₁ cells₁ → Left (g (itemAt s c (f + i))) rows₁ cells₁ u rows₂ cells₂
-      → Overflown (made-of n) to rows cells used rows₂ cells₂
+      → Listing (made-of i) to i rows cells used u rows₁ cells₁ → ItemRefused (g (itemAt s c (f + i))) rows₁ cells₁ u rows₂ cells₂
+      → ListRefused (made-of n) to rows cells used rows₂ cells₂
   listing-full {i} n h p q =
       let e : i + 1 + (n - (i + 1)) ≡ n = omega arith in
       record {

@@ -1,21 +1,19 @@
 -- The ways through `subst`, over plain lists and numbers. Assumes nothing.
-use mathlib.Core.Path.{_≡_, refl, sym, ap, subst, _∙_}
+use mathlib.Core.Path.{_≡_, sym, ap, _∙_}
 use mathlib.Core.List.{List}
-use Prim.Native.Nat.{ℕ, zero, suc, _+_, _*_, _^_, _<_, _≤_}
+use Prim.Native.Nat.{ℕ, _+_, _*_, _^_, _<_}
 use native.Mathlib.Omega.{arith}
-use lib.ListN.{length}
-use Rattle.cpl.specs.Codes.{op1Of, op2Of, signed}
+use Rattle.cpl.specs.Codes.{op1Of, op2Of}
 use Rattle.cpl.specs.Exprs.{exprTags}
-use Rattle.cpl.specs.Plan.{Expr, Pair, bin, col, lit, miss, pair, un}
-use Rattle.rules.specs.Merge.{defOf, replace}
+use Rattle.cpl.specs.Plan.{Expr, Pair, bin, pair, un}
+use Rattle.rules.specs.Merge.{replace}
 use Rattle.arena.specs.Cells.{Wf, exprAt}
 use Rattle.arena.specs.Rows.{RowsOk, itemsAt}
 use Rattle.arena.specs.View.{Shows}
 use Rattle.arena.specs.declared.View.the-variants.{Col, Lit, Miss, One, Two}
-use Rattle.arena.proofs.Laws.{here, lower}
+use Rattle.arena.proofs.Laws.{lower}
 use Rattle.arena_build.specs.Build.{Answer, Made, Pushed, Refused, findIn, putFor}
 use Rattle.arena_build.specs.declared.Built.{Built}
-use Rattle.arena_build.specs.declared.Built.the-variants.{Done, Full}
 use Rattle.arena_build.specs.declared.Found.the-variants.{At, Nothing}
 use Rattle.arena_build.proofs.Defs.{copy-same, def-found, def-none, put-more, put-zero}
 use Rattle.arena_build.proofs.Grow.{full-one, full-second, put-col, put-lit, put-miss, put-one, put-two}

@@ -1,17 +1,17 @@
 -- That written-out arrays are well formed, by tests that compute. Assumes nothing.
-use mathlib.Core.Path.{_≡_, refl, sym, ap, ap₂, _∙_}
+use mathlib.Core.Path.{_≡_, ap, ap₂, _∙_}
 use mathlib.Core.Bool.{Bool, true, false, not, true≢false, _&&_, _||_}
 use mathlib.Core.List.{List}
-use Prim.Native.Nat.{ℕ, zero, suc, _+_, _*_, _<_, _≤_}
+use Prim.Native.Nat.{ℕ, zero, suc, _+_, _*_, _≤_}
 use native.Mathlib.Decide.{ℕ-discrete}
 use native.Mathlib.Omega.{arith}
 use borrow.Author.Tests.{eq-eqb, eqb-true, le-ltb, ltb-true}
 use lib.Dec.{eqb, ltb}
 use lib.ListN.{getD, length}
 use Rattle.cpl.specs.Plan.{col, pair}
-use Rattle.arena.specs.Cells.{NodeOk, Wf, exprAt, tagAt, xAt, yAt}
-use Rattle.arena.specs.Rows.{RowOk, RowsOk, markAt, pairAt, rootAt}
-use Rattle.arena.proofs.Laws.{at-col, wf-less, wf-none}
+use Rattle.arena.specs.Cells.{NodeOk, Wf, tagAt, xAt, yAt}
+use Rattle.arena.specs.Rows.{RowOk, RowsOk, markAt, rootAt}
+use Rattle.arena.proofs.Laws.{at-col, wf-less}
 use Rattle.arena.proofs.Same.{and-true}
 
 abbrev nodeT : List ℕ → ℕ → Bool

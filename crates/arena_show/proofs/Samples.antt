@@ -4,8 +4,6 @@ use mathlib.Core.List.{List, [], _∷_, _++_}
 use Prim.Native.Nat.{ℕ, zero, suc, _+_, _<_, _≤_, _^_}
 use native.Mathlib.Numerals.{add-one}
 use native.Mathlib.Omega.{arith}
-use lib.Dec.{eqb, ltb}
-use lib.ListN.{getD, length}
 use Rattle.cpl.specs.Codes.{op1Of, op2Of, signed}
 use Rattle.cpl.specs.Exprs.{exprTags, itemTags}
 use Rattle.cpl.specs.Tests.{sumOf}
@@ -13,7 +11,7 @@ use Rattle.arena.specs.Cells.{Wf, exprAt, exprFuel, nodeOf}
 use Rattle.arena.specs.Rows.{RowOk, RowsOk, itemAt, itemsAt, rowItem}
 use Rattle.cpl.specs.Plan.{Item}
 use Rattle.arena.proofs.Kept.{kept-refl, kept-rows}
-use Rattle.arena_build.specs.Lists.{Left, Listing, Placed}
+use Rattle.arena_build.specs.Lists.{ItemRefused, Listing, Placed}
 use Rattle.arena_build.proofs.Items.{listing-more}
 use Rattle.arena_show.proofs.Check.{nodes-ok, nodesT, rows-ok, rowsT}
 
@@ -95,5 +93,5 @@ module _ {it : Item} {n : ℕ} {rows cells : List ℕ} {u : ℕ} {rows₁ cells�
       let l = listing-more p (subst⁻¹ (λ k. Placed it k rows₁ cells₁ u node more rows₂ cells₂) e q) in
       subst⁻¹ (λ k. Listing (times it k) 0 (n + 1) rows cells 0 more rows₂ cells₂) (add-one n) l
 
-  pub times-full : {rows₂ cells₂ : List ℕ} → Left it rows₁ cells₁ u rows₂ cells₂ → RowsOk rows₂ cells₂ 0 n
+  pub times-full : {rows₂ cells₂ : List ℕ} → ItemRefused it rows₁ cells₁ u rows₂ cells₂ → RowsOk rows₂ cells₂ 0 n
   times-full q = rw (q .same) (kept-rows n u (kept-refl _ rows₁) (q .refused .kept) 0 n (omega arith) (p .below) (p .ok))

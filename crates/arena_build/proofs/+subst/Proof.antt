@@ -2,8 +2,8 @@
 -- definition has level 0, and a node that any number may be. So the measure is level * 2^64 + i. Each way is a law of `Ways`.
 -- Assumes nothing.
 use borrow.Author.Needs.{needs}
-use mathlib.Core.Path.{_≡_, refl, sym, ap, _∙_}
-use Prim.Native.Nat.{ℕ, _+_, _*_, _^_, _<_, _≤_}
+use mathlib.Core.Path.{sym, _∙_}
+use Prim.Native.Nat.{ℕ, _+_, _*_, _^_, _<_}
 use native.Mathlib.Omega.{arith}
 use Rattle.arena_build.proofs.Ways.{ask-copy, ask-operand, no-first, no-one, no-second, ret-col, ret-def, ret-lit, ret-miss, ret-none, ret-one, ret-two}
 use borrow.Fn.Kinds.{In}

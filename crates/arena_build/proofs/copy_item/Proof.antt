@@ -1,8 +1,6 @@
 -- `arena_build::copy_item` meets its contract. Assumes nothing.
 use borrow.Author.Needs.{needs}
-use mathlib.Core.Path.{_≡_, refl, sym, ap, subst⁻¹, _∙_}
 use native.Mathlib.Omega.{arith}
-use Prim.Native.Nat.{ℕ, _+_, _*_, _-_, _<_, _≤_}
 use Rattle.arena.proofs.Rows.{read-wf}
 use Rattle.arena_build.proofs.Items.{copy-left, copy-placed, node-small}
 use Rattle.arena_build.proofs.copy_item.Statement.{statement}

@@ -1,6 +1,6 @@
 -- `arena_build::mark_for` meets its contract. Assumes nothing.
 use borrow.Author.Needs.{needs}
-use mathlib.Core.Path.{_≡_, sym, _∙_}
+use mathlib.Core.Path.{sym, _∙_}
 use Rattle.arena_build.proofs.Items.{mark-bare, mark-named, mark-stays}
 use Rattle.arena_build.proofs.mark_for.Statement.{statement}
 use Rattle.arena_build.proofs.mark_for.Tie as tie

@@ -1,8 +1,7 @@
 -- `arena_build::push` meets its contract. Assumes nothing.
 use borrow.Author.Needs.{needs}
-use mathlib.Core.Path.{_≡_, refl, sym, ap, _∙_}
+use mathlib.Core.Path.{refl}
 use native.Mathlib.Omega.{arith}
-use Prim.Native.Nat.{ℕ, _+_, _*_, _-_, _<_, _≤_}
 use lib.ListN.{length-set}
 use Rattle.arena_build.specs.Build.{putNode}
 use Rattle.arena_build.proofs.push.Statement.{statement}

@@ -1,8 +1,6 @@
 -- `arena_build::replace_item` meets its contract. Assumes nothing.
 use borrow.Author.Needs.{needs}
-use mathlib.Core.Path.{_≡_, refl, sym, ap, subst⁻¹, _∙_}
 use native.Mathlib.Omega.{arith}
-use Prim.Native.Nat.{ℕ, _+_, _*_, _-_, _<_, _≤_}
 use Rattle.arena.proofs.Laws.{wf-less}
 use Rattle.arena.proofs.Rows.{read-wf}
 use Rattle.arena_build.proofs.Items.{node-small, replace-left, replace-placed}
@@ -39,7 +37,7 @@ mark-for-requires : tie.Need-mark-for-requires
 mark-for-requires c κs =
     let b = c .before .before .b in
     let subst = c .before .before .before .before .before .before .subst in
-    let d = rw (b .given .1) at (subst .ensures) in wf-less _ _ _ (omega (arith, d .within)) (d .wf)
+    let d = rw (b .given .1) at (subst .ensures) in wf-less _ _ _ (omega (arith, d .last)) (d .wf)
 
 cast-put-row : tie.Need-cast-put-row
 cast-put-row c =

@@ -1,11 +1,8 @@
 -- `arena_build::replace_items` meets its contract: the rows that are done are a `Listing`. Assumes nothing.
 use borrow.Author.Needs.{needs}
-use mathlib.Core.Path.{_≡_, refl, sym, ap, _∙_}
+use mathlib.Core.Path.{_≡_}
 use native.Mathlib.Omega.{arith}
-use Prim.Native.Nat.{ℕ, _+_, _*_, _-_, _<_, _≤_}
-use lib.ListN.{length}
-use mathlib.Core.List.{List, map}
-use Rattle.cpl.specs.Plan.{Item}
+use Prim.Native.Nat.{_-_, _≤_}
 use Rattle.rules.specs.Merge.{replaceItem}
 use Rattle.arena.specs.Rows.{itemsAt}
 use Rattle.arena.proofs.Rows.{row-fits, row-ok}

@@ -1,8 +1,6 @@
 -- `arena_show::build` meets its contract: the samples are well formed, and so is the list that is made. Assumes nothing.
 use borrow.Author.Needs.{needs}
-use mathlib.Core.Path.{_≡_, refl, sym, ap, _∙_}
 use native.Mathlib.Omega.{arith}
-use Prim.Native.Nat.{ℕ, _+_, _*_, _-_, _<_, _≤_}
 use Rattle.arena.proofs.Laws.{wf-none}
 use Rattle.arena_show.proofs.Samples.{items-ok, upper-ok}
 use Rattle.arena_show.proofs.build.Statement.{statement}

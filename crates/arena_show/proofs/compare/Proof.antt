@@ -1,8 +1,6 @@
 -- `arena_show::compare` meets its contract: the samples are well formed. Assumes nothing.
 use borrow.Author.Needs.{needs}
-use mathlib.Core.Path.{_≡_, refl, sym, ap, _∙_}
 use native.Mathlib.Omega.{arith}
-use Prim.Native.Nat.{ℕ, _+_, _*_, _-_, _<_, _≤_}
 use Rattle.arena.proofs.Laws.{wf-less}
 use Rattle.arena_show.proofs.Samples.{above, above-wf, cells, cells-wf, items-ok, part, upper-ok}
 use Rattle.arena_show.proofs.compare.Statement.{statement}

@@ -1,9 +1,8 @@
 -- `arena_show::copies` meets its contract: the rows that are done are copies of the one. Assumes nothing.
 use borrow.Author.Needs.{needs}
-use mathlib.Core.Path.{_≡_, refl, sym, ap, _∙_}
 use native.Mathlib.Omega.{arith}
-use Prim.Native.Nat.{ℕ, _+_, _*_, _-_, _<_, _≤_}
-use Rattle.arena.specs.Rows.{itemAt, itemsAt}
+use Prim.Native.Nat.{_-_, _≤_}
+use Rattle.arena.specs.Rows.{itemAt}
 use Rattle.arena.proofs.Laws.{wf-none}
 use Rattle.arena_build.specs.Lists.{Listing}
 use Rattle.arena_build.proofs.Items.{listing-none}

@@ -1,6 +1,5 @@
 -- `arena_show::merge_within` meets its contract. Assumes nothing.
 use borrow.Author.Needs.{needs}
-use mathlib.Core.Path.{sym}
 use native.Mathlib.Omega.{arith}
 use lib.ListN.{length-take}
 use Rattle.arena_show.proofs.merge_within.Statement.{statement}

@@ -1,8 +1,6 @@
 -- `arena_show::read_exprs` meets its contract: the sample is well formed. Assumes nothing.
 use borrow.Author.Needs.{needs}
-use mathlib.Core.Path.{_≡_, refl, sym, ap, _∙_}
 use native.Mathlib.Omega.{arith}
-use Prim.Native.Nat.{ℕ, _+_, _*_, _-_, _<_, _≤_}
 use Rattle.arena.proofs.Laws.{wf-less}
 use Rattle.arena_show.proofs.Samples.{cells, cells-tags, cells-wf}
 use Rattle.arena_show.proofs.read_exprs.Statement.{statement}

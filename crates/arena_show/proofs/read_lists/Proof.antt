@@ -1,8 +1,6 @@
 -- `arena_show::read_lists` meets its contract: the samples are well formed. Assumes nothing.
 use borrow.Author.Needs.{needs}
-use mathlib.Core.Path.{_≡_, refl, sym, ap, _∙_}
 use native.Mathlib.Omega.{arith}
-use Prim.Native.Nat.{ℕ, _+_, _*_, _-_, _<_, _≤_}
 use Rattle.arena_show.proofs.Samples.{items-ok, items-tags, part}
 use Rattle.arena_show.proofs.read_lists.Statement.{statement}
 use Rattle.arena_show.proofs.read_lists.Tie as tie

@@ -1,8 +1,6 @@
 -- `arena_show::show_rows` meets its contract. Assumes nothing.
 use borrow.Author.Needs.{needs}
-use mathlib.Core.Path.{_≡_, refl, sym, ap, _∙_}
-use native.Mathlib.Omega.{arith}
-use Prim.Native.Nat.{ℕ, _+_, _*_, _-_, _<_, _≤_}
+use Prim.Native.Nat.{_-_, _≤_}
 use Rattle.arena_show.proofs.show_rows.Statement.{statement}
 use Rattle.arena_show.proofs.show_rows.Tie as tie
 
