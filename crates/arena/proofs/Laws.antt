@@ -2,20 +2,19 @@
 use mathlib.Core.Path.{_≡_, refl, sym, ap, ap₂, subst, _∙_}
 use mathlib.Core.Bool.{Bool, true, false, cond}
 use mathlib.Core.List.{List}
-use Prim.Native.Nat.{ℕ, zero, suc, _+_, _*_, _-_, _^_, _<_, _≤_}
+use Prim.Native.Nat.{ℕ, zero, suc, _+_, _*_, _^_, _<_, _≤_}
 use native.Mathlib.Decide.{ℕ-discrete}
 use native.Mathlib.Omega.{arith}
-use borrow.Author.Tests.{eq-eqb, ltb-false, ltb-true, lt-ltb, le-ltb, ne-eqb}
-use lib.Dec.{eqb, ltb}
-use lib.ListN.{length, getD}
+use borrow.Author.Tests.{ltb-false, ltb-true, lt-ltb, le-ltb, ne-eqb}
+use lib.Dec.{ltb}
+use lib.ListN.{length}
 use Rattle.cpl.specs.Codes.{op1Of, op1Tag, op2Of, op2Tag, signed, tagOf, unsigned}
-use Rattle.cpl.specs.Exprs.{columns?, exprTags}
+use Rattle.cpl.specs.Exprs.{exprTags}
 use Rattle.cpl.specs.Plan.{Expr, Pair, bin, col, eqP, lit, miss, pair, un}
 use Rattle.rules.specs.Merge.{occurs}
 use Rattle.arena.specs.Cells.{NodeOk, Wf, exprAt, exprFuel, nodeOf, tagAt, xAt, yAt}
 use Rattle.arena.specs.View.{Shows}
-use Rattle.arena.specs.declared.View.{View}
-use Rattle.arena.specs.declared.View.the-variants.{Col, Lit, Miss, One, Two}
+use Rattle.arena.specs.declared.View.the-variants.{One, Two}
 
 -- what stands behind a test is compared only where the test holds
 pub below : (x i : ℕ) (b : Bool) (e e′ : Expr) → ltb x i ≡ b → (x < i → e ≡ e′) → cond b e miss ≡ cond b e′ miss
@@ -73,6 +72,10 @@ wf-none s k h = absurd (omega arith)
 pub wf-less : (s : List ℕ) (n m : ℕ) → n ≤ m → Wf s m → Wf s n
 unfolding Wf
 wf-less s n m h w k l = w k (omega arith)
+
+pub wf-fits : (s : List ℕ) (n : ℕ) → Wf s n → n * 3 ≤ length s
+wf-fits s zero w = omega arith
+wf-fits s (suc n) w = omega (arith, here s n (wf-less s (n + 1) (suc n) (omega arith) w) .inside)
 
 -- the numbers that stand for operators and literals
 -- from a on: it is a, or from a + 1 on

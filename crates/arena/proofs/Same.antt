@@ -1,20 +1,20 @@
 -- The laws of the tests for equality. Assumes nothing.
-use mathlib.Core.Path.{_≡_, refl, sym, ap, ap₂, subst, _∙_}
+use mathlib.Core.Path.{_≡_, refl, sym, ap, ap₂, _∙_}
 use mathlib.Core.Bool.{Bool, true, false, cond, decide, true≢false, _&&_}
 use mathlib.Core.List.{List, [], _∷_}
-use Prim.Native.Nat.{ℕ, zero, suc, _+_, _*_, _-_, _^_, _<_, _≤_}
+use Prim.Native.Nat.{ℕ, zero, suc, _+_, _^_, _<_, _≤_}
 use native.Mathlib.Omega.{arith}
-use borrow.Author.Tests.{eqb-false, eqb-true, eq-eqb, ne-eqb}
+use borrow.Author.Tests.{eqb-true, eq-eqb}
 use lib.Dec.{eqb}
 use lib.IntN.{ℤ}
 use lib.ListN.{length}
-use Rattle.cpl.specs.Codes.{op1Of, op1Tag, op2Of, op2Tag, signed, tagOf, unsigned}
+use Rattle.cpl.specs.Codes.{op1Of, op2Of, signed, tagOf, unsigned}
 use Rattle.cpl.specs.Plan.{Expr, Item, Op1, Op2, Pair, bare, bin, col, lit, miss, named, pair, un}
 use Rattle.rules.specs.Merge.{eqItems, exprD, itemD}
-use Rattle.arena.specs.Cells.{NodeIs, NodeOk, exprAt, tagAt, xAt, yAt}
+use Rattle.arena.specs.Cells.{NodeIs, NodeOk, exprAt, tagAt}
 use Rattle.arena.specs.Rows.{itemAt, itemsAt, rowItem}
 use Rattle.arena.specs.View.{Shows}
-use Rattle.arena.specs.declared.View.the-variants.{Col, Lit, Miss, One, Two}
+use Rattle.arena.specs.declared.View.the-variants.{One, Two}
 use Rattle.arena.proofs.Laws.{at-col, at-lit, at-miss, at-one, at-two, bits, op1-tag, op2-tag, tag}
 use Rattle.arena.proofs.Rows.{rest, rest-all, rest-next, rest-none}
 

@@ -1,11 +1,11 @@
 -- What is written into cells, and what building an expression answers.
 use mathlib.Core.Path.{_≡_}
-use mathlib.Core.Bool.{Bool, cond}
+use mathlib.Core.Bool.{cond}
 use mathlib.Core.List.{List}
 use Prim.Native.Nat.{ℕ, zero, suc, _+_, _*_, _/_, _<_, _≤_}
 use lib.ListN.{length, set}
 use Rattle.cpl.specs.Exprs.{exprTags, fits}
-use Rattle.cpl.specs.Plan.{Expr, Item, Pair, col, miss}
+use Rattle.cpl.specs.Plan.{Expr, Item, Pair, col}
 use Rattle.rules.specs.Merge.{defOf}
 use Rattle.arena.specs.Cells.{Wf, exprAt}
 use Rattle.arena.specs.Kept.{Kept}
@@ -24,11 +24,11 @@ abbrev pub Pushed : List ℕ → ℕ → ℕ → ℕ → ℕ → Built → List 
 Pushed s used t x y (Done node more) s′ = (used * 3 + 2 < length s) × (node ≡ used) × (more ≡ used + 1) × (s′ ≡ putNode s used t x y)
 Pushed s used t x y Full s′ = (length s / 3 ≤ used) × (s′ ≡ s)
 
--- e was built behind the nodes in use: `node` stands for it, and `more` nodes are in use
+-- e was built behind the nodes in use: `node`, the last of the `more` nodes now in use, stands for it
 pub record Made (e : Expr) (s : List ℕ) (used node more : ℕ) (s′ : List ℕ) : Type 0 where
   pub kept : Kept (used * 3) s s′
   pub means : exprAt s′ node ≡ e
-  pub within : node < more
+  pub last : more ≡ node + 1
   pub grown : more ≡ used + exprTags e
   pub wf : Wf s′ more
 

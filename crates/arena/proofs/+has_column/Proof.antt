@@ -1,9 +1,7 @@
 -- The proof of the cycle of calls {has_column}. The measure is the node's number. Assumes nothing.
 use borrow.Author.Needs.{needs}
 use mathlib.Core.Path.{_≡_, refl, sym, ap, ap₂, _∙_}
-use mathlib.Core.List.{List}
-use Prim.Native.Nat.{ℕ, suc, _+_, _<_, _≤_}
-use native.Mathlib.Omega.{arith}
+use Prim.Native.Nat.{ℕ, _<_}
 use mathlib.Core.Bool.{Bool, _||_}
 use Rattle.cpl.specs.Plan.{Expr, Op2, bin}
 use Rattle.cpl.specs.Exprs.{columns?}

@@ -1,9 +1,8 @@
 -- The proof of the cycle of calls {same_expr}. The measure is the first node's number. Each case is a law of `Same`. Assumes nothing.
 use borrow.Author.Needs.{needs}
-use mathlib.Core.Path.{_≡_, refl, sym, _∙_}
-use Prim.Native.Nat.{ℕ, _+_, _<_}
+use mathlib.Core.Path.{refl, sym, _∙_}
+use Prim.Native.Nat.{ℕ, _<_}
 use native.Mathlib.Omega.{arith}
-use Rattle.arena.specs.Cells.{NodeOk, Wf}
 use Rattle.arena.proofs.Laws.{here, lower}
 use Rattle.arena.proofs.Same.{other-col, other-lit, other-miss, other-one, other-two, same-cols, same-lits, same-miss, same-one, same-two, tags-differ}
 use borrow.Fn.Kinds.{In}
