@@ -28,8 +28,8 @@ use Rattle.tree.specs.declared.Node.the-variants.{Aggregate, Distinct, E
 use Rattle.tree.specs.declared.Words.{Words}
 use Rattle.tree.proofs.Held.{Held, held-left, held-right, moved}
 use Rattle.tree.proofs.Exprs.{expr-back}
-use Rattle.tree.proofs.Lists.{all-cells-long, all-rows-long, each-back, items-list, list-back, one-each}
-use Rattle.tree.proofs.Stores.{agg-reads, agg-sized, column-reads, column-sized, item-reads, item-sized, key-reads, key-sized, on-reads, on-sized, pair-reads, pair-sized, root-wf}
+use Rattle.tree.proofs.Lists.{all-cells-long, all-rows-long, items-list, list-back, one-each}
+use Rattle.tree.proofs.Stores.{aggs-back, columns-back, item-sized, items-back, keys-back, on-sized, ons-back, pairs-back, root-wf}
 use Rattle.tree.proofs.Windows.{win-reads, win-sized}
 
 -- ── seven numbers ───────────────────────────────────────────────────────────────────────────
@@ -78,7 +78,7 @@ module _ (a : Arrays) where
       → Held (a .nodes) (k * 7) (unaryNode made row h) → HeadBack a k 0 (h1 h) × Wf (a .cells) (made + unaryNodes h)
   unfolding unaryCells unaryRows unaryNode unaryNodes FitUnary FitList FitName nodeOf
   unary-back (projection is) k made row f w h g n =
-      let L = each-back (a .cells) (a .rows) itemStore item-sized FitItem (itemAt (a .rows) (a .cells)) (RowOk (a .rows) (a .cells)) (λ x. refl) (item-reads (a .cells) (a .rows)) made row (f .1) w h g in (
+      let L = items-back (a .cells) (a .rows) is made row (f .1) w h g in (
         back a n (Projection row (length is)) (omega arith) refl (ap (λ l. h1 (projection l)) (items-list (a .rows) (a .cells) row (length is) ∙ L .0 .is))
             (record { room = L .1 .room; each = L .1 .each }) refl,
         L .0 .wf,
@@ -87,7 +87,7 @@ module _ (a : Arrays) where
       let b = expr-back e made f w h in
       (back a n (Filter (rootOf made e)) (omega arith) refl (ap (λ x. h1 (filter x)) (b .is)) (root-wf b refl) refl, b .wf)
   unary-back (sort ks) k made row f w h g n =
-      let L = each-back (a .cells) (a .rows) keyStore key-sized FitKey (keyAt (a .rows) (a .cells)) (KeyOk (a .rows) (a .cells)) (λ x. refl) (key-reads (a .cells) (a .rows)) made row (f .1 .1) w h g in
+      let L = keys-back (a .cells) (a .rows) ks made row (f .1 .1) w h g in
       (back a n (Sort row (length ks)) (omega arith) refl (ap (λ l. h1 (sort l)) (L .0 .is)) (L .1) refl, L .0 .wf)
   unary-back (limit s m) k made row f w h g n =
       let t = number-fetch m (f .1) in
@@ -96,9 +96,9 @@ module _ (a : Arrays) where
       let made₁ = made + allNodes itemStore gs in
       let p : made * 3 + allNodes itemStore gs * 3 ≡ made₁ * 3 = omega arith in
       let q : row * 4 + allRowsIn itemStore gs * 4 ≡ (row + length gs) * 4 = omega (arith, one-each itemStore item-sized (λ x. refl) gs) in
-      let L = each-back (a .cells) (a .rows) itemStore item-sized FitItem (itemAt (a .rows) (a .cells)) (RowOk (a .rows) (a .cells)) (λ x. refl) (item-reads (a .cells) (a .rows)) made row (f .1 .1) w
+      let L = items-back (a .cells) (a .rows) gs made row (f .1 .1) w
       (held-left (allCells itemStore made gs) _ h) (held-left (allRows itemStore made gs) _ g) in
-      let M = each-back (a .cells) (a .rows) aggStore agg-sized FitAgg (aggAt (a .rows) (a .cells)) (AggOk (a .rows) (a .cells)) (λ x. refl) (agg-reads (a .cells) (a .rows)) made₁ (row + length gs) (f .2 .1) (L .0 .wf)
+      let M = aggs-back (a .cells) (a .rows) vs made₁ (row + length gs) (f .2 .1) (L .0 .wf)
       (moved p (held-right (allCells itemStore made gs) _ (allNodes itemStore gs * 3) (all-cells-long itemStore item-sized made gs) h))
       (moved q (held-right (allRows itemStore made gs) _ (allRowsIn itemStore gs * 4) (all-rows-long itemStore item-sized made gs) g)) in (
         back a n (Aggregate row (length gs) (length vs)) (omega arith) refl
@@ -147,7 +147,7 @@ module _ (a : Arrays) where
   binary-back (join t os c) k made row right f w h g n =
       let made₁ = made + allNodes onStore os in
       let p : made * 3 + allNodes onStore os * 3 ≡ made₁ * 3 = omega arith in
-      let L = each-back (a .cells) (a .rows) onStore on-sized FitOn (onAt (a .rows) (a .cells)) (OnOk (a .rows) (a .cells)) (λ x. refl) (on-reads (a .cells) (a .rows)) made row (f .0 .1) w
+      let L = ons-back (a .cells) (a .rows) os made row (f .0 .1) w
       (held-left (allCells onStore made os) _ h) g in
       let b = cond-back c made₁ (f .1) (L .0 .wf) (moved p (held-right (allCells onStore made os) _ (allNodes onStore os * 3) (all-cells-long onStore on-sized made os) h)) in (
         back a n (Join (joinNode (words 10 right row (length os) (joinNumber t) (bit (given c)) (condRoot made₁ c)))) (omega arith) refl
@@ -156,21 +156,6 @@ module _ (a : Arrays) where
       )
 
 -- ── no input ────────────────────────────────────────────────────────────────────────────────
-
--- things without expressions have no cells
-no-nodes : {A : Type 0} (s : Store A) → ((x : A) → s .nodesIn x ≡ 0) → (xs : List A) → allNodes s xs ≡ 0
-unfolding allNodes
-no-nodes s o [] = refl
-no-nodes s o (x ∷ xs) = omega (arith, o x, no-nodes s o xs)
-
-held-none : {s : List ℕ} (xs : List ℕ) → length xs ≡ 0 → Held s 0 xs
-held-none xs e = record { room = omega arith; same = λ i l. absurd (omega arith) }
-
-columns-back : (a : Arrays) (row : ℕ) (xs : List ℕ) → Held (a .rows) (row * 4) (allRows columnStore 0 xs) → (columnsAt (a .rows) row (length xs) ≡ xs) × EachOk (Inside (a .rows)) (a .rows) row (length xs)
-columns-back a row xs g =
-    let L = each-back (a .cells) (a .rows) columnStore column-sized (λ c. Unit {0}) (numberAt (a .rows)) (Inside (a .rows)) (λ x. refl) (column-reads (a .cells) (a .rows)) 0 row (always (λ x. tt) xs) (wf-none (a .cells))
-    (held-none _ (omega (arith, all-cells-long columnStore column-sized 0 xs, no-nodes columnStore (λ x. refl) xs))) g in
-    (L .0 .is, L .1)
 
 given-is : (a : Arrays) (row : ℕ) (is : Option (List ℕ)) → columnsAt (a .rows) row (length (columnsOf is)) ≡ columnsOf is → if? (eqb (bit (given is)) 1) (columnsAt (a .rows) row (length (columnsOf is))) ≡ is
 unfolding columnsOf given bit
@@ -181,9 +166,8 @@ module _ (C : Catalogue) (a : Arrays) where
   pub leaf-back : (h : Leaf) (k row : ℕ) → FitLeaf C h → Held (a .rows) (row * 4) (leafRows h) → Held (a .nodes) (k * 7) (leafNode row h) → HeadBack a k 0 (h0 h)
   unfolding leafRows leafNode FitLeaf FitName nodeOf scanNode
   leaf-back (scan t q is) k row f g n =
-      let L = columns-back a row (columnsOf is) g in
+      let L = columns-back (a .rows) row (columnsOf is) g in
       back a n (Scan (scanNode (words 11 0 row (length (columnsOf is)) t q (bit (given is))))) (omega (arith, f .1 .1)) refl (ap (λ x. h0 (scan t q x)) (given-is a row is (L .0))) (L .1) refl
   leaf-back (empty b cs) k row f g n =
-      let L = each-back (a .cells) (a .rows) pairStore pair-sized (λ c. Unit {0}) (pairAt (a .rows)) (Inside (a .rows)) (λ x. refl) (pair-reads (a .cells) (a .rows)) 0 row (always (λ x. tt) cs) (wf-none (a .cells))
-      (held-none _ (omega (arith, all-cells-long pairStore pair-sized 0 cs, no-nodes pairStore (λ x. refl) cs))) g in
-      back a n (Empty (eqb (bit b) 1) row (length cs)) (omega arith) refl (ap₂ (λ x y. h0 (empty x y)) (number-bit b .1) (L .0 .is)) (L .1) refl
+      let L = pairs-back (a .rows) row cs g in
+      back a n (Empty (eqb (bit b) 1) row (length cs)) (omega arith) refl (ap₂ (λ x y. h0 (empty x y)) (number-bit b .1) (L .0)) (L .1) refl

@@ -101,6 +101,12 @@ pub record ListBack (cells : List ℕ) {A : Type 0} (s : Store A) (read : ℕ �
   pub good : AllAt Ok size row (length xs)
   pub wf : Wf cells (made + allNodes s xs)
 
+-- things of one row
+abbrev pub ReadsAll : (cells rows : List ℕ) {A : Type 0} → Store A → (A → Type 0) → (ℕ → A) → (ℕ → Type 0) → Type 0
+ReadsAll cells rows {A} s Fit read Ok =
+    (xs : List A) (made row : ℕ) → All Fit xs → Wf cells made → Held cells (made * 3) (allCells s made xs) → Held rows (row * 4) (allRows s made xs)
+    → ListBack cells s read Ok one made row xs × EachOk Ok rows row (length xs)
+
 module _ (cells rows : List ℕ) {A : Type 0} (s : Store A) (z : Sized s) (Fit : A → Type 0) (read : ℕ → A) (Ok : ℕ → Type 0) where
   pub list-back : (size : ℕ → ℕ) → Reads cells rows s Fit read Ok size → {xs : List A} (made row : ℕ) → All Fit xs → Wf cells made
       → Held cells (made * 3) (allCells s made xs) → Held rows (row * 4) (allRows s made xs) → ListBack cells s read Ok size made row xs
@@ -115,9 +121,7 @@ module _ (cells rows : List ℕ) {A : Type 0} (s : Store A) (z : Sized s) (Fit :
       (moved q (held-right (s .rowsOf made x) _ (s .rowsIn x * 4) (z .rows-long made x) g)) in
       record { is = ap₂ _∷_ (X .is) (R .is); good = (X .good, R .good); wf = subst (Wf cells) (omega arith) (R .wf) }
 
-  -- things of one row
-  pub each-back : ((x : A) → s .rowsIn x ≡ 1) → Reads cells rows s Fit read Ok one → {xs : List A} (made row : ℕ) → All Fit xs → Wf cells made
-      → Held cells (made * 3) (allCells s made xs) → Held rows (row * 4) (allRows s made xs) → ListBack cells s read Ok one made row xs × EachOk Ok rows row (length xs)
-  each-back o b {xs} made row f w h g =
+  pub each-back : ((x : A) → s .rowsIn x ≡ 1) → Reads cells rows s Fit read Ok one → ReadsAll cells rows s Fit read Ok
+  each-back o b xs made row f w h g =
       let l = list-back one b made row f w h g in
       (l, record { room = omega (arith, g .room, all-rows-long s z made xs, one-each s z o xs); each = each-at Ok row (length xs) (l .good) })

@@ -2,7 +2,7 @@
 use mathlib.Core.Path.{_≡_, refl}
 use mathlib.Core.List.{List, _++_}
 use mathlib.Core.Option.{Option, none, some}
-use Prim.Native.Nat.{ℕ, _+_, _*_, _<_}
+use Prim.Native.Nat.{ℕ, _+_, _*_}
 use native.Mathlib.Omega.{arith}
 use lib.ListN.{length, length-append}
 use Rattle.cpl.specs.Exprs.{exprTags, planNodes}
@@ -78,12 +78,6 @@ leaf-node : (row : ℕ) (h : Leaf) → length (leafNode row h) ≡ 7
 unfolding leafNode
 leaf-node row (scan t q is) = refl
 leaf-node row (empty b cs) = refl
-
-pub nodes-pos : (p : Plan) → 0 < planNodes p
-unfolding planNodes
-nodes-pos (leaf h) = omega arith
-nodes-pos (unary h p) = omega arith
-nodes-pos (binary h p₁ p₂) = omega arith
 
 pub plan-cells : (made : ℕ) (p : Plan) → length (planCells made p) ≡ exprNodes p * 3
 unfolding planCells exprNodes

@@ -15,11 +15,11 @@ use Rattle.arena.specs.Cells.{Wf}
 use Rattle.arena.proofs.Laws.{wf-none}
 use Rattle.tree.specs.Layout.{binaryCells, binaryNode, binaryNodes, binaryRows, binaryRowsIn, exprNodes, planCells, planRows, planRowsIn, planTable, unaryCells, unaryNode, unaryNodes, unaryRows, unaryRowsIn}
 use Rattle.tree.specs.Node.{nodeAt}
-use Rattle.tree.specs.Tree.{Arrays, InputsOk, NodeOk, PartsOk, WfTree, build, headOf, lent, planAt, planTo, rightOf}
+use Rattle.tree.specs.Tree.{Arrays, InputsOk, PartsOk, WfNode, WfTree, build, headOf, lent, planAt, planTo, rightOf}
 use Rattle.tree.proofs.Heads.{HeadBack, binary-back, leaf-back, unary-back}
 use Rattle.tree.proofs.Held.{Held, held-left, held-right, held-sets, moved}
-use Rattle.tree.proofs.Long.{binary-cells, binary-node, binary-rows, nodes-pos, plan-cells, plan-rows, plan-table, unary-cells, unary-node, unary-rows}
-use Rattle.tree.proofs.Plans.{node}
+use Rattle.tree.proofs.Long.{binary-cells, binary-node, binary-rows, plan-cells, plan-rows, plan-table, unary-cells, unary-node, unary-rows}
+use Rattle.tree.proofs.Plans.{node, nodes-pos}
 
 -- ── one node ────────────────────────────────────────────────────────────────────────────────
 
@@ -34,7 +34,7 @@ module _ (a : Arrays) {k right : ℕ} {h : Head} (b : HeadBack a k right h) wher
   over : (d : ℕ) {p q : Plan} → planTo d a (k + 1) ≡ p → planTo d a right ≡ q → planTo (suc d) a k ≡ build h p q
   over d e f = node a d k ∙ ap₂ (λ x r. build x (planTo d a (k + 1)) (planTo d a r)) head-is right-is ∙ ap₂ (build h) e f
 
-  ok : (C : Catalogue) (count : ℕ) (p : Plan) → planAt a k ≡ p → FitPlan C p → planTags p ≤ maxTags → k + planNodes p ≤ count → InputsOk a count k right h → NodeOk C a count k
+  ok : (C : Catalogue) (count : ℕ) (p : Plan) → planAt a k ≡ p → FitPlan C p → planTags p ≤ maxTags → k + planNodes p ≤ count → InputsOk a count k right h → WfNode C a count k
   ok C count p e f t l i = record {
     numbers = b .fits;
     parts = subst (PartsOk a) (sym (b .node-is)) (b .parts);
@@ -50,7 +50,7 @@ module _ (a : Arrays) {k right : ℕ} {h : Head} (b : HeadBack a k right h) wher
 pub record PlanBack (C : Catalogue) (a : Arrays) (count k made : ℕ) (p : Plan) : Type 0 where
   pub plan : (deep : ℕ) → planNodes p ≤ deep → planTo deep a k ≡ p
   pub wf : Wf (a .cells) (made + exprNodes p)
-  pub each : (j : ℕ) → k ≤ j → j < k + planNodes p → NodeOk C a count j
+  pub each : (j : ℕ) → k ≤ j → j < k + planNodes p → WfNode C a count j
 
 -- a plan is nested no deeper than it has nodes
 deeper : (a : Arrays) (k : ℕ) (p : Plan) → ((d : ℕ) → planNodes p ≤ suc d → planTo (suc d) a k ≡ p) → (deep : ℕ) → planNodes p ≤ deep → planTo deep a k ≡ p
@@ -69,7 +69,7 @@ module _ (C : Catalogue) (a : Arrays) (count : ℕ) (few : count ≤ maxNodes) w
       let b = leaf-back C a h k row f r n in
       let plan = deeper a k (leaf h) (λ d m. over a b d refl refl) in
       let here = ok a b C count (leaf h) (at-once a k (leaf h) (omega arith) plan) f t l tt in
-      record { plan = plan; wf = subst (Wf (a .cells)) (omega arith) w; each = λ j lo hi. subst (NodeOk C a count) (omega arith) here }
+      record { plan = plan; wf = subst (Wf (a .cells)) (omega arith) w; each = λ j lo hi. subst (WfNode C a count) (omega arith) here }
   plan-back (unary h p) k made row f t l w c r n =
       let u = unary-back a h k made row (f .0) w (held-left (unaryCells made h) _ c) (held-left (unaryRows made h) _ r) (held-left (unaryNode made row h) _ n) in
       let x : made * 3 + unaryNodes h * 3 ≡ (made + unaryNodes h) * 3 = omega arith in
@@ -84,7 +84,7 @@ module _ (C : Catalogue) (a : Arrays) (count : ℕ) (few : count ≤ maxNodes) w
       record {
         plan = plan;
         wf = subst (Wf (a .cells)) (omega arith) (I .wf);
-        each = λ j lo hi. elim (ℕ-discrete j k) [ yes e ↦ subst (NodeOk C a count) (sym e) here | no d ↦ I .each j (omega arith) (omega arith) ];
+        each = λ j lo hi. elim (ℕ-discrete j k) [ yes e ↦ subst (WfNode C a count) (sym e) here | no d ↦ I .each j (omega arith) (omega arith) ];
       }
   plan-back (binary h p₁ p₂) k made row f t l w c r n =
       let made₁ = made + binaryNodes h in
@@ -111,12 +111,12 @@ module _ (C : Catalogue) (a : Arrays) (count : ℕ) (few : count ≤ maxNodes) w
       let plan = deeper a k (binary h p₁ p₂) (λ d m. over a (u .0) d (I .plan d (omega arith)) (J .plan d (omega arith))) in
       let first = at-once a (k + 1) p₁ (omega arith) (I .plan) in
       let here = ok a (u .0) C count (binary h p₁ p₂) (at-once a k (binary h p₁ p₂) (omega arith) plan) f t l
-      (omega (arith, nodes-pos p₁), ap (λ p. k + 1 + planNodes p) (sym first), omega (arith, nodes-pos p₂)) in
+      (ap (λ p. k + 1 + planNodes p) (sym first), omega (arith, nodes-pos p₂)) in
       record {
         plan = plan;
         wf = subst (Wf (a .cells)) (omega arith) (J .wf);
         each = λ j lo hi. elim (ℕ-discrete j k) [
-          | yes e ↦ subst (NodeOk C a count) (sym e) here
+          | yes e ↦ subst (WfNode C a count) (sym e) here
           | no d ↦ elim (decLt j right) [ yes b ↦ I .each j (omega arith) (omega arith) | no b ↦ J .each j (omega arith) (omega arith) ]
         ];
       }

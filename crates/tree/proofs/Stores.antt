@@ -14,15 +14,17 @@ use Rattle.cpl.specs.Plan.{Agg, Call, Expr, Item, Key, On, Pair, Win, agg, bare
 use Rattle.cpl.specs.Read.{pick}
 use Rattle.cpl.specs.Writable.{FitAgg, FitCall, FitExpr, FitItem, FitKey, FitList, FitOn, FitPair, FitWin}
 use Rattle.cpl.proofs.CodeTrip.{number-flags, number-fn}
+use Rattle.cpl.proofs.Lists.{always}
 use Rattle.arena.specs.Cells.{Wf, exprAt}
 use Rattle.arena.specs.Rows.{RowOk, itemAt, markAt, pairAt, rootAt}
+use Rattle.arena.proofs.Laws.{wf-none}
 use Rattle.arena.proofs.Rows.{item-bare, item-named}
-use Rattle.tree.specs.Layout.{aggCells, aggNodes, aggRow, aggStore, allCells, allNodes, allRows, callCells, callNodes, callRoot, columnStore, exprCells, exprStore, itemRow, itemStore, keyCells, keyNodes, keyRow, keyStore, onCells, onNodes, onRow, onStore, pairRow, pairStore, rootOf, winCells, winNodes, winRows, winRowsIn, winStore}
-use Rattle.tree.specs.Rows.{AggOk, EachOk, ExprOk, Inside, KeyOk, OnOk, WinOk, aggAt, callOf, exprsAt, keyAt, keyOf, keysAt, keysRow, lastRow, numberAt, onAt, one, winAt, winSize}
+use Rattle.tree.specs.Layout.{Store, aggCells, aggNodes, aggRow, aggStore, allCells, allNodes, allRows, callCells, callNodes, callRoot, columnStore, exprCells, exprStore, itemRow, itemStore, keyCells, keyNodes, keyRow, keyStore, onCells, onNodes, onRow, onStore, pairRow, pairStore, rootOf, winCells, winNodes, winRows, winRowsIn, winStore}
+use Rattle.tree.specs.Rows.{AggOk, EachOk, ExprOk, Inside, KeyOk, OnOk, aggAt, callOf, columnsAt, keyAt, keyOf, listAt, numberAt, onAt, one, pairsAt}
 use Rattle.tree.proofs.Held.{Held, held-left, held-right, moved}
 use Rattle.tree.proofs.Exprs.{cells-long, expr-back, tags-pos}
 use Rattle.tree.proofs.Exprs
-use Rattle.tree.proofs.Lists.{Back, ListBack, Reads, Sized, all-cells-long, all-rows-long, each-back, one-each}
+use Rattle.tree.proofs.Lists.{Reads, ReadsAll, Sized, all-cells-long, each-back}
 
 -- ── one row ─────────────────────────────────────────────────────────────────────────────────
 
@@ -209,3 +211,42 @@ module _ (cells s : List ℕ) where
   column-reads x made i f w h g =
       let r = row g in
       record { is = r .number; good = r .inside; long = refl; wf = subst (Wf cells) (omega arith) w }
+
+-- ── lists of them ───────────────────────────────────────────────────────────────────────────
+
+module _ (cells s : List ℕ) where
+  pub exprs-back : ReadsAll cells s exprStore FitExpr (λ i. exprAt cells (rootAt s i)) (ExprOk s cells)
+  exprs-back = each-back cells s exprStore expr-sized FitExpr _ _ (λ x. refl) (expr-reads cells s)
+
+  pub items-back : ReadsAll cells s itemStore FitItem (itemAt s cells) (RowOk s cells)
+  items-back = each-back cells s itemStore item-sized FitItem _ _ (λ x. refl) (item-reads cells s)
+
+  pub keys-back : ReadsAll cells s keyStore FitKey (keyAt s cells) (KeyOk s cells)
+  keys-back = each-back cells s keyStore key-sized FitKey _ _ (λ x. refl) (key-reads cells s)
+
+  pub aggs-back : ReadsAll cells s aggStore FitAgg (aggAt s cells) (AggOk s cells)
+  aggs-back = each-back cells s aggStore agg-sized FitAgg _ _ (λ x. refl) (agg-reads cells s)
+
+  pub ons-back : ReadsAll cells s onStore FitOn (onAt s cells) (OnOk s cells)
+  ons-back = each-back cells s onStore on-sized FitOn _ _ (λ x. refl) (on-reads cells s)
+
+-- things without expressions have no cells
+no-nodes : {A : Type 0} (s : Store A) → ((x : A) → s .nodesIn x ≡ 0) → (xs : List A) → allNodes s xs ≡ 0
+unfolding allNodes
+no-nodes s o [] = refl
+no-nodes s o (x ∷ xs) = omega (arith, o x, no-nodes s o xs)
+
+module _ (rows : List ℕ) {A : Type 0} (s : Store A) (z : Sized s) (read : ℕ → A) (o : (x : A) → s .rowsIn x ≡ 1) (e : (x : A) → s .nodesIn x ≡ 0) where
+  bare-back : Reads [] rows s (λ x. Unit {0}) read (Inside rows) one
+      → (row : ℕ) (xs : List A) → Held rows (row * 4) (allRows s 0 xs) → (listAt read one row (length xs) ≡ xs) × EachOk (Inside rows) rows row (length xs)
+  bare-back b row xs g =
+      let none : length (allCells s 0 xs) ≡ 0 = omega (arith, all-cells-long s z 0 xs, no-nodes s e xs) in
+      let l = each-back [] rows s z (λ x. Unit {0}) read (Inside rows) o b xs 0 row (always (λ x. tt) xs) (wf-none []) (record { room = omega arith; same = λ i h. absurd (omega arith) }) g in
+      (l .0 .is, l .1)
+
+module _ (s : List ℕ) where
+  pub pairs-back : (row : ℕ) (xs : List Pair) → Held s (row * 4) (allRows pairStore 0 xs) → (pairsAt s row (length xs) ≡ xs) × EachOk (Inside s) s row (length xs)
+  pairs-back = bare-back s pairStore pair-sized (pairAt s) (λ x. refl) (λ x. refl) (pair-reads [] s)
+
+  pub columns-back : (row : ℕ) (xs : List ℕ) → Held s (row * 4) (allRows columnStore 0 xs) → (columnsAt s row (length xs) ≡ xs) × EachOk (Inside s) s row (length xs)
+  columns-back = bare-back s columnStore column-sized (numberAt s) (λ x. refl) (λ x. refl) (column-reads [] s)

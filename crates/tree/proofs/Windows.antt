@@ -6,14 +6,14 @@ use native.Mathlib.Omega.{arith}
 use lib.ListN.{length, length-append}
 use Rattle.cpl.specs.Bytes.{callNumber}
 use Rattle.cpl.specs.Plan.{Call, Expr, Key, Pair, Win, pair, win}
-use Rattle.cpl.specs.Writable.{FitExpr, FitKey, FitList, FitWin}
+use Rattle.cpl.specs.Writable.{FitList, FitWin}
 use Rattle.arena.specs.Cells.{Wf, exprAt}
 use Rattle.arena.specs.Rows.{pairAt, rootAt}
 use Rattle.tree.specs.Layout.{allCells, allNodes, allRows, callCells, callNodes, callRoot, exprStore, keyStore, pairRow, winCells, winNodes, winRows, winRowsIn, winStore}
-use Rattle.tree.specs.Rows.{EachOk, ExprOk, Inside, KeyOk, WinOk, callOf, exprsAt, keyAt, keysAt, keysRow, lastRow, numberAt, winAt, winSize}
+use Rattle.tree.specs.Rows.{EachOk, ExprOk, Inside, KeyOk, WinOk, callOf, exprsAt, keysAt, keysRow, lastRow, numberAt, winAt, winSize}
 use Rattle.tree.proofs.Held.{Held, held-left, held-right, moved}
-use Rattle.tree.proofs.Lists.{Reads, Sized, all-cells-long, all-rows-long, each-back, one-each}
-use Rattle.tree.proofs.Stores.{call-back, call-long, expr-reads, expr-sized, key-reads, key-sized, pair-is, row}
+use Rattle.tree.proofs.Lists.{Reads, Sized, all-cells-long, all-rows-long, one-each}
+use Rattle.tree.proofs.Stores.{call-back, call-long, expr-sized, exprs-back, key-sized, keys-back, pair-is, row}
 
 -- the rows of parts and of keys
 parts-long : (made : ℕ) (ps : List Expr) → length (allRows exprStore made ps) ≡ length ps * 4
@@ -60,9 +60,9 @@ win-reads cells s (win (pair q n) g ps ks) made i f w h H =
     let r₀ = row (held-left (pairRow (pair q n) (callNumber g) (length ps)) _ H) in
     let r₁ = row (held-left (length ks ∷ 0 ∷ 0 ∷ 0 ∷ []) _ H₂) in
     let r₂ = row H₄ in
-    let P = each-back cells s exprStore expr-sized FitExpr (λ z. exprAt cells (rootAt s z)) (ExprOk s cells) (λ e. refl) (expr-reads cells s) made (i + 1) (f .2 .1) w
+    let P = exprs-back cells s ps made (i + 1) (f .2 .1) w
     (held-left (allCells exprStore made ps) _ h) (held-left (allRows exprStore made ps) _ H₁) in
-    let K = each-back cells s keyStore key-sized FitKey (keyAt s cells) (KeyOk s cells) (λ k. refl) (key-reads cells s) made₁ (j + 1) (f .3 .1) (P .0 .wf)
+    let K = keys-back cells s ks made₁ (j + 1) (f .3 .1) (P .0 .wf)
     (held-left (allCells keyStore made₁ ks) _ h₁) (held-left (allRows keyStore made₁ ks) _ H₃) in
     let G = call-back g made₂ (f .1) (K .0 .wf) h₂ in
     let mid : keysRow s i ≡ j = ap (λ x. i + 1 + x) (r₀ .root) in
