@@ -2,7 +2,7 @@
 # The answers file (target/answers/FN.txt, not kept: the proof file is what is kept): first the head (a comment line and `use` lines, and lemmas) up to a line `----`, then lines
 #   NEED = TERM      (a line that starts with spaces goes on with the term before)
 # where @thing stands for the path to that thing at that need; each becomes a `let`. A need that is not named gets `search needs`.
-# A function with a loop has its `Inv-loop` and `μ-loop` among the lemmas, after a line `--lemmas`. RT="/work/slot rt" runs the check in a slot.
+# A function with a loop has its `Inv-loop` and `μ-loop` among the lemmas, after a line `--lemmas`. RT in the environment is the command to run instead of `rt`.
 import re,sys,subprocess,os,glob
 RT=os.environ.get('RT','rt').split()
 crate,fn=sys.argv[1:3]
