@@ -133,13 +133,13 @@ module _ (t i : ℕ) (s : List ℕ) (m : i ≡ t) where
 
   pub small-1 : (p : Small s i) (k x : ℕ) → Shows s i (One k x) → (x < t) × Small s x
   unfolding exprTags
-  small-1 p k x v = (omega (arith, v .1), (lower s i x (p .0) (v .1), omega (arith, p .1, ap exprTags (v .0))))
+  small-1 p k x v = (omega (arith, v .below), (lower s i x (p .0) (v .below), omega (arith, p .1, ap exprTags (v .means))))
 
   pub small-2 : (p : Small s i) (k x y : ℕ) → Shows s i (Two k x y) → ((x < t) × Small s x) × ((y < t) × Small s y)
   unfolding exprTags
   small-2 p k x y v =
-      let e = ap exprTags (v .0) in
-      ((omega (arith, v .1), (lower s i x (p .0) (v .1), omega (arith, p .1, e))), (omega (arith, v .2), (lower s i y (p .0) (v .2), omega (arith, p .1, e))))
+      let e = ap exprTags (v .means) in
+      ((omega (arith, v .first), (lower s i x (p .0) (v .first), omega (arith, p .1, e))), (omega (arith, v .second), (lower s i y (p .0) (v .second), omega (arith, p .1, e))))
 
 -- a column occurs at most as often as there are tags
 pub uses-le : (f : Pair) (e : Expr) → occurs f e ≤ exprTags e

@@ -89,15 +89,15 @@ module _ {a b : List ℕ} {i j : ℕ} (o : NodeOk a i) (p : NodeOk b j) {t x y u
     pub other-one : {k n : ℕ} → Shows a i (One k n) → (z < j) × (exprAt b j ≡ un (op1Of k) (exprAt b z))
     unfolding tagOf
     other-one {k} q =
-        let g : tagAt b j ≡ k = same-tag h (q .0) ∙ op1-tag k (q .2) (q .3) in
-        let l = p .first (rw g (q .2)) in
-        rw (r .x-is) (l, at-one b j (rw g (q .2)) (rw g (q .3)) l ∙ rw g)
+        let g : tagAt b j ≡ k = same-tag h (q .means) ∙ op1-tag k (q .least) (q .most) in
+        let l = p .first (rw g (q .least)) in
+        rw (r .x-is) (l, at-one b j (rw g (q .least)) (rw g (q .most)) l ∙ rw g)
 
     pub other-two : {k m n : ℕ} → Shows a i (Two k m n) → (z < j) × (w < j) × (exprAt b j ≡ bin (op2Of k) (exprAt b z) (exprAt b w))
     unfolding tagOf
     other-two {k} q =
-        let g : tagAt b j ≡ k = same-tag h (q .0) ∙ op2-tag k (q .3) (q .4) in
-        let five : 5 ≤ tagAt b j = rw g (q .3) in
+        let g : tagAt b j ≡ k = same-tag h (q .means) ∙ op2-tag k (q .least) (q .most) in
+        let five : 5 ≤ tagAt b j = rw g (q .least) in
         let l = p .first (omega arith) in
         let m = p .second five in
         rw (r .x-is, r .y-is) (l, m, at-two b j five l m ∙ rw g)

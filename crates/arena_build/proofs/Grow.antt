@@ -71,8 +71,8 @@ built : (e : Expr) (s : List ℕ) (used : ℕ) (s₁ : List ℕ) (u t x y : ℕ)
     → ((s′ : List ℕ) → Kept (u * 3) s₁ s′ → tagAt s′ u ≡ t → xAt s′ u ≡ x → yAt s′ u ≡ y → exprAt s′ u ≡ e)
     → Pushed s₁ u t x y r s₂ → Answer e s used r s₂
 built e s used s₁ u t x y (Done node more) s₂ k l w f g m p =
-    let h = p .0 in
-    rw (p .1, p .2, p .3)
+    let h = p .room in
+    rw (p .node-is, p .more-is, p .stored)
     (record {
       kept = kept-trans (omega arith) k (put-kept s₁ u t x y h);
       means = m (putNode s₁ u t x y) (put-kept s₁ u t x y h) (put-tag s₁ u t x y h) (put-x s₁ u t x y h) (put-y s₁ u t x y h);
@@ -80,7 +80,7 @@ built e s used s₁ u t x y (Done node more) s₂ k l w f g m p =
       grown = g;
       wf = put-wf s₁ u t x y h w f;
     })
-built e s used s₁ u t x y Full s₂ k l w f g m p = rw (p .1) (record { kept = k; tight = omega (arith, p .0, k .long, g) })
+built e s used s₁ u t x y Full s₂ k l w f g m p = rw (p .same) (record { kept = k; tight = omega (arith, p .full, k .long, g) })
 
 leaf : (e : Expr) (s : List ℕ) (used t x y : ℕ) (r : Built) (s₂ : List ℕ) → t < 3 → (t ≡ 0 → (x < 65536) × (y < 65536)) → exprTags e ≡ 1 → Wf s used
     → ((s′ : List ℕ) → tagAt s′ used ≡ t → xAt s′ used ≡ x → yAt s′ used ≡ y → exprAt s′ used ≡ e)

@@ -63,21 +63,21 @@ module _ (p : Pair → Expr) (s : List ℕ) (i : ℕ) (l : List ℕ) (u : ℕ) w
 
   pub ret-one : (k x node more : ℕ) (l₁ : List ℕ) (r : Built) (l₂ : List ℕ) → Shows s i (One k x) → Made (replace p (exprAt s x)) l u node more l₁ → Pushed l₁ more k node 0 r l₂ → Answer (replace p (exprAt s i)) l u r l₂
   unfolding replace
-  ret-one k x node more l₁ r l₂ v m d = rw (v .0) (put-one k _ l u node more l₁ r l₂ (v .2) (v .3) m d)
+  ret-one k x node more l₁ r l₂ v m d = rw (v .means) (put-one k _ l u node more l₁ r l₂ (v .least) (v .most) m d)
 
   pub ret-two : (k x y node more : ℕ) (l₁ : List ℕ) (node₂ most : ℕ) (l₂ : List ℕ) (r : Built) (l₃ : List ℕ) → Shows s i (Two k x y)
       → Made (replace p (exprAt s x)) l u node more l₁ → Made (replace p (exprAt s y)) l₁ more node₂ most l₂ → Pushed l₂ most k node node₂ r l₃ → Answer (replace p (exprAt s i)) l u r l₃
   unfolding replace
-  ret-two k x y node more l₁ node₂ most l₂ r l₃ v m m₂ d = rw (v .0) (put-two k _ _ l u node more l₁ node₂ most l₂ r l₃ (v .3) (v .4) m m₂ d)
+  ret-two k x y node more l₁ node₂ most l₂ r l₃ v m m₂ d = rw (v .means) (put-two k _ _ l u node more l₁ node₂ most l₂ r l₃ (v .least) (v .most) m m₂ d)
 
   pub no-one : (k x : ℕ) (l₁ : List ℕ) → Shows s i (One k x) → Refused (replace p (exprAt s x)) l u l₁ → Refused (replace p (exprAt s i)) l u l₁
   unfolding replace exprTags
-  no-one k x l₁ v m = rw (v .0) (full-one (un (op1Of k)) _ l u l₁ (omega arith) m)
+  no-one k x l₁ v m = rw (v .means) (full-one (un (op1Of k)) _ l u l₁ (omega arith) m)
 
   pub no-first : (k x y : ℕ) (l₁ : List ℕ) → Shows s i (Two k x y) → Refused (replace p (exprAt s x)) l u l₁ → Refused (replace p (exprAt s i)) l u l₁
   unfolding replace exprTags
-  no-first k x y l₁ v m = rw (v .0) (full-one (λ e. bin (op2Of k) e (replace p (exprAt s y))) _ l u l₁ (omega arith) m)
+  no-first k x y l₁ v m = rw (v .means) (full-one (λ e. bin (op2Of k) e (replace p (exprAt s y))) _ l u l₁ (omega arith) m)
 
   pub no-second : (k x y node more : ℕ) (l₁ l₂ : List ℕ) → Shows s i (Two k x y) → Made (replace p (exprAt s x)) l u node more l₁ → Refused (replace p (exprAt s y)) l₁ more l₂ → Refused (replace p (exprAt s i)) l u l₂
   unfolding replace
-  no-second k x y node more l₁ l₂ v m m₂ = rw (v .0) (full-second k _ _ l u node more l₁ l₂ m m₂)
+  no-second k x y node more l₁ l₂ v m m₂ = rw (v .means) (full-second k _ _ l u node more l₁ l₂ m m₂)

@@ -1,11 +1,11 @@
 -- An expression that stands in the cells is read back. Assumes nothing.
 use mathlib.Core.Path.{_≡_, refl, sym, ap, ap₂, subst, _∙_}
-use mathlib.Core.List.{List, [], _∷_, _++_}
-use Prim.Native.Nat.{ℕ, zero, suc, _+_, _*_, _-_, _<_, _≤_}
+use mathlib.Core.List.{List, [], _∷_}
+use Prim.Native.Nat.{ℕ, suc, _+_, _*_, _<_, _≤_}
 use native.Mathlib.Decide.{ℕ-discrete}
 use native.Mathlib.Omega.{arith}
-use lib.ListN.{length, getD, length-append}
-use Rattle.cpl.specs.Codes.{op1Of, op1Tag, op2Of, op2Tag, signed, unsigned}
+use lib.ListN.{length, length-append}
+use Rattle.cpl.specs.Codes.{op1Of, op2Of, signed}
 use Rattle.cpl.specs.Exprs.{exprTags}
 use Rattle.cpl.specs.Plan.{Expr, Op2, bin, col, lit, miss, pair, un}
 use Rattle.cpl.specs.Writable.{FitExpr, FitName, FitPair}

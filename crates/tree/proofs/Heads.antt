@@ -1,9 +1,9 @@
 -- A node without its inputs is read back from where it is stored. Assumes nothing.
 use mathlib.Core.Path.{_≡_, refl, sym, ap, ap₂, subst, _∙_}
-use mathlib.Core.Bool.{Bool, true, false, true≢false}
-use mathlib.Core.List.{List, [], _∷_, _++_}
+use mathlib.Core.Bool.{true, true≢false}
+use mathlib.Core.List.{List, [], _∷_}
 use mathlib.Core.Option.{Option, none, some}
-use Prim.Native.Nat.{ℕ, zero, suc, _+_, _*_, _^_, _<_, _≤_}
+use Prim.Native.Nat.{ℕ, _+_, _*_}
 use native.Mathlib.Omega.{arith}
 use lib.Dec.{eqb}
 use lib.ListN.{length}
@@ -12,16 +12,13 @@ use Rattle.cpl.specs.Codes.{bit, joinNumber}
 use Rattle.cpl.specs.Plan.{Binary, Catalogue, Expr, Leaf, On, Unary, aggregate, distinct, empty, filter, j-full, j-inner, j-lanti, j-left, j-lsemi, j-ranti, j-right, j-rsemi, join, limit, projection, scan, sort, subqueryAlias, union, window}
 use Rattle.cpl.specs.Plan
 use Rattle.cpl.specs.ReadPlan.{Head, h0, h1, h2}
-use Rattle.cpl.specs.Writable.{FitAgg, FitBinary, FitCond, FitItem, FitKey, FitLeaf, FitList, FitName, FitOn, FitUnary, FitWin}
+use Rattle.cpl.specs.Writable.{FitBinary, FitCond, FitLeaf, FitList, FitName, FitUnary, FitWin}
 use Rattle.cpl.proofs.CodeTrip.{number-bit}
-use Rattle.cpl.proofs.Lists.{always}
 use Rattle.cpl.proofs.PartTrip.{number-fetch}
 use Rattle.arena.specs.Cells.{Wf, exprAt}
-use Rattle.arena.specs.Rows.{RowOk, RowsOk, itemAt, pairAt}
-use Rattle.arena.proofs.Laws.{wf-none}
-use Rattle.tree.specs.Layout.{Store, aggStore, allCells, allNodes, allRows, allRowsIn, binaryCells, binaryNode, binaryNodes, binaryRows, columnStore, columnsOf, condCells, condNodes, condRoot, exprCells, given, itemStore, keyStore, leafNode, leafRows, onStore, pairStore, rootOf, unaryCells, unaryNode, unaryNodes, unaryRows, winStore}
+use Rattle.tree.specs.Layout.{allCells, allNodes, allRows, allRowsIn, binaryCells, binaryNode, binaryNodes, binaryRows, columnsOf, condCells, condNodes, condRoot, given, itemStore, leafNode, leafRows, onStore, rootOf, unaryCells, unaryNode, unaryNodes, unaryRows, winStore}
 use Rattle.tree.specs.Node.{Fits, NodeFits, joinIs, joinNode, nodeAt, nodeOf, scanNode, typeOf, wordsAt}
-use Rattle.tree.specs.Rows.{AggOk, EachOk, Inside, KeyOk, OnOk, WinOk, aggAt, columnsAt, keyAt, listAt, numberAt, onAt, one, winAt, winSize}
+use Rattle.tree.specs.Rows.{WinOk, columnsAt, winAt, winSize}
 use Rattle.tree.specs.Tree.{Arrays, PartsOk, headOf, if?, rightOf}
 use Rattle.tree.specs.declared.Node.{Node}
 use Rattle.tree.specs.declared.Node.the-variants.{Aggregate, Distinct, Empty, Filter, Join, Limit, Projection, Scan, Sort, SubqueryAlias, Union, Window}

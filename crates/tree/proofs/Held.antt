@@ -1,9 +1,9 @@
 -- Numbers that stand in an array from some place on. Assumes nothing.
-use mathlib.Core.Path.{_≡_, refl, sym, ap, subst, _∙_}
+use mathlib.Core.Path.{_≡_, refl, ap, subst, _∙_}
 use mathlib.Core.List.{List, [], _∷_, _++_}
 use Prim.Native.Nat.{ℕ, zero, suc, _+_, _<_, _≤_}
 use native.Mathlib.Omega.{arith}
-use lib.ListN.{length, getD, take, drop, length-append, length-set, List·getD-append}
+use lib.ListN.{length, getD, length-append, length-set, List·getD-append}
 use lib.Seq.{getD-append-add, getD-set-other, getD-set-same, length-sets, sets}
 
 pub record Held (s : List ℕ) (at : ℕ) (xs : List ℕ) : Type 0 where

@@ -7,5 +7,6 @@ pub mod Stores
 pub mod Windows
 pub mod Heads
 pub mod Long
+pub mod Few
 pub mod Plans
 pub mod Stored

@@ -1,13 +1,12 @@
 -- The laws of lists of rows, and: a list whose elements are read back is read back. Assumes nothing.
 use mathlib.Core.Path.{_≡_, refl, sym, ap, ap₂, subst, _∙_}
-use mathlib.Core.List.{List, [], _∷_, _++_}
+use mathlib.Core.List.{List, [], _∷_}
 use Prim.Native.Nat.{ℕ, zero, suc, _+_, _*_, _-_, _<_, _≤_}
 use native.Mathlib.Decide.{ℕ-discrete}
 use native.Mathlib.Numerals.{add-one}
 use native.Mathlib.Omega.{arith}
 use lib.ListN.{length, length-append}
 use Rattle.cpl.specs.Lists.{All, a[], _a∷_}
-use Rattle.cpl.specs.Plan.{Item}
 use Rattle.arena.specs.Cells.{Wf}
 use Rattle.arena.specs.Rows.{itemAt, itemsAt}
 use Rattle.tree.specs.Layout.{Store, allCells, allNodes, allRows, allRowsIn}

@@ -1,11 +1,10 @@
 -- How many numbers a plan takes in each array. Assumes nothing.
 use mathlib.Core.Path.{_≡_, refl}
-use mathlib.Core.List.{List, _++_}
 use mathlib.Core.Option.{Option, none, some}
 use Prim.Native.Nat.{ℕ, _+_, _*_}
 use native.Mathlib.Omega.{arith}
 use lib.ListN.{length, length-append}
-use Rattle.cpl.specs.Exprs.{exprTags, planNodes}
+use Rattle.cpl.specs.Exprs.{planNodes}
 use Rattle.cpl.specs.Plan.{Binary, Expr, Leaf, Plan, Unary, aggregate, binary, distinct, empty, filter, join, leaf, limit, projection, scan, sort, subqueryAlias, unary, union, window}
 use Rattle.tree.specs.Layout.{aggStore, allNodes, binaryCells, binaryNode, binaryNodes, binaryRows, binaryRowsIn, columnStore, columnsOf, condCells, condNodes, exprNodes, itemStore, keyStore, leafNode, leafRows, leafRowsIn, onStore, pairStore, planCells, planRows, planRowsIn, planTable, unaryCells, unaryNode, unaryNodes, unaryRows, unaryRowsIn, winStore}
 use Rattle.tree.proofs.Exprs.{cells-long}

@@ -1,6 +1,6 @@
 -- A plan that stands in the lent arrays as `Layout` says is read back from them, and the arrays are a tree that code can walk. Assumes nothing.
 use mathlib.Core.Path.{_≡_, refl, sym, ap, ap₂, subst, subst₂, _∙_}
-use mathlib.Core.List.{List, _++_}
+use mathlib.Core.List.{List}
 use Prim.Native.Nat.{ℕ, zero, suc, _+_, _*_, _<_, _≤_}
 use native.Mathlib.Decide.{ℕ-discrete, decLt}
 use native.Mathlib.Omega.{arith}
@@ -9,7 +9,7 @@ use lib.Seq.{sets}
 use Rattle.cpl.specs.Exprs.{planNodes, planTags}
 use Rattle.cpl.specs.Limits.{maxNodes, maxTags}
 use Rattle.cpl.specs.Plan.{Catalogue, Plan, binary, leaf, unary}
-use Rattle.cpl.specs.ReadPlan.{Head, h0, h1, h2}
+use Rattle.cpl.specs.ReadPlan.{Head}
 use Rattle.cpl.specs.Writable.{FitPlan}
 use Rattle.arena.specs.Cells.{Wf}
 use Rattle.arena.proofs.Laws.{wf-none}
@@ -135,7 +135,7 @@ held C p a f few tags c r n =
     let b = plan-back C a (planNodes p) few p 0 0 0 f tags (omega arith) (wf-none (a .cells)) c r n in
     record { is = at-once a 0 p few (b .plan); tree = record { few = few; each = λ k h. b .each k (omega arith) (omega arith) } }
 
--- a plan that can be written, stored as a reader stores it in arrays that are long enough
+-- a plan that can be written, stored as a reader stores it in arrays that are long enough (`Few` has lengths that are, for any)
 pub stored : (C : Catalogue) (p : Plan) (cells rows nodes : List ℕ) {cells′ rows′ nodes′ : List ℕ} → FitPlan C p → planNodes p ≤ maxNodes → planTags p ≤ maxTags
     → exprNodes p * 3 ≤ length cells → planRowsIn p * 4 ≤ length rows → planNodes p * 7 ≤ length nodes
     → cells′ ≡ sets cells 0 (planCells 0 p) → rows′ ≡ sets rows 0 (planRows 0 p) → nodes′ ≡ sets nodes 0 (planTable 0 0 0 p) → Stored C p (lent cells′ rows′ nodes′)

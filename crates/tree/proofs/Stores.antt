@@ -1,25 +1,22 @@
 -- Each part of a node is read back from where it is stored. Assumes nothing.
 use mathlib.Core.Path.{_≡_, refl, sym, ap, ap₂, subst, _∙_}
-use mathlib.Core.List.{List, [], _∷_, _++_}
-use Prim.Native.Nat.{ℕ, zero, suc, _+_, _*_, _-_, _<_, _≤_}
+use mathlib.Core.List.{List, [], _∷_}
+use Prim.Native.Nat.{ℕ, _+_, _*_, _<_}
 use native.Mathlib.Omega.{arith}
 use borrow.Author.Tests.{ne-eqb}
 use lib.ListN.{length, getD, length-append}
 use Rattle.cpl.specs.Bytes.{callNumber}
-use Rattle.cpl.specs.Codes.{bit, fnNumber, fnOf}
+use Rattle.cpl.specs.Codes.{fnNumber}
 use Rattle.cpl.specs.Exprs.{exprTags}
-use Rattle.cpl.specs.Limits.{maxKeys}
-use Rattle.cpl.specs.Lists.{All}
-use Rattle.cpl.specs.Plan.{Agg, Call, Expr, Item, Key, On, Pair, Win, agg, bare, col, itemExpr, key, named, on, over, pair, rows, win}
-use Rattle.cpl.specs.Read.{pick}
-use Rattle.cpl.specs.Writable.{FitAgg, FitCall, FitExpr, FitItem, FitKey, FitList, FitOn, FitPair, FitWin}
+use Rattle.cpl.specs.Plan.{Agg, Call, Expr, Item, Key, On, Pair, agg, bare, col, itemExpr, key, named, on, over, pair, rows}
+use Rattle.cpl.specs.Writable.{FitAgg, FitCall, FitExpr, FitItem, FitKey, FitOn}
 use Rattle.cpl.proofs.CodeTrip.{number-flags, number-fn}
 use Rattle.cpl.proofs.Lists.{always}
 use Rattle.arena.specs.Cells.{Wf, exprAt}
 use Rattle.arena.specs.Rows.{RowOk, itemAt, markAt, pairAt, rootAt}
 use Rattle.arena.proofs.Laws.{wf-none}
 use Rattle.arena.proofs.Rows.{item-bare, item-named}
-use Rattle.tree.specs.Layout.{Store, aggCells, aggNodes, aggRow, aggStore, allCells, allNodes, allRows, callCells, callNodes, callRoot, columnStore, exprCells, exprStore, itemRow, itemStore, keyCells, keyNodes, keyRow, keyStore, onCells, onNodes, onRow, onStore, pairRow, pairStore, rootOf, winCells, winNodes, winRows, winRowsIn, winStore}
+use Rattle.tree.specs.Layout.{Store, aggCells, aggNodes, aggRow, aggStore, allCells, allNodes, allRows, callCells, callNodes, callRoot, columnStore, exprCells, exprStore, itemRow, itemStore, keyCells, keyNodes, keyRow, keyStore, onCells, onNodes, onRow, onStore, pairRow, pairStore, rootOf}
 use Rattle.tree.specs.Rows.{AggOk, EachOk, ExprOk, Inside, KeyOk, OnOk, aggAt, callOf, columnsAt, keyAt, keyOf, listAt, numberAt, onAt, one, pairsAt}
 use Rattle.tree.proofs.Held.{Held, held-left, held-right, moved}
 use Rattle.tree.proofs.Exprs.{cells-long, expr-back, tags-pos}

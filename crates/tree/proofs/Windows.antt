@@ -1,17 +1,17 @@
 -- A window is read back from where it is stored. Assumes nothing.
 use mathlib.Core.Path.{_≡_, refl, sym, ap, ap₂, subst, subst₂, _∙_}
-use mathlib.Core.List.{List, [], _∷_, _++_}
-use Prim.Native.Nat.{ℕ, zero, suc, _+_, _*_, _<_, _≤_}
+use mathlib.Core.List.{List, [], _∷_}
+use Prim.Native.Nat.{ℕ, _+_, _*_}
 use native.Mathlib.Omega.{arith}
 use lib.ListN.{length, length-append}
 use Rattle.cpl.specs.Bytes.{callNumber}
 use Rattle.cpl.specs.Plan.{Call, Expr, Key, Pair, Win, pair, win}
 use Rattle.cpl.specs.Writable.{FitList, FitWin}
 use Rattle.arena.specs.Cells.{Wf, exprAt}
-use Rattle.arena.specs.Rows.{pairAt, rootAt}
-use Rattle.tree.specs.Layout.{allCells, allNodes, allRows, callCells, callNodes, callRoot, exprStore, keyStore, pairRow, winCells, winNodes, winRows, winRowsIn, winStore}
+use Rattle.arena.specs.Rows.{rootAt}
+use Rattle.tree.specs.Layout.{allCells, allNodes, allRows, callRoot, exprStore, keyStore, pairRow, winCells, winNodes, winRows, winRowsIn, winStore}
 use Rattle.tree.specs.Rows.{EachOk, ExprOk, Inside, KeyOk, WinOk, callOf, exprsAt, keysAt, keysRow, lastRow, numberAt, winAt, winSize}
-use Rattle.tree.proofs.Held.{Held, held-left, held-right, moved}
+use Rattle.tree.proofs.Held.{held-left, held-right, moved}
 use Rattle.tree.proofs.Lists.{Reads, Sized, all-cells-long, all-rows-long, one-each}
 use Rattle.tree.proofs.Stores.{call-back, call-long, expr-sized, exprs-back, key-sized, keys-back, pair-is, row}
 

@@ -6,8 +6,7 @@ use mathlib.Core.Option.{Option, none, some}
 use Prim.Native.Nat.{ℕ, zero, suc, _+_, _<_, _≤_}
 use Rattle.cpl.specs.Limits.{maxNodes, maxTags}
 use Rattle.cpl.specs.Exprs.{planNodes, planTags}
-use Rattle.cpl.specs.Plan.{Catalogue, Expr, Leaf, scan, empty, Unary, projection, filter, sort, limit, aggregate, window, subqueryAlias, distinct, Binary, union, join, Plan, leaf, unary, binary}
-use Rattle.cpl.specs.Read.{pick}
+use Rattle.cpl.specs.Plan.{Catalogue, scan, empty, projection, filter, sort, limit, aggregate, window, subqueryAlias, distinct, union, join, Plan, leaf, unary, binary}
 use Rattle.cpl.specs.ReadPlan.{Head, h0, h1, h2, fetchOf}
 use Rattle.cpl.specs.Writable.{FitPlan}
 use Rattle.arena.specs.Cells.{exprAt, Wf}

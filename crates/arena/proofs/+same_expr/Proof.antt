@@ -70,7 +70,7 @@ module _ (t : ℕ) where
       let words-at2 = c .before .before .before .before .before .before .before .words-at2 in
       let if1 = c .before .before .before .before .if1 in
       let q = rw (n .given .1) at (node-at .ensures) in
-      (omega (arith, pre .0, q .1), (lower _ _ _ (pre .1 .0) (q .1), lower _ _ _ (pre .1 .1) (other-one (here _ _ (pre .1 .0)) (here _ _ (pre .1 .1)) (words-at .ensures) (words-at2 .ensures) (if1 .left) q .0)))
+      (omega (arith, pre .0, q .below), (lower _ _ _ (pre .1 .0) (q .below), lower _ _ _ (pre .1 .1) (other-one (here _ _ (pre .1 .0)) (here _ _ (pre .1 .1)) (words-at .ensures) (words-at2 .ensures) (if1 .left) q .0)))
 
   enum-known-n-2 : lts.Need-enum-known-n-2 (callees t) (given t) same-expr.Post
   enum-known-n-2 c = search needs
@@ -84,7 +84,7 @@ module _ (t : ℕ) where
       let words-at2 = c .before .before .before .before .before .before .before .words-at2 in
       let if1 = c .before .before .before .before .if1 in
       let q = rw (n2 .given .1) at (node-at .ensures) in
-      (omega (arith, pre .0, q .1), (lower _ _ _ (pre .1 .0) (q .1), lower _ _ _ (pre .1 .1) (other-two (here _ _ (pre .1 .0)) (here _ _ (pre .1 .1)) (words-at .ensures) (words-at2 .ensures) (if1 .left) q .0)))
+      (omega (arith, pre .0, q .first), (lower _ _ _ (pre .1 .0) (q .first), lower _ _ _ (pre .1 .1) (other-two (here _ _ (pre .1 .0)) (here _ _ (pre .1 .1)) (words-at .ensures) (words-at2 .ensures) (if1 .left) q .0)))
 
   same-expr-requires-3 : lts.Need-same-expr-requires-3 (callees t) (given t) same-expr.Post
   same-expr-requires-3 c κs =
@@ -95,7 +95,7 @@ module _ (t : ℕ) where
       let words-at2 = c .before .before .before .before .before .before .before .before .before .words-at2 in
       let if1 = c .before .before .before .before .before .before .if1 in
       let q = rw (n2 .given .1) at (node-at .ensures) in
-      (omega (arith, pre .0, q .2), (lower _ _ _ (pre .1 .0) (q .2), lower _ _ _ (pre .1 .1) (other-two (here _ _ (pre .1 .0)) (here _ _ (pre .1 .1)) (words-at .ensures) (words-at2 .ensures) (if1 .left) q .1)))
+      (omega (arith, pre .0, q .second), (lower _ _ _ (pre .1 .0) (q .second), lower _ _ _ (pre .1 .1) (other-two (here _ _ (pre .1 .0)) (here _ _ (pre .1 .1)) (words-at .ensures) (words-at2 .ensures) (if1 .left) q .1)))
 
   returns-2 : lts.Need-returns-2 (callees t) (given t) same-expr.Post
   returns-2 c =
@@ -109,7 +109,7 @@ module _ (t : ℕ) where
       let same-expr2 = c .before .before .same-expr2 in
       let same-expr3 = c .same-expr3 in
       let q = rw (n2 .given .1) at (node-at .ensures) in
-      same-two (q .0) (other-two (here _ _ (pre .1 .0)) (here _ _ (pre .1 .1)) (words-at .ensures) (words-at2 .ensures) (if1 .left) q .2) (sym (if2 .taken) ∙ same-expr2 .ensures) (same-expr3 .ensures)
+      same-two (q .means) (other-two (here _ _ (pre .1 .0)) (here _ _ (pre .1 .1)) (words-at .ensures) (words-at2 .ensures) (if1 .left) q .2) (sym (if2 .taken) ∙ same-expr2 .ensures) (same-expr3 .ensures)
 
   returns-3 : lts.Need-returns-3 (callees t) (given t) same-expr.Post
   returns-3 c =
@@ -156,7 +156,7 @@ module _ (t : ℕ) where
       let if1 = c .before .before .before .before .before .if1 in
       let same-expr = c .same-expr in
       let q = rw (n .given .1) at (node-at .ensures) in
-      same-one (q .0) (other-one (here _ _ (pre .1 .0)) (here _ _ (pre .1 .1)) (words-at .ensures) (words-at2 .ensures) (if1 .left) q .1) (same-expr .ensures)
+      same-one (q .means) (other-one (here _ _ (pre .1 .0)) (here _ _ (pre .1 .1)) (words-at .ensures) (words-at2 .ensures) (if1 .left) q .1) (same-expr .ensures)
 
   returns-7 : lts.Need-returns-7 (callees t) (given t) same-expr.Post
   returns-7 c =
@@ -169,7 +169,7 @@ module _ (t : ℕ) where
       let if2 = c .if2 in
       let same-expr2 = c .before .same-expr2 in
       let q = rw (n2 .given .1) at (node-at .ensures) in
-      same-two (q .0) (other-two (here _ _ (pre .1 .0)) (here _ _ (pre .1 .1)) (words-at .ensures) (words-at2 .ensures) (if1 .left) q .2) (sym (if2 .left) ∙ same-expr2 .ensures) refl
+      same-two (q .means) (other-two (here _ _ (pre .1 .0)) (here _ _ (pre .1 .1)) (words-at .ensures) (words-at2 .ensures) (if1 .left) q .2) (sym (if2 .left) ∙ same-expr2 .ensures) refl
 
 pub +same-expr-spec : {M : Type 1} → statement M
 +same-expr-spec = close μ λ t.

@@ -30,14 +30,14 @@ module _ {s : List ℕ} {i : ℕ} (o : NodeOk s i) {t x y : ℕ} (e : NodeIs s i
   as-one h k =
       let three : 3 ≤ tagAt s i = omega (arith, e .tag-is) in
       let f = o .first three in
-      rw (e .tag-is, e .x-is) (at-one s i three (omega (arith, e .tag-is)) f, f, three, omega (arith, e .tag-is), same)
+      rw (e .tag-is, e .x-is) (record { means = at-one s i three (omega (arith, e .tag-is)) f; below = f; least = three; most = omega (arith, e .tag-is); reads = same })
 
   as-two : 5 ≤ t → Shows s i (Two t x y)
   as-two h =
       let five : 5 ≤ tagAt s i = omega (arith, e .tag-is) in
       let f = o .first (omega arith) in
       let g = o .second five in
-      rw (e .tag-is, e .x-is, e .y-is) (at-two s i five f g, f, g, five, o .known, same)
+      rw (e .tag-is, e .x-is, e .y-is) (record { means = at-two s i five f g; first = f; second = g; least = five; most = o .known; reads = same })
 
 words-at-requires : tie.Need-words-at-requires
 words-at-requires c κs =

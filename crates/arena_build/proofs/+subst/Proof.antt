@@ -115,7 +115,7 @@ module _ (t : ℕ) where
       let pre = c .before .before .before .before .before .before .before .before .before .pre in
       let v3 = c .before .before .v3 in
       let node-at = c .before .before .before .before .node-at in
-      ask-operand _ _ _ _ _ _ _ _ _ _ (pre) _ _ _ ((rw (v3 .given .1) at (node-at .ensures)) .1) (pre .1 .1 .1)
+      ask-operand _ _ _ _ _ _ _ _ _ _ (pre) _ _ _ ((rw (v3 .given .1) at (node-at .ensures)) .below) (pre .1 .1 .1)
 
   enum-known-b : lts.Need-enum-known-b (callees t) (given t) subst.Post
   enum-known-b c = search needs
@@ -145,7 +145,7 @@ module _ (t : ℕ) where
       let pre = c .before .before .before .before .before .before .before .before .before .pre in
       let v4 = c .before .before .v4 in
       let node-at = c .before .before .before .before .node-at in
-      ask-operand _ _ _ _ _ _ _ _ _ _ (pre) _ _ _ ((rw (v4 .given .1) at (node-at .ensures)) .1) (pre .1 .1 .1)
+      ask-operand _ _ _ _ _ _ _ _ _ _ (pre) _ _ _ ((rw (v4 .given .1) at (node-at .ensures)) .first) (pre .1 .1 .1)
 
   enum-known-b-2 : lts.Need-enum-known-b-2 (callees t) (given t) subst.Post
   enum-known-b-2 c = search needs
@@ -171,7 +171,7 @@ module _ (t : ℕ) where
       let node-at = c .before .before .before .before .before .before .before .before .before .before .before .node-at in
       let b2 = c .before .before .b2 in
       let subst3 = c .before .before .before .before .before .before .subst3 in
-      ask-operand _ _ _ _ _ _ _ _ _ _ (pre) _ _ _ ((rw (v4 .given .1) at (node-at .ensures)) .2) ((rw (b2 .given .1) at (subst3 .ensures)) .wf)
+      ask-operand _ _ _ _ _ _ _ _ _ _ (pre) _ _ _ ((rw (v4 .given .1) at (node-at .ensures)) .second) ((rw (b2 .given .1) at (subst3 .ensures)) .wf)
 
   enum-known-d : lts.Need-enum-known-d (callees t) (given t) subst.Post
   enum-known-d c = search needs

@@ -42,7 +42,7 @@ same-length c = search needs
 
 returns : tie.Need-returns
 unfolding putNode
-returns c = (omega arith, refl, refl, refl)
+returns c = record { room = omega arith; node-is = refl; more-is = refl; stored = refl }
 
 returns-2 : tie.Need-returns-2
 returns-2 c = search needs
