@@ -25,19 +25,19 @@ def pubs(p,mod):
     t=open(p).read(); sec=False
     for m in re.finditer(r'(?m)^\s*(?:unfoldable |abbrev )*pub (?!mod |use |data |record )(\S+)(?: \{[^}]*\})? :',t):
         # a record's field is no name of the module
-        D.setdefault(m.group(1),mod)
+        D[m.group(1)]=mod
     for m in re.finditer(r'(?m)^pub (?:data|record) (\S+)',t): D[m.group(1)]=mod
     for m in re.finditer(r'(?m)^pub data (\S+).*where\n((?:  .*\n)+)',t):
         for l in m.group(2).split('\n'):
             k=re.match(r'  ([^:]*) :',l)
             if k and 'deriving' not in l:
-                for c in k.group(1).split(): D.setdefault(c,mod)
+                for c in k.group(1).split(): D[c]=mod
 def fields(p):
     t=open(p).read(); r=set()
     for m in re.finditer(r'(?m)^( *)pub record \S+.*where\n((?:\1  .*\n|\n)+)',t):
         for k in re.finditer(r'(?m)^\s*pub (\S+) :',m.group(2)): r.add(k.group(1))
     return r
-order=['cpl','rules','required_indices','arena','tree','lookup','accept']
+order=['cpl','rules','required_indices','arena','tree','lookup','parts','accept']
 for c in order:
     for kind in ('specs','proofs'):
         for p in sorted(glob.glob(f'crates/{c}/{kind}/*.antt')):
@@ -132,6 +132,8 @@ def build(fn,lines):
         g=re.search(r'\npub (\S+)-spec :',s).group(1)
         body+=f'pub {g}-spec : {{M : Type 1}} → statement M\n{g}-spec = tie.close (tie.spec{loops} {" ".join(n for n,_ in needs)})\n'
     have={'given','callees','close','is','and','falls','tie','lts','statement','args','pre','loop','before','spec'}|set(n for n,_ in needs)|set(re.findall(r'(?m)^(\S+) : ',lem))
+    for l in lem.split('\n'):
+        if re.match(r'(Inv|μ)-loop\S* \S',l) and ' = ' in l: have|=set(l.split(' = ')[0].split())
     o='\n'.join(comment)+'\n'+'\n'.join(uses(body,have))+'\n'+'\n'.join(us)+'\n\n'+body
     os.makedirs(os.path.dirname(proof),exist_ok=True); open(proof,'w').write(o); print('wrote',proof,o.count('\n'),'lines,',len(needs),'needs')
 for fn,lines in secs.items():
