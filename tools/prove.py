@@ -48,6 +48,9 @@ for c in order:
             for x in f:
                 if D.get(x)==mod and x not in before: del D[x]
                 elif x in before: D[x]=before[x]
+for t in ('Node','JoinType','JoinNode','ScanNode'):
+    D[t]=f'Rattle.tree.specs.declared.{t}'
+D['Sides']='Rattle.lookup.specs.declared.Sides'
 for m,ns in FIXED.items():
     for n in ns: D[n]=m
 def uses(text,have):
@@ -56,10 +59,15 @@ def uses(text,have):
     bound=set(re.findall(r'let (\S+)',text))|have
     for n,m in D.items():
         parts=[x for x in n.split('_') if x] if n.startswith('_') or n.endswith('_') else [n]
-        if (n in toks or (n.startswith('_') and all(x in toks for x in parts))) and n not in bound: need.setdefault(m,[]).append(n)
+        if (n in toks or (n.startswith('_') and all(x in toks or x+'_' in toks or '_'+x in toks for x in parts))) and n not in bound: need.setdefault(m,[]).append(n)
     return [f"use {m}.{{{', '.join(sorted(ns))}}}" for m,ns in sorted(need.items())]
+# a line `%NAME = TEXT` before the first section: %NAME stands for TEXT in every answer
+MACROS={}
 secs={}; cur=None
 for l in open(file).read().split('\n'):
+    m=re.match(r'%(\w+) = (.*)',l)
+    if m: MACROS[m.group(1)]=re.sub(r'%(\w+)',lambda q: MACROS[q.group(1)],m.group(2)); continue
+    l=re.sub(r'%(\w+)',lambda m: MACROS[m.group(1)],l)
     m=re.match(r'== (\S+)',l)
     if m: cur=m.group(1); secs[cur]=[]
     elif cur: secs[cur].append(l)

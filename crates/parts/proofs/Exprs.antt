@@ -39,7 +39,7 @@ keys-roots o = each-map (λ k r. record { inside = r .inside; node = r .node }) 
 
 -- ── the expressions of lists ────────────────────────────────────────────────────────────────
 
-items-list : (s cells : List ℕ) (f n : ℕ) → itemsAt s cells f n ≡ listAt (itemAt s cells) one f n
+pub items-list : (s cells : List ℕ) (f n : ℕ) → itemsAt s cells f n ≡ listAt (itemAt s cells) one f n
 unfolding itemsAt listAt
 items-list s cells f zero = refl
 items-list s cells f (suc n) = let e : suc f ≡ f + 1 = omega arith in ap (itemAt s cells f ∷_) (ap (λ x. itemsAt s cells x n) e ∙ items-list s cells (f + 1) n)
