@@ -1,0 +1,7 @@
+-- The laws of acceptance, bottom up.
+pub mod Rowed
+pub mod Knowns
+pub mod Given
+pub mod Faults
+pub mod Inside
+pub mod Plans

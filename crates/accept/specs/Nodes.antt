@@ -1,0 +1,119 @@
+-- What is asked of a node that was taken apart, and of its sides, so that code can judge it.
+use mathlib.Core.Path.{_≡_}
+use mathlib.Core.Bool.{Bool, true, false}
+use mathlib.Core.List.{List, [], _++_}
+use Prim.Native.Nat.{ℕ, _+_, _<_, _≤_}
+use lib.Dec.{eqb}
+use lib.ListN.{length, getD}
+use Rattle.cpl.specs.Accept.{clash}
+use Rattle.cpl.specs.Limits.{maxFields}
+use Rattle.cpl.specs.Plan.{Binary, Catalogue, Leaf, Pair, Unary}
+use Rattle.cpl.specs.ReadPlan.{h0, h1, h2}
+use Rattle.tree.specs.Rows.{AllAt, EachOk, Inside, winSize}
+use Rattle.tree.specs.Tree.{Arrays, headOf, lent, rightOf}
+use Rattle.tree.specs.declared.Node.{Node}
+use Rattle.tree.specs.declared.Node.the-variants.{Projection, Filter, Sort, Limit, Aggregate, Window, SubqueryAlias, Union, Distinct, Join, Scan, Empty}
+use Rattle.tree.specs.declared.ScanNode.{ScanNode}
+use Rattle.lookup.specs.Fields.{RowIn, RowsKept, SidesIn, leftRow, rightRow, rowAt}
+use Rattle.lookup.specs.declared.Sides.{Sides}
+use Rattle.parts.specs.Catalogue.{TableIn, tableAt}
+use Rattle.parts.specs.Parts.{ColumnOk, WinInside}
+use Rattle.accept.specs.declared.Kids.{Kids}
+use Rattle.accept.specs.declared.Kids.the-variants.{Nothing, One, Two}
+use Rattle.accept.specs.declared.Row.{Row}
+
+-- a node's parts need no other nodes
+abbrev pub parts : (cells rows : List ℕ) → Arrays
+parts cells rows = lent cells rows []
+
+-- ── a node ──────────────────────────────────────────────────────────────────────────────────
+
+pub record ScanInside (names rows : List ℕ) (s : ScanNode) : Type 0 where
+  pub table : TableIn names (s .table)
+  pub few : s .given ≡ true → s .n ≤ maxFields
+  pub columns : s .given ≡ true → EachOk (ColumnOk rows (length (tableAt names (s .table)))) rows (s .first) (s .n)
+
+-- what gives a node's fields lies in the arrays
+abbrev pub NodeInside : (names rows : List ℕ) → Node → Type 0
+NodeInside names rows (Projection f n) = EachOk (Inside rows) rows f n
+NodeInside names rows (Filter r) = Unit {0}
+NodeInside names rows (Sort f n) = Unit {0}
+NodeInside names rows (Limit s n) = Unit {0}
+NodeInside names rows (Aggregate f g v) = EachOk (Inside rows) rows f (g + v)
+NodeInside names rows (Window f n) = AllAt (WinInside rows) (winSize rows) f n
+NodeInside names rows (SubqueryAlias q) = Unit {0}
+NodeInside names rows (Union r) = Unit {0}
+NodeInside names rows Distinct = Unit {0}
+NodeInside names rows (Join j) = Unit {0}
+NodeInside names rows (Scan s) = ScanInside names rows s
+NodeInside names rows (Empty b f n) = EachOk (Inside rows) rows f n
+
+-- a scan's table is the one that the array has
+abbrev pub Named : Catalogue → (names : List ℕ) → Node → Type 0
+Named C names (Projection f n) = Unit {0}
+Named C names (Filter r) = Unit {0}
+Named C names (Sort f n) = Unit {0}
+Named C names (Limit s n) = Unit {0}
+Named C names (Aggregate f g v) = Unit {0}
+Named C names (Window f n) = Unit {0}
+Named C names (SubqueryAlias q) = Unit {0}
+Named C names (Union r) = Unit {0}
+Named C names Distinct = Unit {0}
+Named C names (Join j) = Unit {0}
+Named C names (Scan s) = getD C (s .table) [] ≡ tableAt names (s .table)
+Named C names (Empty b f n) = Unit {0}
+
+-- "Union inputs of unequal width"
+abbrev pub evenOf : Node → (left right : ℕ) → Bool
+evenOf (Projection f n) l m = true
+evenOf (Filter r) l m = true
+evenOf (Sort f n) l m = true
+evenOf (Limit s n) l m = true
+evenOf (Aggregate f g v) l m = true
+evenOf (Window f n) l m = true
+evenOf (SubqueryAlias q) l m = true
+evenOf (Union r) l m = eqb l m
+evenOf Distinct l m = true
+evenOf (Join j) l m = true
+evenOf (Scan s) l m = true
+evenOf (Empty b f n) l m = true
+
+abbrev pub joins : Node → Bool
+joins (Projection f n) = false
+joins (Filter r) = false
+joins (Sort f n) = false
+joins (Limit s n) = false
+joins (Aggregate f g v) = false
+joins (Window f n) = false
+joins (SubqueryAlias q) = false
+joins (Union r) = false
+joins Distinct = false
+joins (Join j) = true
+joins (Scan s) = false
+joins (Empty b f n) = false
+
+-- the inputs of a node
+abbrev pub KidsAre : Node → Kids → Type 0
+KidsAre n Nothing = (a : Arrays) → (h : Leaf) × (headOf a n ≡ h0 h)
+KidsAre n One = (a : Arrays) → (h : Unary) × (headOf a n ≡ h1 h)
+KidsAre n (Two r) = (r ≡ rightOf n) × ((a : Arrays) → (h : Binary) × (headOf a n ≡ h2 h))
+
+-- ── its sides and its row ───────────────────────────────────────────────────────────────────
+
+-- the two sides of node k: later nodes, with few fields that do not clash; and node k has room for its own
+pub record SidesReady (s : List ℕ) (k : ℕ) (x : Sides) : Type 0 where
+  pub sides-in : SidesIn s x
+  pub after-left : k < x .left
+  pub after-right : k < x .right
+  pub few-left : x .lwidth ≤ maxFields
+  pub few-right : x .rwidth ≤ maxFields
+  pub clear-left : clash (leftRow s x) ≡ false
+  pub clear-right : clash (rightRow s x) ≡ false
+  pub room : RowIn s k maxFields
+
+-- node k's fields are fs: as many as the row says, stored unless they are too many. The first `clear` of them do not clash.
+pub record Rowed (k : ℕ) (row : Row) (fs : List Pair) (s s′ : List ℕ) : Type 0 where
+  pub long : row .width ≡ length fs
+  pub kept : RowsKept k (k + 1) s s′
+  pub stored : row .width ≤ maxFields → rowAt s′ k (row .width) ≡ fs
+  pub first : row .width ≤ maxFields → (row .clear ≤ row .width) × (clash (rowAt s′ k (row .clear)) ≡ false)

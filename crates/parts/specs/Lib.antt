@@ -1,0 +1,3 @@
+-- What the parts of nodes are judged by.
+pub mod Catalogue
+pub mod Parts

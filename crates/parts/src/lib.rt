@@ -1,0 +1,275 @@
+//! The parts of a node: are their columns known, and what fields do they give?
+//!
+//! Table t has 65 numbers of `names` from 65 * t on: how many columns it has, then their names.
+ghost use mathlib.Core.Bool.{Bool};
+ghost use mathlib.Core.List.{_++_, map};
+ghost use mathlib.Core.Path.{_≡_};
+ghost use Prim.Native.Nat.{ℕ, _+_, _*_, _<_, _≤_};
+ghost use lib.ListN.{length, getD};
+ghost use Rattle.arena.specs.Cells.{exprAt, Wf};
+ghost use Rattle.arena.specs.Rows.{pairAt};
+ghost use Rattle.cpl.specs.Accept.{knownOn};
+ghost use Rattle.cpl.specs.Exprs.{aggExprs, callExprs, known, winExprs};
+ghost use Rattle.cpl.specs.Fields.{scanField};
+ghost use Rattle.cpl.specs.Tests.{allB, concatMap, iota};
+ghost use Rattle.lookup.specs.Fields.{Filled, leftRow, rightRow, rowAt, RowIn, SidesIn};
+ghost use Rattle.parts.specs.Catalogue.{columnCount, tableAt, TableIn};
+ghost use Rattle.parts.specs.Parts.{ColumnOk, WinInside};
+ghost use Rattle.tree.specs.Rows.{AggOk, AllAt, EachOk, ExprOk, Inside, OnOk, WinOk, aggsAt, callOf, columnsAt, exprsAt, listAt, onsAt, pairsAt, winAt, winSize, winsAt};
+use lookup::Field;
+use lookup::Sides;
+
+/// Is each column of the expressions in `count` rows from `first` on found among the first `width` fields of node `k`? The rows are those of
+/// well formed expressions, and the fields lie in the array.
+pub fn known_roots(
+    cells: &[u64],
+    rows: &[u16],
+    first: usize,
+    count: usize,
+    fields: &[u16],
+    k: usize,
+    width: usize,
+) -> bool
+    requires { ⌜ EachOk (ExprOk (now rows) (now cells)) (now rows) first count ⌝ }
+    requires { ⌜ RowIn (now fields) k width ⌝ }
+    ensures { λ r. ⌜ r ≡ allB (known (rowAt (now (fields .entry)) k width)) (exprsAt (now (rows .entry)) (now (cells .entry)) first count) ⌝ }
+{
+    let mut i = 0;
+    while i < count {
+        let row = arena::row_at(rows, first + i);
+        let yes = lookup::known_expr(cells, row.root, fields, k, width);
+        if !yes {
+            return false;
+        }
+        i += 1;
+    }
+    true
+}
+
+/// Is each column of a call found? A function other than 0 has the root of a well formed expression, and the fields lie in the array.
+pub fn known_call(
+    cells: &[u64],
+    function: u16,
+    root: usize,
+    fields: &[u16],
+    k: usize,
+    width: usize,
+) -> bool
+    requires { ⌜ (0 < function → Wf (now cells) (root + 1)) ⌝ }
+    requires { ⌜ RowIn (now fields) k width ⌝ }
+    ensures { λ r. ⌜ r ≡ allB (known (rowAt (now (fields .entry)) k width)) (callExprs (callOf function (exprAt (now (cells .entry)) root))) ⌝ }
+{
+    if function == 0 {
+        return true;
+    }
+    lookup::known_expr(cells, root, fields, k, width)
+}
+
+/// Is each column of the aggregates in `count` rows from `first` on found? The rows are those of aggregates, and the fields lie in the array.
+pub fn known_aggs(
+    cells: &[u64],
+    rows: &[u16],
+    first: usize,
+    count: usize,
+    fields: &[u16],
+    k: usize,
+    width: usize,
+) -> bool
+    requires { ⌜ EachOk (AggOk (now rows) (now cells)) (now rows) first count ⌝ }
+    requires { ⌜ RowIn (now fields) k width ⌝ }
+    ensures { λ r. ⌜ r ≡ allB (known (rowAt (now (fields .entry)) k width)) (concatMap aggExprs (aggsAt (now (rows .entry)) (now (cells .entry)) first count)) ⌝ }
+{
+    let mut i = 0;
+    while i < count {
+        let row = tree::agg_at(rows, first + i);
+        let yes = known_call(cells, row.function, row.root, fields, k, width);
+        if !yes {
+            return false;
+        }
+        i += 1;
+    }
+    true
+}
+
+/// Is each column of the window from row `i` on found? The rows are those of a window, and the fields lie in the array.
+pub fn known_win(
+    cells: &[u64],
+    rows: &[u16],
+    i: usize,
+    fields: &[u16],
+    k: usize,
+    width: usize,
+) -> bool
+    requires { ⌜ WinOk (now rows) (now cells) i ⌝ }
+    requires { ⌜ RowIn (now fields) k width ⌝ }
+    ensures { λ r. ⌜ r ≡ allB (known (rowAt (now (fields .entry)) k width)) (winExprs (winAt (now (rows .entry)) (now (cells .entry)) i)) ⌝ }
+{
+    let w = tree::win_at(rows, i);
+    let call = known_call(cells, w.function, w.root, fields, k, width);
+    if !call {
+        return false;
+    }
+    let parts = known_roots(cells, rows, i + 1, w.parts, fields, k, width);
+    if !parts {
+        return false;
+    }
+    known_roots(cells, rows, w.key, w.keys, fields, k, width)
+}
+
+/// Is each column of `count` windows from row `first` on found? The rows are those of windows, and the fields lie in the array.
+pub fn known_wins(
+    cells: &[u64],
+    rows: &[u16],
+    first: usize,
+    count: usize,
+    fields: &[u16],
+    k: usize,
+    width: usize,
+) -> bool
+    requires { ⌜ AllAt (WinOk (now rows) (now cells)) (winSize (now rows)) first count ⌝ }
+    requires { ⌜ RowIn (now fields) k width ⌝ }
+    ensures { λ r. ⌜ r ≡ allB (known (rowAt (now (fields .entry)) k width)) (concatMap winExprs (winsAt (now (rows .entry)) (now (cells .entry)) first count)) ⌝ }
+{
+    let mut row = first;
+    let mut i = 0;
+    while i < count {
+        let yes = known_win(cells, rows, row, fields, k, width);
+        if !yes {
+            return false;
+        }
+        let w = tree::win_at(rows, row);
+        row = w.next;
+        i += 1;
+    }
+    true
+}
+
+/// Is each half of the pairs of a join in `count` rows from `first` on found in its own side? The rows are those of pairs, and the sides lie
+/// in the array.
+pub fn known_ons(
+    cells: &[u64],
+    rows: &[u16],
+    first: usize,
+    count: usize,
+    fields: &[u16],
+    sides: Sides,
+) -> bool
+    requires { ⌜ EachOk (OnOk (now rows) (now cells)) (now rows) first count ⌝ }
+    requires { ⌜ SidesIn (now fields) sides ⌝ }
+    ensures { λ r. ⌜ r ≡ allB (knownOn (leftRow (now (fields .entry)) sides) (rightRow (now (fields .entry)) sides)) (onsAt (now (rows .entry)) (now (cells .entry)) first count) ⌝ }
+{
+    let mut i = 0;
+    while i < count {
+        let on = tree::on_at(rows, first + i);
+        let left = lookup::known_expr(cells, on.left, fields, sides.left, sides.lwidth);
+        if !left {
+            return false;
+        }
+        let right = lookup::known_expr(cells, on.right, fields, sides.right, sides.rwidth);
+        if !right {
+            return false;
+        }
+        i += 1;
+    }
+    true
+}
+
+/// Node `k` gets the pairs of `n` rows from `first` on. The rows lie in the array, and so do the fields, at most 128.
+pub fn take_pairs(fields: &mut [u16], k: usize, rows: &[u16], first: usize, n: usize)
+    requires { ⌜ (n ≤ 128) × RowIn (now fields) k n × EachOk (Inside (now rows)) (now rows) first n ⌝ }
+    ensures { λ r. ⌜ Filled k n (pairsAt (now (rows .entry)) first n) (now (fields .entry)) (now (fields .exit)) ⌝ }
+{
+    let mut i = 0;
+    while i < n {
+        let p = tree::pair_at(rows, first + i);
+        let f = Field {
+            qualifier: p.qualifier,
+            name: p.name,
+        };
+        lookup::put_field(fields, k * 128 + i, f);
+        i += 1;
+    }
+}
+
+/// Behind its first `at` fields node `k` gets the pairs of `n` windows from row `first` on. The rows lie in the array, and so do the fields,
+/// at most 128.
+pub fn win_pairs(fields: &mut [u16], k: usize, at: usize, rows: &[u16], first: usize, n: usize)
+    requires { ⌜ (at + n ≤ 128) × RowIn (now fields) k (at + n) × AllAt (WinInside (now rows)) (winSize (now rows)) first n ⌝ }
+    ensures { λ r. ⌜ Filled k (at + n) (rowAt (now (fields .entry)) k at ++ listAt (pairAt (now (rows .entry))) (winSize (now (rows .entry))) first n) (now (fields .entry)) (now (fields .exit)) ⌝ }
+{
+    let mut row = first;
+    let mut i = 0;
+    while i < n {
+        let w = tree::win_at(rows, row);
+        let f = Field {
+            qualifier: w.qualifier,
+            name: w.name,
+        };
+        lookup::put_field(fields, k * 128 + (at + i), f);
+        row = w.next;
+        i += 1;
+    }
+}
+
+/// How many columns table `t`, which lies in the array, has.
+pub fn columns(names: &[u16], t: usize) -> usize
+    requires { ⌜ TableIn (now names) t ⌝ }
+    ensures { λ r. ⌜ r ≡ length (tableAt (now (names .entry)) t) ⌝ }
+{
+    names[t * 65] as usize
+}
+
+/// Name `i` of table `t`, which lies in the array and has more than `i` columns.
+pub fn name_at(names: &[u16], t: usize, i: usize) -> u16
+    requires { ⌜ TableIn (now names) t ⌝ }
+    requires { ⌜ i < length (tableAt (now names) t) ⌝ }
+    ensures { λ r. ⌜ r ≡ getD (tableAt (now (names .entry)) t) i 0 ⌝ }
+{
+    names[t * 65 + 1 + i]
+}
+
+/// Node `k` gets all columns of table `t` under a qualifier. The table lies in the array, and so do the fields.
+pub fn scan_all(fields: &mut [u16], k: usize, names: &[u16], t: usize, qualifier: u16)
+    requires { ⌜ TableIn (now names) t ⌝ }
+    requires { ⌜ RowIn (now fields) k 64 ⌝ }
+    ensures { λ r. ⌜ Filled k (length (tableAt (now (names .entry)) t)) (map (scanField (tableAt (now (names .entry)) t) qualifier) (iota 0 (length (tableAt (now (names .entry)) t)))) (now (fields .entry)) (now (fields .exit)) ⌝ }
+{
+    let n = columns(names, t);
+    let mut i = 0;
+    while i < n {
+        let f = Field {
+            qualifier,
+            name: name_at(names, t, i),
+        };
+        lookup::put_field(fields, k * 128 + i, f);
+        i += 1;
+    }
+}
+
+/// Node `k` gets the columns of table `t` whose indices stand in `n` rows from `first` on, under a qualifier. The table, the rows and the
+/// fields lie in their arrays, and the indices are the table's.
+pub fn scan_given(
+    fields: &mut [u16],
+    k: usize,
+    names: &[u16],
+    t: usize,
+    qualifier: u16,
+    rows: &[u16],
+    first: usize,
+    n: usize,
+)
+    requires { ⌜ TableIn (now names) t ⌝ }
+    requires { ⌜ (n ≤ 128) × RowIn (now fields) k n × EachOk (ColumnOk (now rows) (length (tableAt (now names) t))) (now rows) first n ⌝ }
+    ensures { λ r. ⌜ Filled k n (map (scanField (tableAt (now (names .entry)) t) qualifier) (columnsAt (now (rows .entry)) first n)) (now (fields .entry)) (now (fields .exit)) ⌝ }
+{
+    let mut i = 0;
+    while i < n {
+        let column = tree::column_at(rows, first + i);
+        let f = Field {
+            qualifier,
+            name: name_at(names, t, column),
+        };
+        lookup::put_field(fields, k * 128 + i, f);
+        i += 1;
+    }
+}
