@@ -1,0 +1,2 @@
+-- What the readers answer and store.
+pub mod Answers

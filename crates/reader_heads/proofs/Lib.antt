@@ -1,0 +1,2 @@
+-- What is proved of the readers of nodes.
+pub mod Heads

@@ -1,0 +1,2 @@
+-- What the readers of nodes answer and store.
+pub mod Heads

@@ -1,0 +1,5 @@
+-- What is proved of the readers of parts.
+pub mod Compose
+pub mod Parts
+pub mod Counts
+pub mod Wins

@@ -1,0 +1,2 @@
+-- What the readers of parts answer and store.
+pub mod Parts
