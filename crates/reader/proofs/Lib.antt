@@ -1,0 +1,5 @@
+-- What is proved of the reader of plan files.
+pub mod Names
+pub mod Sizes
+pub mod Plans
+pub mod Files

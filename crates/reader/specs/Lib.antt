@@ -1,0 +1,3 @@
+-- What the reader of a plan file answers and stores.
+pub mod Tables
+pub mod Plans
