@@ -17,7 +17,7 @@ FIXED={
  'borrow.Author.Needs':['needs'],
  'borrow.Author.Tests':['eq-eqb','ne-eqb','eqb-true','eqb-false','lt-ltb','le-ltb','ltb-true','ltb-false','le-leb','lt-leb','not-true','not-false'],
  'lib.Dec':['T','eqb','ltb','leb'],
- 'lib.ListN':['length','getD','take','drop','set','length-set','length-append'],
+ 'lib.ListN':['length','getD','take','drop','set','length-set','length-append','length-replicate'],
  'lib.Seq':['getD-set-same','getD-set-other','drop-cons','take-suc'],
 }
 D={}

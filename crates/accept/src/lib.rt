@@ -443,9 +443,9 @@ pub fn accept_node(
             own_verdict(cells, rows, names, node, sides, fields, widths, k)
         }
         Kids::One => {
-            let first = accept_node(cells, rows, nodes, n, names, tables, fields, widths, left);
-            let Verdict::Fine = first else {
-                return first;
+            let below = accept_node(cells, rows, nodes, n, names, tables, fields, widths, left);
+            let Verdict::Fine = below else {
+                return below;
             };
             let sides = one_side(left, widths[left] as usize);
             own_verdict(cells, rows, names, node, sides, fields, widths, k)
