@@ -1,10 +1,12 @@
 # fill.py CRATE FN [--new]: write crates/CRATE/proofs/FN/Proof.antt from an answers file (FN is f, or +f for a cycle of one function).
-# The answers file (tools/answers/FN.txt): first the head (a comment line and `use` lines, and lemmas) up to a line `----`, then lines
+# The answers file (target/answers/FN.txt, not kept: the proof file is what is kept): first the head (a comment line and `use` lines, and lemmas) up to a line `----`, then lines
 #   NEED = TERM      (a line that starts with spaces goes on with the term before)
 # where @thing stands for the path to that thing at that need; each becomes a `let`. A need that is not named gets `search needs`.
+# A function with a loop has its `Inv-loop` and `μ-loop` among the lemmas, after a line `--lemmas`. RT="/work/slot rt" runs the check in a slot.
 import re,sys,subprocess,os,glob
+RT=os.environ.get('RT','rt').split()
 crate,fn=sys.argv[1:3]
-ans=f"tools/answers/{fn}.txt"
+ans=f"target/answers/{fn}.txt"
 head,body=open(ans).read().split('\n----\n')
 answers={}; last=None
 for l in body.split('\n'):
@@ -16,7 +18,7 @@ proof=f'crates/{crate}/proofs/{fn}/Proof.antt'
 skel=f'target/skel-{crate}-{fn}.antt'; lts=f'target/lts-{crate}-{fn}.antt'
 if '--new' in sys.argv or not os.path.exists(skel) or not os.path.exists(lts):
     if os.path.exists(proof): os.remove(proof)
-    out=subprocess.run(['/work/slot','rt','dev',crate],capture_output=True,text=True); out=(out.stdout+out.stderr).split('\n')
+    out=subprocess.run([*RT,'dev',crate],capture_output=True,text=True); out=(out.stdout+out.stderr).split('\n')
     i=0; lines=None
     while i<len(out):
         m=re.match(r'help: write (\S+) with these lines',out[i]); i+=1
@@ -25,7 +27,7 @@ if '--new' in sys.argv or not os.path.exists(skel) or not os.path.exists(lts):
             while i<len(out) and (out[i].startswith('    ') or out[i].strip()==''): lines.append(out[i][4:]); i+=1
     assert lines,'no skeleton printed'
     open(skel,'w').write('\n'.join(lines)+'\n')
-    subprocess.run(['rm','-rf','target/gen']); subprocess.run(['/work/slot','rt','dev',crate,'--generated','target/gen'],capture_output=True)
+    subprocess.run(['rm','-rf','target/gen']); subprocess.run([*RT,'dev',crate,'--generated','target/gen'],capture_output=True)
     open(lts,'w').write(open(glob.glob(f'target/gen/*{crate}*proofs/proofs/{fn}/Lts*.antt')[0]).read())
 s=open(skel).read()
 # the paths

@@ -11,7 +11,7 @@ use Rattle.cpl.specs.Plan.{Catalogue, empty, leaf, pair}
 use Rattle.cpl.specs.Writable.{FitLeaf, FitList, FitName, FitPair, FitPlan}
 use Rattle.tree.specs.Node.{nodeOf, wordsAt}
 use Rattle.tree.specs.Rows.{listAt}
-use Rattle.tree.specs.Tree.{NodeOk, lent, planAt}
+use Rattle.tree.specs.Tree.{WfNode, lent, planAt}
 use Rattle.tree.proofs.Plans.{node}
 use Rattle.parts.specs.Catalogue.{catalogueAt}
 use Rattle.accept.specs.Verdicts.{Judgeable}
@@ -29,7 +29,7 @@ module _ (cells : List ℕ) (q n r m : ℕ) where
   plan = node (lent cells (pairRows q n r m) emptyNode) 255 0
 
   module _ (C : Catalogue) (fits : (q < 2 ^ 16) × (n < 2 ^ 16) × (r < 2 ^ 16) × (m < 2 ^ 16)) (named : (0 < n) × (0 < m)) where
-    ok : NodeOk C (lent cells (pairRows q n r m) emptyNode) 1 0
+    ok : WfNode C (lent cells (pairRows q n r m) emptyNode) 1 0
     unfolding nodeOf wordsAt FitPlan FitLeaf FitList FitPair FitName planTags planNodes
     ok = record {
       numbers = record { inside = omega arith; numbers = record { limit = λ e. absurd (omega arith); alias = λ e. absurd (omega arith); scan = λ e. absurd (omega arith) } };
@@ -42,7 +42,7 @@ module _ (cells : List ℕ) (q n r m : ℕ) where
 
     pub judgeable : (names s w : List ℕ) → C ≡ catalogueAt names 0 → 65536 ≤ length s → 256 ≤ length w → Judgeable C (lent cells (pairRows q n r m) emptyNode) 1 names 0 s w 0
     judgeable names s w e a b = record {
-      tree = record { few = omega arith; each = λ k h. let z : 0 ≡ k = omega arith in subst (NodeOk C (lent cells (pairRows q n r m) emptyNode) 1) z ok };
+      tree = record { few = omega arith; each = λ k h. let z : 0 ≡ k = omega arith in subst (WfNode C (lent cells (pairRows q n r m) emptyNode) 1) z ok };
       here = omega arith;
       named = record { each = λ t h. absurd (omega arith) };
       room = omega arith;

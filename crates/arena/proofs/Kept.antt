@@ -1,15 +1,13 @@
 -- The frame laws: nodes and rows below what is kept stand for what they stood for. Assumes nothing.
 use mathlib.Core.Path.{_≡_, refl, sym, ap, ap₂, _∙_}
-use mathlib.Core.Bool.{cond}
-use mathlib.Core.List.{List, [], _∷_}
+use mathlib.Core.List.{List, _∷_}
 use Prim.Native.Nat.{ℕ, zero, suc, _+_, _*_, _<_, _≤_}
 use native.Mathlib.Omega.{arith}
 use lib.Dec.{ltb}
-use lib.ListN.{length, getD}
-use Rattle.cpl.specs.Plan.{Expr, Item, miss, pair}
+use Rattle.cpl.specs.Plan.{pair}
 use Rattle.arena.specs.Cells.{NodeOk, Wf, exprAt, exprFuel, nodeOf, tagAt, xAt, yAt}
 use Rattle.arena.specs.Kept.{Kept}
-use Rattle.arena.specs.Rows.{RowOk, RowsOk, itemAt, itemsAt, markAt, pairAt, rootAt, rowItem}
+use Rattle.arena.specs.Rows.{RowOk, RowsOk, itemAt, itemsAt, markAt, pairAt, rootAt}
 use Rattle.arena.proofs.Laws.{below}
 
 pub kept-refl : (m : ℕ) (s : List ℕ) → Kept m s s

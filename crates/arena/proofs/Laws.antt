@@ -2,20 +2,19 @@
 use mathlib.Core.Path.{_≡_, refl, sym, ap, ap₂, subst, _∙_}
 use mathlib.Core.Bool.{Bool, true, false, cond}
 use mathlib.Core.List.{List}
-use Prim.Native.Nat.{ℕ, zero, suc, _+_, _*_, _-_, _^_, _<_, _≤_}
+use Prim.Native.Nat.{ℕ, zero, suc, _+_, _*_, _^_, _<_, _≤_}
 use native.Mathlib.Decide.{ℕ-discrete}
 use native.Mathlib.Omega.{arith}
-use borrow.Author.Tests.{eq-eqb, ltb-false, ltb-true, lt-ltb, le-ltb, ne-eqb}
-use lib.Dec.{eqb, ltb}
-use lib.ListN.{length, getD}
+use borrow.Author.Tests.{ltb-false, ltb-true, lt-ltb, le-ltb, ne-eqb}
+use lib.Dec.{ltb}
+use lib.ListN.{length}
 use Rattle.cpl.specs.Codes.{op1Of, op1Tag, op2Of, op2Tag, signed, tagOf, unsigned}
-use Rattle.cpl.specs.Exprs.{columns?, exprTags}
+use Rattle.cpl.specs.Exprs.{exprTags}
 use Rattle.cpl.specs.Plan.{Expr, Pair, bin, col, eqP, lit, miss, pair, un}
 use Rattle.rules.specs.Merge.{occurs}
 use Rattle.arena.specs.Cells.{NodeOk, Wf, exprAt, exprFuel, nodeOf, tagAt, xAt, yAt}
 use Rattle.arena.specs.View.{Shows}
-use Rattle.arena.specs.declared.View.{View}
-use Rattle.arena.specs.declared.View.the-variants.{Col, Lit, Miss, One, Two}
+use Rattle.arena.specs.declared.View.the-variants.{One, Two}
 
 -- what stands behind a test is compared only where the test holds
 pub below : (x i : ℕ) (b : Bool) (e e′ : Expr) → ltb x i ≡ b → (x < i → e ≡ e′) → cond b e miss ≡ cond b e′ miss
@@ -74,6 +73,10 @@ pub wf-less : (s : List ℕ) (n m : ℕ) → n ≤ m → Wf s m → Wf s n
 unfolding Wf
 wf-less s n m h w k l = w k (omega arith)
 
+pub wf-fits : (s : List ℕ) (n : ℕ) → Wf s n → n * 3 ≤ length s
+wf-fits s zero w = omega arith
+wf-fits s (suc n) w = omega (arith, here s n (wf-less s (n + 1) (suc n) (omega arith) w) .inside)
+
 -- the numbers that stand for operators and literals
 -- from a on: it is a, or from a + 1 on
 from : (P : ℕ → Type 0) (t a : ℕ) → P a → (suc a ≤ t → P t) → a ≤ t → P t
@@ -130,13 +133,13 @@ module _ (t i : ℕ) (s : List ℕ) (m : i ≡ t) where
 
   pub small-1 : (p : Small s i) (k x : ℕ) → Shows s i (One k x) → (x < t) × Small s x
   unfolding exprTags
-  small-1 p k x v = (omega (arith, v .1), (lower s i x (p .0) (v .1), omega (arith, p .1, ap exprTags (v .0))))
+  small-1 p k x v = (omega (arith, v .below), (lower s i x (p .0) (v .below), omega (arith, p .1, ap exprTags (v .means))))
 
   pub small-2 : (p : Small s i) (k x y : ℕ) → Shows s i (Two k x y) → ((x < t) × Small s x) × ((y < t) × Small s y)
   unfolding exprTags
   small-2 p k x y v =
-      let e = ap exprTags (v .0) in
-      ((omega (arith, v .1), (lower s i x (p .0) (v .1), omega (arith, p .1, e))), (omega (arith, v .2), (lower s i y (p .0) (v .2), omega (arith, p .1, e))))
+      let e = ap exprTags (v .means) in
+      ((omega (arith, v .first), (lower s i x (p .0) (v .first), omega (arith, p .1, e))), (omega (arith, v .second), (lower s i y (p .0) (v .second), omega (arith, p .1, e))))
 
 -- a column occurs at most as often as there are tags
 pub uses-le : (f : Pair) (e : Expr) → occurs f e ≤ exprTags e

@@ -1,16 +1,16 @@
 -- The laws of rows and of lists of rows. Assumes nothing.
-use mathlib.Core.Path.{_≡_, refl, sym, ap, ap₂, subst, _∙_}
-use mathlib.Core.Bool.{Bool, true, false, cond, not, true≢false, _&&_}
-use mathlib.Core.List.{List, [], _∷_, _++_, map}
-use Prim.Native.Nat.{ℕ, zero, suc, _+_, _*_, _-_, _^_, _<_, _≤_}
+use mathlib.Core.Path.{_≡_, refl, sym, ap, ap₂, _∙_}
+use mathlib.Core.Bool.{Bool, true, false, true≢false, _&&_}
+use mathlib.Core.List.{List, [], _∷_}
+use Prim.Native.Nat.{ℕ, suc, _+_, _-_, _<_, _≤_}
 use native.Mathlib.Omega.{arith}
 use borrow.Author.Tests.{eq-eqb, eqb-true, ne-eqb}
 use lib.Dec.{eqb}
-use lib.ListN.{length, getD}
-use Rattle.cpl.specs.Exprs.{columns?, exprTags, itemTags}
+use lib.ListN.{length}
+use Rattle.cpl.specs.Exprs.{exprTags, itemTags}
 use Rattle.cpl.specs.Plan.{Expr, Item, Pair, bare, col, itemExpr, named, pair}
 use Rattle.cpl.specs.Tests.{allB, sumOf}
-use Rattle.rules.specs.Merge.{eqItems, occurs, occursIn, plain, usesNone}
+use Rattle.rules.specs.Merge.{occursIn}
 use Rattle.arena.specs.Cells.{Wf, exprAt}
 use Rattle.arena.specs.Rows.{RowIs, RowOk, RowsOk, itemAt, itemsAt, markAt, pairAt, rootAt, rowItem}
 use Rattle.arena.proofs.Laws.{uses-le}
@@ -108,6 +108,9 @@ module _ {s : List ℕ} {i q n m k : ℕ} (cells : List ℕ) (e : RowIs s i q n 
 
   pub read-wf : RowOk s cells i → Wf cells (k + 1)
   read-wf o = rw (e .root-is) (o .node)
+
+  pub read-col : RowOk s cells i → m ≡ 0 → exprAt cells k ≡ col (pair q n)
+  read-col o h = ap (exprAt cells) (e .root-is) ∙ o .bare (sym (e .mark-is) ∙ h) ∙ ap col (sym (e .pair-is))
 
   pub read-small : RowOk s cells i → (z : ℕ) → itemTags (itemAt s cells i) < z → exprTags (exprAt cells k) < z
   read-small o z h = omega (arith, ap exprTags (read-expr o), tags-le (itemAt s cells i))

@@ -1,20 +1,20 @@
 -- The laws of the tests for equality. Assumes nothing.
-use mathlib.Core.Path.{_≡_, refl, sym, ap, ap₂, subst, _∙_}
+use mathlib.Core.Path.{_≡_, refl, sym, ap, ap₂, _∙_}
 use mathlib.Core.Bool.{Bool, true, false, cond, decide, true≢false, _&&_}
 use mathlib.Core.List.{List, [], _∷_}
-use Prim.Native.Nat.{ℕ, zero, suc, _+_, _*_, _-_, _^_, _<_, _≤_}
+use Prim.Native.Nat.{ℕ, zero, suc, _+_, _^_, _<_, _≤_}
 use native.Mathlib.Omega.{arith}
-use borrow.Author.Tests.{eqb-false, eqb-true, eq-eqb, ne-eqb}
+use borrow.Author.Tests.{eqb-true, eq-eqb}
 use lib.Dec.{eqb}
 use lib.IntN.{ℤ}
 use lib.ListN.{length}
-use Rattle.cpl.specs.Codes.{op1Of, op1Tag, op2Of, op2Tag, signed, tagOf, unsigned}
+use Rattle.cpl.specs.Codes.{op1Of, op2Of, signed, tagOf, unsigned}
 use Rattle.cpl.specs.Plan.{Expr, Item, Op1, Op2, Pair, bare, bin, col, lit, miss, named, pair, un}
 use Rattle.rules.specs.Merge.{eqItems, exprD, itemD}
-use Rattle.arena.specs.Cells.{NodeIs, NodeOk, exprAt, tagAt, xAt, yAt}
+use Rattle.arena.specs.Cells.{NodeIs, NodeOk, exprAt, tagAt}
 use Rattle.arena.specs.Rows.{itemAt, itemsAt, rowItem}
 use Rattle.arena.specs.View.{Shows}
-use Rattle.arena.specs.declared.View.the-variants.{Col, Lit, Miss, One, Two}
+use Rattle.arena.specs.declared.View.the-variants.{One, Two}
 use Rattle.arena.proofs.Laws.{at-col, at-lit, at-miss, at-one, at-two, bits, op1-tag, op2-tag, tag}
 use Rattle.arena.proofs.Rows.{rest, rest-all, rest-next, rest-none}
 
@@ -89,15 +89,15 @@ module _ {a b : List ℕ} {i j : ℕ} (o : NodeOk a i) (p : NodeOk b j) {t x y u
     pub other-one : {k n : ℕ} → Shows a i (One k n) → (z < j) × (exprAt b j ≡ un (op1Of k) (exprAt b z))
     unfolding tagOf
     other-one {k} q =
-        let g : tagAt b j ≡ k = same-tag h (q .0) ∙ op1-tag k (q .2) (q .3) in
-        let l = p .first (rw g (q .2)) in
-        rw (r .x-is) (l, at-one b j (rw g (q .2)) (rw g (q .3)) l ∙ rw g)
+        let g : tagAt b j ≡ k = same-tag h (q .means) ∙ op1-tag k (q .least) (q .most) in
+        let l = p .first (rw g (q .least)) in
+        rw (r .x-is) (l, at-one b j (rw g (q .least)) (rw g (q .most)) l ∙ rw g)
 
     pub other-two : {k m n : ℕ} → Shows a i (Two k m n) → (z < j) × (w < j) × (exprAt b j ≡ bin (op2Of k) (exprAt b z) (exprAt b w))
     unfolding tagOf
     other-two {k} q =
-        let g : tagAt b j ≡ k = same-tag h (q .0) ∙ op2-tag k (q .3) (q .4) in
-        let five : 5 ≤ tagAt b j = rw g (q .3) in
+        let g : tagAt b j ≡ k = same-tag h (q .means) ∙ op2-tag k (q .least) (q .most) in
+        let five : 5 ≤ tagAt b j = rw g (q .least) in
         let l = p .first (omega arith) in
         let m = p .second five in
         rw (r .x-is, r .y-is) (l, m, at-two b j five l m ∙ rw g)

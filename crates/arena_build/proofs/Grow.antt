@@ -1,19 +1,16 @@
 -- The laws of cells that grow: a node that is put behind the others, and one law for each way that `subst` can end. Assumes nothing.
-use mathlib.Core.Path.{_≡_, refl, sym, ap, ap₂, _∙_}
+use mathlib.Core.Path.{_≡_, refl, ap, ap₂, _∙_}
 use mathlib.Core.List.{List}
-use Prim.Native.Nat.{ℕ, zero, suc, _+_, _*_, _-_, _/_, _<_, _≤_}
+use Prim.Native.Nat.{ℕ, _+_, _*_, _<_, _≤_}
 use native.Mathlib.Omega.{arith}
 use borrow.Author.Count.{below-more}
 use lib.ListN.{length, length-set, set}
 use lib.Seq.{getD-set-other, getD-set-same}
 use Rattle.cpl.specs.Codes.{op1Of, op2Of, signed}
 use Rattle.cpl.specs.Exprs.{exprTags}
-use Rattle.cpl.specs.Plan.{Expr, Pair, bin, col, lit, miss, pair, un}
-use Rattle.rules.specs.Merge.{replace}
+use Rattle.cpl.specs.Plan.{Expr, bin, col, lit, miss, pair, un}
 use Rattle.arena.specs.Cells.{NodeOk, Wf, exprAt, tagAt, xAt, yAt}
 use Rattle.arena.specs.Kept.{Kept}
-use Rattle.arena.specs.View.{Shows}
-use Rattle.arena.specs.declared.View.the-variants.{Col, Lit, Miss, One, Two}
 use Rattle.arena.proofs.Kept.{kept-expr, kept-refl, kept-trans, kept-wf}
 use Rattle.arena.proofs.Laws.{at-col, at-lit, at-miss, at-one, at-two}
 use Rattle.arena_build.specs.Build.{Answer, Made, Pushed, Refused, putNode}
@@ -74,16 +71,16 @@ built : (e : Expr) (s : List ℕ) (used : ℕ) (s₁ : List ℕ) (u t x y : ℕ)
     → ((s′ : List ℕ) → Kept (u * 3) s₁ s′ → tagAt s′ u ≡ t → xAt s′ u ≡ x → yAt s′ u ≡ y → exprAt s′ u ≡ e)
     → Pushed s₁ u t x y r s₂ → Answer e s used r s₂
 built e s used s₁ u t x y (Done node more) s₂ k l w f g m p =
-    let h = p .0 in
-    rw (p .1, p .2, p .3)
+    let h = p .room in
+    rw (p .node-is, p .more-is, p .stored)
     (record {
       kept = kept-trans (omega arith) k (put-kept s₁ u t x y h);
       means = m (putNode s₁ u t x y) (put-kept s₁ u t x y h) (put-tag s₁ u t x y h) (put-x s₁ u t x y h) (put-y s₁ u t x y h);
-      within = omega arith;
+      last = refl;
       grown = g;
       wf = put-wf s₁ u t x y h w f;
     })
-built e s used s₁ u t x y Full s₂ k l w f g m p = rw (p .1) (record { kept = k; tight = omega (arith, p .0, k .long, g) })
+built e s used s₁ u t x y Full s₂ k l w f g m p = rw (p .same) (record { kept = k; tight = omega (arith, p .full, k .long, g) })
 
 leaf : (e : Expr) (s : List ℕ) (used t x y : ℕ) (r : Built) (s₂ : List ℕ) → t < 3 → (t ≡ 0 → (x < 65536) × (y < 65536)) → exprTags e ≡ 1 → Wf s used
     → ((s′ : List ℕ) → tagAt s′ used ≡ t → xAt s′ used ≡ x → yAt s′ used ≡ y → exprAt s′ used ≡ e)
@@ -107,28 +104,31 @@ module _ (s : List ℕ) (used : ℕ) (r : Built) (s₂ : List ℕ) (w : Wf s use
   unfolding exprTags
   put-col a b h k p = leaf _ s used 0 a b r s₂ (omega arith) (λ l. (h, k)) refl w (λ s′ t x y. at-col s′ used t ∙ ap₂ (λ m n. col (pair m n)) x y) p
 
+pub within : {e : Expr} {s : List ℕ} {used node more : ℕ} {s′ : List ℕ} → Made e s used node more s′ → node < more
+within d = omega (arith, d .last)
+
 -- an operator behind its operands
 pub put-one : (k : ℕ) (e : Expr) (s : List ℕ) (used node more : ℕ) (s₁ : List ℕ) (r : Built) (s₂ : List ℕ) → 3 ≤ k → k < 5
     → Made e s used node more s₁ → Pushed s₁ more k node 0 r s₂ → Answer (un (op1Of k) e) s used r s₂
 unfolding exprTags
 put-one k e s used node more s₁ r s₂ h l d p =
     built _ s used s₁ more k node 0 r s₂ (d .kept) (omega (arith, d .grown)) (d .wf)
-    (record { known = omega arith; column = λ z. absurd (omega arith); first = λ z. d .within; second = λ z. absurd (omega arith) })
+    (record { known = omega arith; column = λ z. absurd (omega arith); first = λ z. within d; second = λ z. absurd (omega arith) })
     (omega (arith, d .grown))
-    (λ s′ q a b c. at-one s′ more (omega (arith, a)) (omega (arith, a)) (omega (arith, b, d .within)) ∙ cc (a, ap (exprAt s′) b, kept-expr more q node (d .within), d .means))
+    (λ s′ q a b c. at-one s′ more (omega (arith, a)) (omega (arith, a)) (omega (arith, b, within d)) ∙ cc (a, ap (exprAt s′) b, kept-expr more q node (within d), d .means))
     p
 
 pub put-two : (k : ℕ) (e f : Expr) (s : List ℕ) (used node more : ℕ) (s₁ : List ℕ) (node₂ most : ℕ) (s₂ : List ℕ) (r : Built) (s₃ : List ℕ) → 5 ≤ k → k < 12
     → Made e s used node more s₁ → Made f s₁ more node₂ most s₂ → Pushed s₂ most k node node₂ r s₃ → Answer (bin (op2Of k) e f) s used r s₃
 unfolding exprTags
 put-two k e f s used node more s₁ node₂ most s₂ r s₃ h l d g p =
-    let in₁ : node < most = omega (arith, d .within, g .grown) in
+    let in₁ : node < most = omega (arith, within d, g .grown) in
     built _ s used s₂ most k node node₂ r s₃
     (kept-trans (omega (arith, d .grown)) (d .kept) (g .kept)) (omega (arith, d .grown, g .grown)) (g .wf)
-    (record { known = l; column = λ z. absurd (omega arith); first = λ z. in₁; second = λ z. g .within })
+    (record { known = l; column = λ z. absurd (omega arith); first = λ z. in₁; second = λ z. within g })
     (omega (arith, d .grown, g .grown))
-    (λ s′ q a b c. at-two s′ most (omega (arith, a)) (omega (arith, b)) (omega (arith, c, g .within))
-    ∙ cc (a, ap (exprAt s′) b, ap (exprAt s′) c, kept-expr most q node in₁, kept-expr most q node₂ (g .within), kept-expr more (g .kept) node (d .within), d .means, g .means))
+    (λ s′ q a b c. at-two s′ most (omega (arith, a)) (omega (arith, b)) (omega (arith, c, within g))
+    ∙ cc (a, ap (exprAt s′) b, ap (exprAt s′) c, kept-expr most q node in₁, kept-expr most q node₂ (within g), kept-expr more (g .kept) node (within d), d .means, g .means))
     p
 
 pub full-one : (o : Expr → Expr) (e : Expr) (s : List ℕ) (used : ℕ) (s₁ : List ℕ) → exprTags e ≤ exprTags (o e) → Refused e s used s₁ → Refused (o e) s used s₁

@@ -1,3 +1,5 @@
 -- What the proofs of several functions use.
 pub mod Grow
 pub mod Defs
+pub mod Ways
+pub mod Items

@@ -1,11 +1,11 @@
 -- What is written into cells, and what building an expression answers.
 use mathlib.Core.Path.{_≡_}
-use mathlib.Core.Bool.{Bool, cond}
+use mathlib.Core.Bool.{cond}
 use mathlib.Core.List.{List}
 use Prim.Native.Nat.{ℕ, zero, suc, _+_, _*_, _/_, _<_, _≤_}
 use lib.ListN.{length, set}
 use Rattle.cpl.specs.Exprs.{exprTags, fits}
-use Rattle.cpl.specs.Plan.{Expr, Item, Pair, col, miss}
+use Rattle.cpl.specs.Plan.{Expr, Item, Pair, col}
 use Rattle.rules.specs.Merge.{defOf}
 use Rattle.arena.specs.Cells.{Wf, exprAt}
 use Rattle.arena.specs.Kept.{Kept}
@@ -19,16 +19,27 @@ use Rattle.arena_build.specs.declared.Found.the-variants.{At, Nothing}
 unfoldable pub putNode : List ℕ → (i tag x y : ℕ) → List ℕ
 putNode s i t x y = set (set (set s (i * 3) t) (i * 3 + 1) x) (i * 3 + 2) y
 
--- one node more behind the nodes in use, or no room for it
-abbrev pub Pushed : List ℕ → ℕ → ℕ → ℕ → ℕ → Built → List ℕ → Type 0
-Pushed s used t x y (Done node more) s′ = (used * 3 + 2 < length s) × (node ≡ used) × (more ≡ used + 1) × (s′ ≡ putNode s used t x y)
-Pushed s used t x y Full s′ = (length s / 3 ≤ used) × (s′ ≡ s)
+-- one node more behind the nodes in use
+pub record Stored (s : List ℕ) (used t x y node more : ℕ) (s′ : List ℕ) : Type 0 where
+  pub room : used * 3 + 2 < length s
+  pub node-is : node ≡ used
+  pub more-is : more ≡ used + 1
+  pub stored : s′ ≡ putNode s used t x y
 
--- e was built behind the nodes in use: `node` stands for it, and `more` nodes are in use
+-- no room for a node
+pub record Filled (s : List ℕ) (used : ℕ) (s′ : List ℕ) : Type 0 where
+  pub full : length s / 3 ≤ used
+  pub same : s′ ≡ s
+
+abbrev pub Pushed : List ℕ → ℕ → ℕ → ℕ → ℕ → Built → List ℕ → Type 0
+Pushed s used t x y (Done node more) s′ = Stored s used t x y node more s′
+Pushed s used t x y Full s′ = Filled s used s′
+
+-- e was built behind the nodes in use: `node`, the last of the `more` nodes now in use, stands for it
 pub record Made (e : Expr) (s : List ℕ) (used node more : ℕ) (s′ : List ℕ) : Type 0 where
   pub kept : Kept (used * 3) s s′
   pub means : exprAt s′ node ≡ e
-  pub within : node < more
+  pub last : more ≡ node + 1
   pub grown : more ≡ used + exprTags e
   pub wf : Wf s′ more
 

@@ -1,6 +1,6 @@
 -- What is written into items, and what building items answers.
 use mathlib.Core.Path.{_≡_}
-use mathlib.Core.List.{List, map}
+use mathlib.Core.List.{List}
 use Prim.Native.Nat.{ℕ, zero, suc, _+_, _*_, _/_, _<_, _≤_}
 use lib.ListN.{length, set}
 use Rattle.cpl.specs.Exprs.{exprTags}
@@ -41,13 +41,13 @@ pub record Placed (it : Item) (k : ℕ) (rows cells : List ℕ) (used node more 
   pub ok : RowOk rows′ cells′ k
 
 -- there is no room for the item's expression; no row was written
-pub record Left (it : Item) (rows cells : List ℕ) (used : ℕ) (rows′ cells′ : List ℕ) : Type 0 where
+pub record ItemRefused (it : Item) (rows cells : List ℕ) (used : ℕ) (rows′ cells′ : List ℕ) : Type 0 where
   pub refused : Refused (itemExpr it) cells used cells′
   pub same : rows′ ≡ rows
 
 abbrev pub ItemAnswer : Item → ℕ → List ℕ → List ℕ → ℕ → Built → List ℕ → List ℕ → Type 0
 ItemAnswer it k rows cells used (Done node more) rows′ cells′ = Placed it k rows cells used node more rows′ cells′
-ItemAnswer it k rows cells used Full rows′ cells′ = Left it rows cells used rows′ cells′
+ItemAnswer it k rows cells used Full rows′ cells′ = ItemRefused it rows cells used rows′ cells′
 
 -- the nodes that a list's expressions take
 unfoldable pub nodesOf : List Item → ℕ
@@ -64,11 +64,11 @@ pub record Listing (is : List Item) (to n : ℕ) (rows cells : List ℕ) (used m
   pub wf : Wf cells′ more
 
 -- there is no room for all of the expressions
-pub record Overflown (is : List Item) (to : ℕ) (rows cells : List ℕ) (used : ℕ) (rows′ cells′ : List ℕ) : Type 0 where
+pub record ListRefused (is : List Item) (to : ℕ) (rows cells : List ℕ) (used : ℕ) (rows′ cells′ : List ℕ) : Type 0 where
   pub kept : Kept (used * 3) cells cells′
   pub rows-kept : Kept (to * 4) rows rows′
   pub tight : length cells / 3 < used + nodesOf is
 
 abbrev pub ListAnswer : List Item → ℕ → ℕ → List ℕ → List ℕ → ℕ → Listed → List ℕ → List ℕ → Type 0
 ListAnswer is to n rows cells used (listed.Done more) rows′ cells′ = Listing is to n rows cells used more rows′ cells′
-ListAnswer is to n rows cells used listed.Full rows′ cells′ = Overflown is to rows cells used rows′ cells′
+ListAnswer is to n rows cells used listed.Full rows′ cells′ = ListRefused is to rows cells used rows′ cells′

@@ -1,13 +1,16 @@
 -- What the rows of a node say, once their numbers are read. Assumes nothing.
-use mathlib.Core.Path.{_≡_, refl, sym, ap, ap₂, subst, _∙_}
-use mathlib.Core.List.{List}
-use Prim.Native.Nat.{ℕ, zero, suc, _+_, _*_, _<_, _≤_}
+use mathlib.Core.Path.{_≡_, refl, sym, ap, _∙_}
+use mathlib.Core.List.{List, _∷_}
+use Prim.Native.Nat.{ℕ, _+_, _<_}
+use native.Mathlib.Decide.{ℕ-discrete}
 use native.Mathlib.Omega.{arith}
-use lib.ListN.{getD}
-use Rattle.cpl.specs.Plan.{pair}
-use Rattle.arena.specs.Cells.{Wf}
-use Rattle.arena.specs.Rows.{RowIs, markAt, rootAt}
-use Rattle.tree.specs.Rows.{aggAt, keyAt, keysRow, lastRow, numberAt, onAt, winAt, winSize}
+use borrow.Author.Tests.{eq-eqb, ne-eqb}
+use Rattle.cpl.specs.Bytes.{callNumber, exprBytes, keyBytes}
+use Rattle.cpl.specs.Codes.{fnOf}
+use Rattle.cpl.specs.Plan.{Expr, keyExpr, over, rows}
+use Rattle.cpl.proofs.CodeTrip.{flags-number, fn-number}
+use Rattle.arena.specs.Rows.{RowIs, rootAt}
+use Rattle.tree.specs.Rows.{aggAt, callOf, keyAt, keyOf, keysRow, lastRow, numberAt, onAt, winAt, winSize}
 use Rattle.tree.specs.Shows.{AggIs, KeyIs, OnIs, WinIs}
 
 module _ {s : List ℕ} {i q n m k : ℕ} (e : RowIs s i q n m k) where
@@ -72,3 +75,29 @@ module _ {s : List ℕ} {i q n m k : ℕ} (e : RowIs s i q n m k) where
           keys = λ cells o. rw (after, keys-are) (o .keys);
           node = λ cells o h. rw root (o .node (rw (e .mark-is) at h));
         }
+
+-- ── a part by its numbers ───────────────────────────────────────────────────────────────────
+
+module _ (f : ℕ) (e : Expr) where
+  pub call-rows : f ≡ 0 → callOf f e ≡ rows
+  unfolding callOf
+  call-rows h = rw (eq-eqb f 0 h)
+
+  pub call-over : 0 < f → callOf f e ≡ over (fnOf f) e
+  unfolding callOf
+  call-over h = rw (ne-eqb f 0 (λ k. omega arith))
+
+  pub call-number : f < 5 → callNumber (callOf f e) ≡ f
+  unfolding callNumber
+  call-number h = elim (ℕ-discrete f 0) [
+    | yes k ↦ ap callNumber (call-rows k) ∙ sym k
+    | no k ↦ ap callNumber (call-over (omega arith)) ∙ fn-number f (omega arith) h
+  ]
+
+pub key-expr : (x : ℕ) (e : Expr) → keyExpr (keyOf x e) ≡ e
+unfolding keyOf keyExpr
+key-expr x e = refl
+
+pub key-bytes : (x : ℕ) (e : Expr) → x < 4 → keyBytes (keyOf x e) ≡ x ∷ exprBytes e
+unfolding keyOf keyBytes
+key-bytes x e h = ap (λ k. k ∷ exprBytes e) (flags-number x h)

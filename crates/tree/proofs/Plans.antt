@@ -4,19 +4,25 @@ use mathlib.Core.List.{List}
 use Prim.Native.Nat.{ℕ, zero, suc, _+_, _<_, _≤_}
 use native.Mathlib.Omega.{arith}
 use Rattle.cpl.specs.Exprs.{planNodes}
-use Rattle.cpl.specs.Plan.{Catalogue, Plan, binary, unary}
+use Rattle.cpl.specs.Plan.{Catalogue, Plan, binary, leaf, unary}
 use Rattle.cpl.specs.ReadPlan.{Head, h0, h1, h2}
 use Rattle.tree.specs.Node.{nodeAt}
 use Rattle.tree.specs.Shows.{Shows, Stands, TakenApart}
 use Rattle.tree.specs.Tree.{Arrays, InputsOk, WfTree, build, headOf, lent, planAt, planTo, rightOf}
 use Rattle.tree.specs.declared.Node.{Node}
 
+pub nodes-pos : (p : Plan) → 0 < planNodes p
+unfolding planNodes
+nodes-pos (leaf h) = omega arith
+nodes-pos (unary h p) = omega arith
+nodes-pos (binary h p₁ p₂) = omega arith
+
 -- inputs are compared only where they are nodes of the tree
 same-inputs : (a : Arrays) (count k right : ℕ) (h : Head) {p p′ q q′ : Plan}
     → InputsOk a count k right h → (k + 1 < count → p ≡ p′) → (k < right → right < count → q ≡ q′) → build h p q ≡ build h p′ q′
 same-inputs a count k right (h0 h) i e f = refl
 same-inputs a count k right (h1 h) i e f = ap (unary h) (e i)
-same-inputs a count k right (h2 h) i e f = ap₂ (binary h) (e (omega (arith, i .0, i .2))) (f (omega (arith, i .0)) (i .2))
+same-inputs a count k right (h2 h) i e f = ap₂ (binary h) (e (omega (arith, i .0, i .1))) (f (omega (arith, i .0)) (i .1))
 
 pub node : (a : Arrays) (f k : ℕ) → planTo (suc f) a k ≡ build (headOf a (nodeAt (a .nodes) k)) (planTo f a (k + 1)) (planTo f a (rightOf (nodeAt (a .nodes) k)))
 unfolding planTo
@@ -45,7 +51,7 @@ module _ (C : Catalogue) (a : Arrays) (count : ℕ) (w : WfTree C a count) where
 stands : (a : Arrays) (count k right : ℕ) (h : Head) → planAt a k ≡ build h (planAt a (k + 1)) (planAt a right) → InputsOk a count k right h → Stands a count k right h
 stands a count k right (h0 h) e i = e
 stands a count k right (h1 h) e i = record { plan = e; below = i }
-stands a count k right (h2 h) e i = record { plan = e; after = i .0; ends = i .1; below = i .2 }
+stands a count k right (h2 h) e i = record { plan = e; after = omega (arith, i .0, nodes-pos (planAt a (k + 1))); ends = i .0; below = i .1 }
 
 -- a node of a tree shows its plan
 pub shows : {C : Catalogue} {a : Arrays} {count : ℕ} → WfTree C a count → (k : ℕ) → k < count → Shows a count k (nodeAt (a .nodes) k)

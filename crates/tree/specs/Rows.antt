@@ -1,5 +1,4 @@
 -- What the rows of a node stand for, whatever numbers they hold, and when code can go through them. Row i is the four numbers at 4 * i.
-use mathlib.Core.Path.{_≡_}
 use mathlib.Core.List.{List, [], _∷_}
 use Prim.Native.Nat.{ℕ, zero, suc, _+_, _*_, _/_, _%_, _<_, _≤_}
 use lib.Dec.{eqb}

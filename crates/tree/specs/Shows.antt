@@ -3,7 +3,7 @@ use mathlib.Core.Path.{_≡_}
 use mathlib.Core.List.{List}
 use Prim.Native.Nat.{ℕ, _+_, _<_}
 use Rattle.cpl.specs.Exprs.{planNodes}
-use Rattle.cpl.specs.Plan.{Agg, agg, Catalogue, Key, On, on, Leaf, Unary, Binary, Plan, leaf, unary, binary, pair, win}
+use Rattle.cpl.specs.Plan.{agg, Catalogue, on, Unary, Binary, leaf, unary, binary, pair, win}
 use Rattle.cpl.specs.ReadPlan.{Head, h0, h1, h2}
 use Rattle.arena.specs.Cells.{exprAt, Wf}
 use Rattle.arena.specs.Rows.{pairAt, markAt, rootAt}

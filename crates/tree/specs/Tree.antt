@@ -6,8 +6,7 @@ use mathlib.Core.Option.{Option, none, some}
 use Prim.Native.Nat.{ℕ, zero, suc, _+_, _<_, _≤_}
 use Rattle.cpl.specs.Limits.{maxNodes, maxTags}
 use Rattle.cpl.specs.Exprs.{planNodes, planTags}
-use Rattle.cpl.specs.Plan.{Catalogue, Expr, Leaf, scan, empty, Unary, projection, filter, sort, limit, aggregate, window, subqueryAlias, distinct, Binary, union, join, Plan, leaf, unary, binary}
-use Rattle.cpl.specs.Read.{pick}
+use Rattle.cpl.specs.Plan.{Catalogue, scan, empty, projection, filter, sort, limit, aggregate, window, subqueryAlias, distinct, union, join, Plan, leaf, unary, binary}
 use Rattle.cpl.specs.ReadPlan.{Head, h0, h1, h2, fetchOf}
 use Rattle.cpl.specs.Writable.{FitPlan}
 use Rattle.arena.specs.Cells.{exprAt, Wf}
@@ -106,10 +105,10 @@ planAt a k = planTo maxNodes a k
 abbrev pub InputsOk : Arrays → (count k right : ℕ) → Head → Type 0
 InputsOk a count k right (h0 h) = Unit {0}
 InputsOk a count k right (h1 h) = k + 1 < count
-InputsOk a count k right (h2 h) = (k + 1 < right) × (right ≡ k + 1 + planNodes (planAt a (k + 1))) × (right < count)
+InputsOk a count k right (h2 h) = (right ≡ k + 1 + planNodes (planAt a (k + 1))) × (right < count)
 
 -- node k of a tree of `count` nodes: its numbers, its rows and roots, its inputs; and its plan can be written
-pub record NodeOk (C : Catalogue) (a : Arrays) (count k : ℕ) : Type 0 where
+pub record WfNode (C : Catalogue) (a : Arrays) (count k : ℕ) : Type 0 where
   pub numbers : NodeFits (a .nodes) k
   pub parts : PartsOk a (nodeAt (a .nodes) k)
   pub inputs : InputsOk a count k (rightOf (nodeAt (a .nodes) k)) (headOf a (nodeAt (a .nodes) k))
@@ -120,4 +119,4 @@ pub record NodeOk (C : Catalogue) (a : Arrays) (count k : ℕ) : Type 0 where
 -- the first `count` nodes are such nodes: "At most 256 nodes"
 pub record WfTree (C : Catalogue) (a : Arrays) (count : ℕ) : Type 0 where
   pub few : count ≤ maxNodes
-  pub each : (k : ℕ) → k < count → NodeOk C a count k
+  pub each : (k : ℕ) → k < count → WfNode C a count k

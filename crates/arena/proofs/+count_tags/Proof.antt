@@ -1,8 +1,7 @@
 -- The proof of the cycle of calls {count_tags}. The measure is the node's number. Assumes nothing.
 use borrow.Author.Needs.{needs}
-use mathlib.Core.Path.{_≡_, refl, sym, ap, ap₂, _∙_}
-use mathlib.Core.List.{List}
-use Prim.Native.Nat.{ℕ, suc, _+_, _<_, _≤_}
+use mathlib.Core.Path.{_≡_, sym, ap}
+use Prim.Native.Nat.{ℕ, _+_, _<_}
 use native.Mathlib.Omega.{arith}
 use Rattle.cpl.specs.Exprs.{exprTags}
 use Rattle.cpl.specs.Plan.{Expr, Op1, Op2, bin, un}
@@ -65,7 +64,7 @@ module _ (t : ℕ) where
       let node-at = c .before .before .before .before .node-at in
       let count-tags = c .count-tags in
       let pre = c .before .before .before .before .before .before .pre in
-      omega (arith, one-tags ((rw (v .given .1) at (node-at .ensures)) .0) (count-tags .ensures), pre .1 .1)
+      omega (arith, one-tags ((rw (v .given .1) at (node-at .ensures)) .means) (count-tags .ensures), pre .1 .1)
 
   enum-known-v-2 : lts.Need-enum-known-v-2 (callees t) (given t) count-tags.Post
   enum-known-v-2 c = search needs
@@ -91,7 +90,7 @@ module _ (t : ℕ) where
       let count-tags2 = c .before .count-tags2 in
       let count-tags3 = c .count-tags3 in
       let pre = c .before .before .before .before .before .before .before .pre in
-      omega (arith, two-tags ((rw (v2 .given .1) at (node-at .ensures)) .0) (count-tags2 .ensures) (count-tags3 .ensures), pre .1 .1)
+      omega (arith, two-tags ((rw (v2 .given .1) at (node-at .ensures)) .means) (count-tags2 .ensures) (count-tags3 .ensures), pre .1 .1)
 
   add-result-3 : lts.Need-add-result-3 (callees t) (given t) count-tags.Post
   add-result-3 c =
@@ -100,7 +99,7 @@ module _ (t : ℕ) where
       let count-tags2 = c .before .count-tags2 in
       let count-tags3 = c .count-tags3 in
       let pre = c .before .before .before .before .before .before .before .pre in
-      omega (arith, two-tags ((rw (v2 .given .1) at (node-at .ensures)) .0) (count-tags2 .ensures) (count-tags3 .ensures), pre .1 .1)
+      omega (arith, two-tags ((rw (v2 .given .1) at (node-at .ensures)) .means) (count-tags2 .ensures) (count-tags3 .ensures), pre .1 .1)
 
   returns : lts.Need-returns (callees t) (given t) count-tags.Post
   unfolding exprTags
@@ -128,7 +127,7 @@ module _ (t : ℕ) where
       let v = c .before .before .v in
       let node-at = c .before .before .before .before .node-at in
       let count-tags = c .count-tags in
-      one-tags ((rw (v .given .1) at (node-at .ensures)) .0) (count-tags .ensures)
+      one-tags ((rw (v .given .1) at (node-at .ensures)) .means) (count-tags .ensures)
 
   returns-5 : lts.Need-returns-5 (callees t) (given t) count-tags.Post
   returns-5 c =
@@ -136,7 +135,7 @@ module _ (t : ℕ) where
       let node-at = c .before .before .before .before .before .node-at in
       let count-tags2 = c .before .count-tags2 in
       let count-tags3 = c .count-tags3 in
-      two-tags ((rw (v2 .given .1) at (node-at .ensures)) .0) (count-tags2 .ensures) (count-tags3 .ensures)
+      two-tags ((rw (v2 .given .1) at (node-at .ensures)) .means) (count-tags2 .ensures) (count-tags3 .ensures)
 
 pub +count-tags-spec : {M : Type 1} → statement M
 +count-tags-spec = close μ λ t.

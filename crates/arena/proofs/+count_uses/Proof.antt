@@ -1,10 +1,8 @@
 -- The proof of the cycle of calls {count_uses}. The measure is the node's number. Assumes nothing.
 use borrow.Author.Needs.{needs}
-use mathlib.Core.Path.{_≡_, refl, sym, ap, ap₂, _∙_}
-use mathlib.Core.List.{List}
-use Prim.Native.Nat.{ℕ, suc, _+_, _<_, _≤_}
+use mathlib.Core.Path.{_≡_, sym, ap, ap₂, _∙_}
+use Prim.Native.Nat.{ℕ, _+_, _<_}
 use native.Mathlib.Omega.{arith}
-use Rattle.cpl.specs.Exprs.{exprTags}
 use mathlib.Core.Bool.{Bool, true, false, cond, _&&_}
 use lib.Dec.{eqb}
 use Rattle.cpl.specs.Plan.{Expr, Op2, Pair, bin, col, eqP, pair}
@@ -95,7 +93,7 @@ module _ (t : ℕ) where
       let count-uses2 = c .before .count-uses2 in
       let count-uses3 = c .count-uses3 in
       let pre = c .before .before .before .before .before .before .before .pre in
-      omega (arith, two-uses (pair (args .q) (args .n)) ((rw (v3 .given .1) at (node-at .ensures)) .0) (count-uses2 .ensures) (count-uses3 .ensures), pre .1 .1, uses-le (pair (args .q) (args .n)) (exprAt (args .cells .now) (args .i)))
+      omega (arith, two-uses (pair (args .q) (args .n)) ((rw (v3 .given .1) at (node-at .ensures)) .means) (count-uses2 .ensures) (count-uses3 .ensures), pre .1 .1, uses-le (pair (args .q) (args .n)) (exprAt (args .cells .now) (args .i)))
 
   returns-2 : lts.Need-returns-2 (callees t) (given t) count-uses.Post
   returns-2 c =
@@ -124,7 +122,7 @@ module _ (t : ℕ) where
       let count-uses = c .count-uses in
       let v2 = c .before .before .v2 in
       let node-at = c .before .before .before .before .node-at in
-      count-uses .ensures ∙ sym (ap (occurs _) ((rw (v2 .given .1) at (node-at .ensures)) .0))
+      count-uses .ensures ∙ sym (ap (occurs _) ((rw (v2 .given .1) at (node-at .ensures)) .means))
 
   returns-6 : lts.Need-returns-6 (callees t) (given t) count-uses.Post
   returns-6 c =
@@ -132,7 +130,7 @@ module _ (t : ℕ) where
       let node-at = c .before .before .before .before .before .node-at in
       let count-uses2 = c .before .count-uses2 in
       let count-uses3 = c .count-uses3 in
-      two-uses _ ((rw (v3 .given .1) at (node-at .ensures)) .0) (count-uses2 .ensures) (count-uses3 .ensures)
+      two-uses _ ((rw (v3 .given .1) at (node-at .ensures)) .means) (count-uses2 .ensures) (count-uses3 .ensures)
 
 pub +count-uses-spec : {M : Type 1} → statement M
 +count-uses-spec = close μ λ t.

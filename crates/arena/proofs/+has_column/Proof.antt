@@ -1,9 +1,7 @@
 -- The proof of the cycle of calls {has_column}. The measure is the node's number. Assumes nothing.
 use borrow.Author.Needs.{needs}
 use mathlib.Core.Path.{_≡_, refl, sym, ap, ap₂, _∙_}
-use mathlib.Core.List.{List}
-use Prim.Native.Nat.{ℕ, suc, _+_, _<_, _≤_}
-use native.Mathlib.Omega.{arith}
+use Prim.Native.Nat.{ℕ, _<_}
 use mathlib.Core.Bool.{Bool, _||_}
 use Rattle.cpl.specs.Plan.{Expr, Op2, bin}
 use Rattle.cpl.specs.Exprs.{columns?}
@@ -54,7 +52,7 @@ module _ (t : ℕ) where
       let pre = c .before .before .before .before .before .pre in
       let v = c .before .v in
       let node-at = c .before .before .before .node-at in
-      operand _ _ _ (pre .0) (pre .1) _ ((rw (v .given .1) at (node-at .ensures)) .1)
+      operand _ _ _ (pre .0) (pre .1) _ ((rw (v .given .1) at (node-at .ensures)) .below)
 
   enum-known-v-2 : lts.Need-enum-known-v-2 (callees t) (given t) has-column.Post
   enum-known-v-2 c = search needs
@@ -64,7 +62,7 @@ module _ (t : ℕ) where
       let pre = c .before .before .before .before .before .pre in
       let v2 = c .before .v2 in
       let node-at = c .before .before .before .node-at in
-      operand _ _ _ (pre .0) (pre .1) _ ((rw (v2 .given .1) at (node-at .ensures)) .1)
+      operand _ _ _ (pre .0) (pre .1) _ ((rw (v2 .given .1) at (node-at .ensures)) .first)
 
   returns : lts.Need-returns (callees t) (given t) has-column.Post
   returns c =
@@ -72,14 +70,14 @@ module _ (t : ℕ) where
       let node-at = c .before .before .before .before .before .node-at in
       let if1 = c .if1 in
       let has-column2 = c .before .has-column2 in
-      two-columns ((rw (v2 .given .1) at (node-at .ensures)) .0) (sym (if1 .taken) ∙ has-column2 .ensures) refl
+      two-columns ((rw (v2 .given .1) at (node-at .ensures)) .means) (sym (if1 .taken) ∙ has-column2 .ensures) refl
 
   has-column-requires-3 : lts.Need-has-column-requires-3 (callees t) (given t) has-column.Post
   has-column-requires-3 c κs =
       let pre = c .before .before .before .before .before .before .before .pre in
       let v2 = c .before .before .before .v2 in
       let node-at = c .before .before .before .before .before .node-at in
-      operand _ _ _ (pre .0) (pre .1) _ ((rw (v2 .given .1) at (node-at .ensures)) .2)
+      operand _ _ _ (pre .0) (pre .1) _ ((rw (v2 .given .1) at (node-at .ensures)) .second)
 
   returns-2 : lts.Need-returns-2 (callees t) (given t) has-column.Post
   unfolding columns?
@@ -108,7 +106,7 @@ module _ (t : ℕ) where
       let has-column = c .has-column in
       let v = c .before .before .v in
       let node-at = c .before .before .before .before .node-at in
-      has-column .ensures ∙ sym (ap columns? ((rw (v .given .1) at (node-at .ensures)) .0))
+      has-column .ensures ∙ sym (ap columns? ((rw (v .given .1) at (node-at .ensures)) .means))
 
   returns-6 : lts.Need-returns-6 (callees t) (given t) has-column.Post
   returns-6 c =
@@ -117,7 +115,7 @@ module _ (t : ℕ) where
       let if1 = c .before .if1 in
       let has-column2 = c .before .before .has-column2 in
       let has-column3 = c .has-column3 in
-      two-columns ((rw (v2 .given .1) at (node-at .ensures)) .0) (sym (if1 .left) ∙ has-column2 .ensures) (has-column3 .ensures)
+      two-columns ((rw (v2 .given .1) at (node-at .ensures)) .means) (sym (if1 .left) ∙ has-column2 .ensures) (has-column3 .ensures)
 
 pub +has-column-spec : {M : Type 1} → statement M
 +has-column-spec = close μ λ t.

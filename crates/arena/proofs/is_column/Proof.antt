@@ -50,14 +50,14 @@ returns-4 c =
     let enum-told3 = c .enum-told3 in
     let node-at = c .before .before .node-at in
     let h = rw (enum-told3 .given .1) at (node-at .ensures) in
-    is-no _ (λ g. let z : _≡_ {A = ℕ} 0 1 = cc (h .0, g) in omega arith)
+    is-no _ (λ g. let z : _≡_ {A = ℕ} 0 1 = cc (h .means, g) in omega arith)
 
 returns-5 : tie.Need-returns-5
 returns-5 c =
     let enum-told4 = c .enum-told4 in
     let node-at = c .before .before .node-at in
     let h = rw (enum-told4 .given .1) at (node-at .ensures) in
-    is-no _ (λ g. let z : _≡_ {A = ℕ} 0 1 = cc (h .0, g) in omega arith)
+    is-no _ (λ g. let z : _≡_ {A = ℕ} 0 1 = cc (h .means, g) in omega arith)
 
 pub is-column-spec : {M : Type 1} → statement M
 is-column-spec = tie.close (tie.spec node-at-requires enum-known-v enum-told enum-told-2 enum-told-3 enum-told-4 returns returns-2 returns-3 returns-4 returns-5)

@@ -1,7 +1,6 @@
 -- `arena::item_tags` meets its contract. Assumes nothing.
-use mathlib.Core.Path.{_≡_, refl, sym, ap, ap₂, _∙_}
+use mathlib.Core.Path.{sym, ap}
 use native.Mathlib.Omega.{arith}
-use Prim.Native.Nat.{ℕ, _+_, _*_, _-_, _^_, _<_, _≤_}
 use borrow.Author.Needs.{needs}
 use Rattle.cpl.specs.Exprs.{itemTags}
 use Rattle.arena.proofs.Rows.{read-bare, read-tags, read-wf}

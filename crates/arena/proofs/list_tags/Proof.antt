@@ -1,10 +1,7 @@
 -- `arena::list_tags` meets its contract: the sum so far and the sum of the rows that are left make the sum of all. Assumes nothing.
-use mathlib.Core.Path.{_≡_, refl, sym, ap, ap₂, _∙_}
 use native.Mathlib.Omega.{arith}
-use Prim.Native.Nat.{ℕ, _+_, _*_, _-_, _^_, _<_, _≤_}
-use borrow.Author.Needs.{needs}
+use Prim.Native.Nat.{_-_}
 use Rattle.cpl.specs.Exprs.{itemTags}
-use Rattle.cpl.specs.Tests.{sumOf}
 use Rattle.arena.proofs.Rows.{Summed, row-fits, row-ok, summed-all, summed-more, summed-none, summed-tags}
 use Rattle.arena.proofs.list_tags.Statement.{statement}
 use Rattle.arena.proofs.list_tags.Tie as tie

@@ -1,11 +1,8 @@
 -- `arena::list_uses` meets its contract: the sum so far and the sum of the rows that are left make the sum of all. Assumes nothing.
-use mathlib.Core.Path.{_≡_, refl, sym, ap, ap₂, _∙_}
+use mathlib.Core.Path.{sym, ap, _∙_}
 use native.Mathlib.Omega.{arith}
-use Prim.Native.Nat.{ℕ, _+_, _*_, _-_, _^_, _<_, _≤_}
-use borrow.Author.Needs.{needs}
-use Rattle.cpl.specs.Exprs.{itemTags}
+use Prim.Native.Nat.{ℕ, _-_}
 use Rattle.cpl.specs.Plan.{Item, itemExpr, pair}
-use Rattle.cpl.specs.Tests.{sumOf}
 use Rattle.rules.specs.Merge.{occurs, occursIn}
 use Rattle.arena.specs.Rows.{itemsAt}
 use Rattle.arena.proofs.Rows.{Summed, all-uses-le, read-expr, read-small, read-wf, row-fits, row-ok, summed-all, summed-more, summed-none, summed-tags}

@@ -5,7 +5,7 @@ use Prim.Native.Nat.{ℕ, _<_, _≤_}
 use native.Mathlib.Omega.{arith}
 use Rattle.cpl.specs.Codes.{signed}
 use Rattle.cpl.specs.Plan.{col, lit, pair}
-use Rattle.arena.specs.Cells.{NodeIs, NodeOk, tagAt}
+use Rattle.arena.specs.Cells.{NodeIs, NodeOk, tagAt, xAt, yAt}
 use Rattle.arena.specs.View.{Shows}
 use Rattle.arena.specs.declared.View.the-variants.{Col, Lit, Miss, One, Two}
 use Rattle.arena.proofs.Laws.{at-col, at-lit, at-miss, at-one, at-two, here}
@@ -14,6 +14,9 @@ use Rattle.arena.proofs.node_at.Tie as tie
 
 -- once the three numbers are read
 module _ {s : List ℕ} {i : ℕ} (o : NodeOk s i) {t x y : ℕ} (e : NodeIs s i t x y) where
+  same : NodeIs s i (tagAt s i) (xAt s i) (yAt s i)
+  same = record { tag-is = refl; x-is = refl; y-is = refl }
+
   as-col : t ≡ 0 → Shows s i (Col x y)
   as-col h = at-col s i (sym (e .tag-is) ∙ h) ∙ sym (ap₂ (λ a b. col (pair a b)) (e .x-is) (e .y-is))
 
@@ -27,14 +30,14 @@ module _ {s : List ℕ} {i : ℕ} (o : NodeOk s i) {t x y : ℕ} (e : NodeIs s i
   as-one h k =
       let three : 3 ≤ tagAt s i = omega (arith, e .tag-is) in
       let f = o .first three in
-      rw (e .tag-is, e .x-is) (at-one s i three (omega (arith, e .tag-is)) f, f, three, omega (arith, e .tag-is))
+      rw (e .tag-is, e .x-is) (record { means = at-one s i three (omega (arith, e .tag-is)) f; below = f; least = three; most = omega (arith, e .tag-is); reads = same })
 
   as-two : 5 ≤ t → Shows s i (Two t x y)
   as-two h =
       let five : 5 ≤ tagAt s i = omega (arith, e .tag-is) in
       let f = o .first (omega arith) in
       let g = o .second five in
-      rw (e .tag-is, e .x-is, e .y-is) (at-two s i five f g, f, g, five, o .known)
+      rw (e .tag-is, e .x-is, e .y-is) (record { means = at-two s i five f g; first = f; second = g; least = five; most = o .known; reads = same })
 
 words-at-requires : tie.Need-words-at-requires
 words-at-requires c κs =

@@ -1,6 +1,6 @@
 -- `arena::same_item` meets its contract: each way is a law of `Same`. Assumes nothing.
 use borrow.Author.Needs.{needs}
-use mathlib.Core.Path.{_≡_, refl, sym, _∙_}
+use mathlib.Core.Path.{refl}
 use Rattle.arena.proofs.Rows.{read-bare, read-named, read-row, read-wf}
 use Rattle.arena.proofs.Same.{other-mark, same-bare, same-named}
 use Rattle.arena.proofs.same_item.Statement.{statement}

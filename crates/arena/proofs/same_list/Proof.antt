@@ -1,8 +1,7 @@
 -- `arena::same_list` meets its contract: the answer is that of the rows that are left. Assumes nothing.
-use mathlib.Core.Path.{_≡_, refl, sym, ap, ap₂, _∙_}
+use mathlib.Core.Path.{sym, _∙_}
 use native.Mathlib.Omega.{arith}
-use Prim.Native.Nat.{ℕ, _+_, _*_, _-_, _^_, _<_, _≤_}
-use borrow.Author.Needs.{needs}
+use Prim.Native.Nat.{_-_}
 use borrow.Author.Tests.{not-false, not-true}
 use Rattle.arena.proofs.Rows.{row-fits, row-ok}
 use Rattle.arena.proofs.Same.{Agree, agree-all, agree-more, agree-no, agree-none, unlike}

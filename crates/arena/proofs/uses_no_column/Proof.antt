@@ -1,8 +1,7 @@
 -- `arena::uses_no_column` meets its contract: the answer is that of the rows that are left. Assumes nothing.
-use mathlib.Core.Path.{_≡_, refl, sym, ap, ap₂, _∙_}
+use mathlib.Core.Path.{sym, ap, _∙_}
 use native.Mathlib.Omega.{arith}
-use Prim.Native.Nat.{ℕ, _+_, _*_, _-_, _^_, _<_, _≤_}
-use borrow.Author.Needs.{needs}
+use Prim.Native.Nat.{_-_}
 use mathlib.Core.Bool.{Bool, not}
 use Rattle.cpl.specs.Exprs.{columns?}
 use Rattle.cpl.specs.Plan.{Item, itemExpr}

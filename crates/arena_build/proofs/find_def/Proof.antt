@@ -1,8 +1,6 @@
 -- `arena_build::find_def` meets its contract: the answer is that of the rows that are left. Assumes nothing.
-use borrow.Author.Needs.{needs}
-use mathlib.Core.Path.{_≡_, refl, sym, ap, _∙_}
 use native.Mathlib.Omega.{arith}
-use Prim.Native.Nat.{ℕ, _+_, _*_, _-_, _<_, _≤_}
+use Prim.Native.Nat.{_-_}
 use Rattle.cpl.specs.Plan.{pair}
 use Rattle.arena_build.proofs.Defs.{Passed, passed-all, passed-found, passed-more, passed-none}
 use Rattle.arena_build.proofs.find_def.Statement.{statement}

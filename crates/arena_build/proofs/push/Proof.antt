@@ -1,8 +1,7 @@
 -- `arena_build::push` meets its contract. Assumes nothing.
 use borrow.Author.Needs.{needs}
-use mathlib.Core.Path.{_≡_, refl, sym, ap, _∙_}
+use mathlib.Core.Path.{refl}
 use native.Mathlib.Omega.{arith}
-use Prim.Native.Nat.{ℕ, _+_, _*_, _-_, _<_, _≤_}
 use lib.ListN.{length-set}
 use Rattle.arena_build.specs.Build.{putNode}
 use Rattle.arena_build.proofs.push.Statement.{statement}
@@ -43,7 +42,7 @@ same-length c = search needs
 
 returns : tie.Need-returns
 unfolding putNode
-returns c = (omega arith, refl, refl, refl)
+returns c = record { room = omega arith; node-is = refl; more-is = refl; stored = refl }
 
 returns-2 : tie.Need-returns-2
 returns-2 c = search needs

@@ -1,8 +1,7 @@
 -- `arena_build::put_row` meets its contract. Assumes nothing.
 use borrow.Author.Needs.{needs}
-use mathlib.Core.Path.{_≡_, refl, sym, ap, _∙_}
+use mathlib.Core.Path.{refl}
 use native.Mathlib.Omega.{arith}
-use Prim.Native.Nat.{ℕ, _+_, _*_, _-_, _<_, _≤_}
 use lib.ListN.{length-set}
 use Rattle.arena_build.specs.Lists.{putRow}
 use Rattle.arena_build.proofs.put_row.Statement.{statement}

@@ -1,8 +1,8 @@
 -- The proof of the cycle of calls {known_both}. The measure is the node's number. Assumes nothing.
 use Prim.Native.Nat.{_<_, ℕ}
-use Rattle.arena.proofs.Laws.{operand}
-use Rattle.arena.proofs.Rows.{Asked}
+use Rattle.arena.proofs.Laws.{below, operand}
 use Rattle.lookup.proofs.Known.{known-bin, known-bin-no, known-col, known-lit, known-miss, known-un}
+use Rattle.lookup.proofs.Lists.{Asked}
 use Rattle.tree.proofs.Plans.{taken}
 use borrow.Author.Needs.{needs}
 use mathlib.Core.Path.{_∙_, sym}
@@ -54,7 +54,7 @@ module _ (t : ℕ) where
       let pre = c .before .before .before .before .before .before .pre in
       let v2 = c .before .v2 in
       let node-at = c .before .before .before .node-at in
-      let o = operand _ _ _ (pre .0) (pre .1 .0) _ ((rw (v2 .given .1) at (node-at .ensures)) .1) in
+      let o = operand _ _ _ (pre .0) (pre .1 .0) _ ((rw (v2 .given .1) at (node-at .ensures)) .below) in
       (o .0, (o .1, pre .1 .1))
 
   enum-known-v-3 : lts.Need-enum-known-v-3 (callees t) (given t) known-both.Post
@@ -65,7 +65,7 @@ module _ (t : ℕ) where
       let pre = c .before .before .before .before .before .before .pre in
       let v3 = c .before .v3 in
       let node-at = c .before .before .before .node-at in
-      let o = operand _ _ _ (pre .0) (pre .1 .0) _ ((rw (v3 .given .1) at (node-at .ensures)) .1) in
+      let o = operand _ _ _ (pre .0) (pre .1 .0) _ ((rw (v3 .given .1) at (node-at .ensures)) .first) in
       (o .0, (o .1, pre .1 .1))
 
   known-both-requires-3 : lts.Need-known-both-requires-3 (callees t) (given t) known-both.Post
@@ -73,7 +73,7 @@ module _ (t : ℕ) where
       let pre = c .before .before .before .before .before .before .before .before .pre in
       let v3 = c .before .before .before .v3 in
       let node-at = c .before .before .before .before .before .node-at in
-      let o = operand _ _ _ (pre .0) (pre .1 .0) _ ((rw (v3 .given .1) at (node-at .ensures)) .2) in
+      let o = operand _ _ _ (pre .0) (pre .1 .0) _ ((rw (v3 .given .1) at (node-at .ensures)) .second) in
       (o .0, (o .1, pre .1 .1))
 
   returns : lts.Need-returns (callees t) (given t) known-both.Post
@@ -83,7 +83,7 @@ module _ (t : ℕ) where
       let if1 = c .before .if1 in
       let known-both2 = c .before .before .known-both2 in
       let known-both3 = c .known-both3 in
-      known-bin _ ((rw (v3 .given .1) at (node-at .ensures)) .0) (sym (if1 .taken) ∙ known-both2 .ensures) (known-both3 .ensures)
+      known-bin _ ((rw (v3 .given .1) at (node-at .ensures)) .means) (sym (if1 .taken) ∙ known-both2 .ensures) (known-both3 .ensures)
 
   returns-2 : lts.Need-returns-2 (callees t) (given t) known-both.Post
   returns-2 c =
@@ -109,7 +109,7 @@ module _ (t : ℕ) where
       let v2 = c .before .before .v2 in
       let node-at = c .before .before .before .before .node-at in
       let known-both = c .known-both in
-      known-un _ ((rw (v2 .given .1) at (node-at .ensures)) .0) (known-both .ensures)
+      known-un _ ((rw (v2 .given .1) at (node-at .ensures)) .means) (known-both .ensures)
 
   returns-6 : lts.Need-returns-6 (callees t) (given t) known-both.Post
   returns-6 c =
@@ -117,7 +117,7 @@ module _ (t : ℕ) where
       let node-at = c .before .before .before .before .before .node-at in
       let if1 = c .if1 in
       let known-both2 = c .before .known-both2 in
-      known-bin-no _ ((rw (v3 .given .1) at (node-at .ensures)) .0) (sym (if1 .left) ∙ known-both2 .ensures)
+      known-bin-no _ ((rw (v3 .given .1) at (node-at .ensures)) .means) (sym (if1 .left) ∙ known-both2 .ensures)
 
 pub +known-both-spec : {M : Type 1} → statement M
 +known-both-spec = close μ λ t.

@@ -1,5 +1,4 @@
 -- `tree::join_node` meets its contract. Assumes nothing.
-use mathlib.Core.Path.{refl}
 use borrow.Author.Needs.{needs}
 use Rattle.tree.specs.Node.{joinNode}
 use Rattle.tree.proofs.join_node.Statement.{statement}

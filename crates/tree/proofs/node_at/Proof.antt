@@ -1,6 +1,5 @@
 -- `tree::node_at` meets its contract: what the numbers say, shown by the law of `planAt`. Assumes nothing.
 use mathlib.Core.Path.{ap, _∙_}
-use borrow.Author.Needs.{needs}
 use Rattle.tree.specs.Node.{nodeOf}
 use Rattle.tree.proofs.Plans.{taken}
 use Rattle.tree.proofs.node_at.Statement.{statement}
