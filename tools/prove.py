@@ -17,7 +17,7 @@ FIXED={
  'borrow.Author.Needs':['needs'],
  'borrow.Author.Tests':['eq-eqb','ne-eqb','eqb-true','eqb-false','lt-ltb','le-ltb','ltb-true','ltb-false','le-leb','lt-leb','not-true','not-false'],
  'lib.Dec':['T','eqb','ltb','leb'],
- 'lib.ListN':['length','getD','take','drop','set','length-set','length-append'],
+ 'lib.ListN':['length','getD','take','drop','set','length-set','length-append','length-replicate'],
  'lib.Seq':['getD-set-same','getD-set-other','drop-cons','take-suc'],
 }
 D={}
@@ -37,8 +37,8 @@ def fields(p):
     for m in re.finditer(r'(?m)^( *)pub record \S+.*where\n((?:\1  .*\n|\n)+)',t):
         for k in re.finditer(r'(?m)^\s*pub (\S+) :',m.group(2)): r.add(k.group(1))
     return r
-order=['cpl','rules','required_indices','arena','tree','lookup','parts','accept']
-for c in order:
+deps=dict(l.strip().split(':') for l in open('crates.txt') if ':' in l and not l.startswith('#'))[crate].split()+[crate]
+for c in deps:
     for kind in ('specs','proofs'):
         for p in sorted(glob.glob(f'crates/{c}/{kind}/*.antt')):
             n=os.path.basename(p)[:-5]
@@ -48,9 +48,9 @@ for c in order:
             for x in f:
                 if D.get(x)==mod and x not in before: del D[x]
                 elif x in before: D[x]=before[x]
-for t in ('Node','JoinType','JoinNode','ScanNode'):
+for t in ('Node','JoinType','JoinNode','ScanNode') if 'tree' in deps else ():
     D[t]=f'Rattle.tree.specs.declared.{t}'
-D['Sides']='Rattle.lookup.specs.declared.Sides'
+if 'lookup' in deps: D['Sides']='Rattle.lookup.specs.declared.Sides'
 for m,ns in FIXED.items():
     for n in ns: D[n]=m
 def uses(text,have):

@@ -1,15 +1,15 @@
 -- The fault of one node: the tests in their order, and what the arrays hold then. Assumes nothing.
-use mathlib.Core.Path.{_≡_, refl, sym, ap, ap₂, subst, _∙_}
+use mathlib.Core.Path.{_≡_, refl, sym, ap, ap₂, _∙_}
 use mathlib.Core.Bool.{Bool, true, false, not, true≢false}
-use mathlib.Core.List.{List, [], _∷_, _++_}
-use mathlib.Core.Option.{Option, none, some}
-use Prim.Native.Nat.{ℕ, zero, suc, _+_, _*_, _<_, _≤_}
+use mathlib.Core.List.{List}
+use mathlib.Core.Option.{none, some}
+use Prim.Native.Nat.{ℕ, _+_, _*_, _<_, _≤_}
 use native.Mathlib.Omega.{arith}
 use borrow.Author.Tests.{le-leb, lt-leb}
 use lib.Dec.{leb}
-use lib.ListN.{length, getD, set, length-set}
-use lib.Seq.{getD-set-other, getD-set-same}
-use Rattle.cpl.specs.Accept.{Fault, _then_, clash, fault, must, nodeFault}
+use lib.ListN.{length, set, length-set}
+use lib.Seq.{getD-set-other}
+use Rattle.cpl.specs.Accept.{_then_, clash, fault, must, nodeFault}
 use Rattle.cpl.specs.Codes.{CLASH, FIELDS, UNKNOWN, WIDTH}
 use Rattle.cpl.specs.Limits.{maxFields}
 use Rattle.cpl.specs.Plan.{Catalogue, Pair}
@@ -19,8 +19,7 @@ use Rattle.lookup.specs.declared.Sides.{Sides}
 use Rattle.lookup.proofs.Rows.{kept-refl, row-high}
 use Rattle.accept.specs.Heads.{fieldsHead, headFault}
 use Rattle.accept.specs.Nodes.{SidesReady}
-use Rattle.accept.specs.Verdicts.{Judged, faultOf}
-use Rattle.accept.specs.declared.Verdict.{Verdict}
+use Rattle.accept.specs.Verdicts.{Judged}
 use Rattle.accept.specs.declared.Verdict.the-variants.{Fine, Bad}
 
 -- ── the tests in their order ────────────────────────────────────────────────────────────────

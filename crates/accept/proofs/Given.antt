@@ -1,15 +1,14 @@
 -- The fields of a node, kind by kind. Assumes nothing.
-use mathlib.Core.Path.{_≡_, refl, sym, ap, ap₂, subst, _∙_}
+use mathlib.Core.Path.{_≡_, refl, sym, ap, ap₂, _∙_}
 use mathlib.Core.Bool.{Bool, true, false, cond, true≢false}
 use mathlib.Core.List.{List, [], _∷_, _++_, map}
-use Prim.Native.Nat.{ℕ, zero, suc, _+_, _<_, _≤_}
+use Prim.Native.Nat.{ℕ, zero, suc, _+_}
 use native.Mathlib.Omega.{arith}
 use lib.Dec.{eqb}
 use lib.ListN.{length, getD}
 use Rattle.cpl.specs.Accept.{even, together}
-use Rattle.cpl.specs.Fields.{binaryFields, columnsOf, leafFields, scanField, unaryFields}
+use Rattle.cpl.specs.Fields.{binaryFields, columnsOf, leafFields, scanField}
 use Rattle.cpl.specs.Plan.{Catalogue, Expr, Pair, aggPair, bare, itemPair, named, scan, winPair}
-use Rattle.cpl.specs.Tests.{iota}
 use Rattle.arena.specs.Cells.{exprAt}
 use Rattle.arena.specs.Rows.{itemAt, itemsAt, markAt, pairAt, rootAt, rowItem}
 use Rattle.tree.specs.Rows.{aggAt, aggsAt, listAt, one, pairsAt, winAt, winSize, winsAt}
@@ -17,7 +16,6 @@ use Rattle.tree.specs.Tree.{Arrays, headOf, if?, lent}
 use Rattle.tree.specs.declared.Node.{Node}
 use Rattle.tree.specs.declared.Node.the-variants.{Projection, Filter, Sort, Limit, Aggregate, Window, SubqueryAlias, Union, Distinct, Join, Scan, Empty}
 use Rattle.lookup.proofs.Lists.{list-append, list-map}
-use Rattle.parts.proofs.Exprs.{items-list}
 use Rattle.accept.specs.Heads.{evenHead, fieldsHead, togetherHead}
 use Rattle.lookup.specs.Fields.{leftRow, rightRow}
 use Rattle.lookup.specs.declared.Sides.{Sides}

@@ -1,14 +1,13 @@
 -- Node by node: what a tree says of a node is what code needs to judge it. Assumes nothing.
-use mathlib.Core.Path.{_≡_, refl, sym, ap, ap₂, subst, _∙_}
-use mathlib.Core.Bool.{Bool, true, false}
-use mathlib.Core.List.{List, [], _∷_, _++_, map}
-use mathlib.Core.Option.{Option, none, some}
-use Prim.Native.Nat.{ℕ, zero, suc, _+_, _-_, _*_, _<_, _≤_}
+use mathlib.Core.Path.{_≡_, sym, subst}
+use mathlib.Core.Bool.{true}
+use mathlib.Core.List.{List, []}
+use Prim.Native.Nat.{ℕ, zero, suc, _+_, _<_, _≤_}
 use native.Mathlib.Decide.{ℕ-discrete}
 use native.Mathlib.Omega.{arith}
 use lib.ListN.{length, getD}
-use Rattle.cpl.specs.Lists.{All, a[], _a∷_}
-use Rattle.cpl.specs.Plan.{Catalogue, Plan, leaf}
+use Rattle.cpl.specs.Lists.{All, _a∷_}
+use Rattle.cpl.specs.Plan.{Catalogue, Plan}
 use Rattle.cpl.specs.ReadPlan.{Head, h0, h1, h2}
 use Rattle.cpl.specs.Writable.{FitColumns, FitLeaf, FitList, FitPlan}
 use Rattle.arena.specs.Rows.{RowsOk}
@@ -19,9 +18,8 @@ use Rattle.tree.specs.declared.Node.{Node}
 use Rattle.tree.specs.declared.Node.the-variants.{Projection, Filter, Sort, Limit, Aggregate, Window, SubqueryAlias, Union, Distinct, Join, Scan, Empty}
 use Rattle.tree.specs.declared.ScanNode.{ScanNode}
 use Rattle.lookup.proofs.Lists.{list-length}
-use Rattle.parts.specs.Catalogue.{NamesOk, TableIn, catalogueAt, tableAt}
-use Rattle.parts.specs.Parts.{ColumnOk, WinInside}
-use Rattle.parts.proofs.Exprs.{each-map}
+use Rattle.parts.specs.Catalogue.{NamesOk, TableIn, catalogueAt}
+use Rattle.parts.specs.Parts.{WinInside}
 use Rattle.parts.proofs.Tables.{catalogue-at, catalogue-length}
 use Rattle.accept.specs.Nodes.{Named, NodeInside, ScanInside}
 

@@ -1,13 +1,13 @@
 -- Plan by plan: a node's own verdict after its inputs' is the plan's. Assumes nothing.
 use mathlib.Core.Path.{_≡_, refl, sym, ap, ap₂, subst, _∙_}
-use mathlib.Core.Bool.{Bool, true, false, not}
-use mathlib.Core.List.{List, [], _∷_, _++_}
+use mathlib.Core.Bool.{false}
+use mathlib.Core.List.{List, []}
 use mathlib.Core.Option.{Option, none, some}
-use Prim.Native.Nat.{ℕ, zero, suc, _+_, _*_, _<_, _≤_}
+use Prim.Native.Nat.{ℕ, suc, _+_, _*_, _<_, _≤_}
 use native.Mathlib.Decide.{decLt}
 use native.Mathlib.Omega.{arith}
 use lib.ListN.{length}
-use Rattle.cpl.specs.Accept.{Fault, _then_, check, clash, fault}
+use Rattle.cpl.specs.Accept.{Fault, _then_, check, clash}
 use Rattle.cpl.specs.Exprs.{planNodes}
 use Rattle.cpl.specs.Fields.{fieldsOf}
 use Rattle.cpl.specs.Plan.{Binary, Catalogue, Leaf, Pair, Plan, Unary, binary, leaf, unary}
@@ -19,14 +19,13 @@ use Rattle.tree.specs.Rows.{listAt}
 use Rattle.tree.specs.Shows.{HasInput, HasInputs, Stands}
 use Rattle.tree.specs.Tree.{Arrays, headOf, planAt, rightOf}
 use Rattle.tree.specs.declared.Node.{Node}
-use Rattle.lookup.specs.Fields.{RowsKept, WidthsKept, fieldAt, fieldsAt, leftRow, rightRow, rowAt, widthAt}
+use Rattle.lookup.specs.Fields.{RowsKept, WidthsKept, fieldAt, fieldsAt, rowAt, widthAt}
 use Rattle.lookup.specs.declared.Sides.{Sides}
 use Rattle.lookup.proofs.Rows.{kept-trans, kept-wide, row-high, row-low}
 use Rattle.accept.specs.Heads.{headFault}
 use Rattle.accept.specs.Nodes.{SidesReady}
 use Rattle.accept.specs.Verdicts.{Checked, FieldsStand, Judgeable, Judged, endOf, faultOf}
 use Rattle.accept.specs.declared.Verdict.{Verdict}
-use Rattle.accept.specs.declared.Verdict.the-variants.{Fine, Bad}
 use Rattle.accept.proofs.Inside.{from-on}
 
 -- ── `check`, one step ───────────────────────────────────────────────────────────────────────

@@ -1,19 +1,18 @@
 -- Rows that are stored, and the part of them that does not clash. Assumes nothing.
 use mathlib.Core.Path.{_≡_, refl, sym, ap, ap₂, subst, _∙_}
-use mathlib.Core.Bool.{Bool, true, false}
-use mathlib.Core.List.{List, [], _∷_, _++_, map}
-use Prim.Native.Nat.{ℕ, zero, suc, _+_, _-_, _*_, _<_, _≤_}
+use mathlib.Core.Bool.{false}
+use mathlib.Core.List.{List, [], _∷_, _++_}
+use Prim.Native.Nat.{ℕ, zero, suc, _+_, _*_, _<_, _≤_}
 use native.Mathlib.Omega.{arith}
 use lib.ListN.{length, length-append}
 use Rattle.cpl.specs.Accept.{clash}
 use Rattle.cpl.specs.Plan.{Pair}
-use Rattle.tree.specs.Rows.{AllAt, Inside, listAt, one, winSize, lastRow}
-use Rattle.lookup.specs.Fields.{Filled, RowIn, RowsKept, fieldAt, leftRow, rightRow, rowAt}
-use Rattle.lookup.specs.declared.Sides.{Sides}
-use Rattle.lookup.proofs.Lists.{list-length, list-append, list-same}
+use Rattle.tree.specs.Rows.{AllAt, listAt, one, winSize}
+use Rattle.lookup.specs.Fields.{Filled, fieldAt, rowAt}
+use Rattle.lookup.proofs.Lists.{list-length, list-append}
 use Rattle.lookup.proofs.Rows.{kept-refl, kept-trans, row-high}
 use Rattle.parts.specs.Parts.{WinInside}
-use Rattle.accept.specs.Nodes.{Rowed, SidesReady}
+use Rattle.accept.specs.Nodes.{Rowed}
 use Rattle.accept.specs.declared.Row.{Row}
 
 pub row-length : (s : List ℕ) (k n : ℕ) → length (rowAt s k n) ≡ n

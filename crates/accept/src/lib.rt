@@ -21,6 +21,9 @@ ghost use Rattle.tree.specs.Node.{joinIs};
 ghost use Rattle.tree.specs.Rows.{AllAt, columnsAt, EachOk, Inside, listAt, pairsAt, winSize};
 ghost use Rattle.tree.specs.Tree.{headOf, if?, lent, PartsOk};
 use lookup::Sides;
+use parts::known_aggs;
+use parts::known_roots;
+use parts::known_wins;
 use tree::JoinNode;
 use tree::JoinType;
 use tree::Node;
@@ -167,29 +170,22 @@ fn node_known(cells: &[u64], rows: &[u16], node: Node, fields: &[u16], sides: Si
     let k = sides.left;
     let width = sides.lwidth;
     match node {
-        Node::Projection { first, n } => parts::known_roots(
-            cells,
-            rows,
-            first,
-            n,
-            fields,
-            k,
-            width,
-        ),
+        Node::Projection { first, n } => known_roots(cells, rows, first, n, fields, k, width),
         Node::Filter { root } => lookup::known_expr(cells, root, fields, k, width),
-        Node::Sort { first, n } => parts::known_roots(cells, rows, first, n, fields, k, width),
+        Node::Sort { first, n } => known_roots(cells, rows, first, n, fields, k, width),
         Node::Limit { skip: _, fetch: _ } => true,
         Node::Aggregate {
             first,
             groups,
             aggregates,
         } => {
-            if parts::known_roots(cells, rows, first, groups, fields, k, width) {
-                return parts::known_aggs(cells, rows, first + groups, aggregates, fields, k, width);
+            if known_roots(cells, rows, first, groups, fields, k, width) {
+                let next = first + groups;
+                return known_aggs(cells, rows, next, aggregates, fields, k, width);
             }
             false
         }
-        Node::Window { first, n } => parts::known_wins(cells, rows, first, n, fields, k, width),
+        Node::Window { first, n } => known_wins(cells, rows, first, n, fields, k, width),
         Node::SubqueryAlias { qualifier: _ } => true,
         Node::Union { right: _ } => true,
         Node::Distinct => true,
@@ -368,6 +364,18 @@ fn one_side(left: usize, width: usize) -> Sides
     }
 }
 
+/// The sides of a node with two inputs.
+fn two_sides(left: usize, lwidth: usize, right: usize, rwidth: usize) -> Sides
+    ensures { λ r. ⌜ (r .left ≡ left) × (r .lwidth ≡ lwidth) × (r .right ≡ right) × (r .rwidth ≡ rwidth) ⌝ }
+{
+    Sides {
+        left,
+        lwidth,
+        right,
+        rwidth,
+    }
+}
+
 /// The verdict on node `k` alone, whose sides are its inputs' fields: 8, 9, 10, 7 in that order. Its fields are stored. Its rows and roots are
 /// well formed, and what gives its fields lies in the arrays.
 fn own_verdict(
@@ -411,88 +419,47 @@ fn own_verdict(
 }
 
 /// The verdict on the plan at node `k`, children first, left before right. Where it is fine, the fields of each of the plan's nodes are stored.
-/// Requires a tree of `count` nodes of which `k` is one, `tables` tables, and room for the fields and the widths of 256 nodes.
+/// Requires a tree of `n` nodes of which `k` is one, `tables` tables, and room for the fields and the widths of 256 nodes.
 pub fn accept_node(
     cells: &[u64],
     rows: &[u16],
     nodes: &[u64],
-    count: usize,
+    n: usize,
     names: &[u16],
     tables: usize,
     fields: &mut [u16],
     widths: &mut [u64],
     k: usize,
 ) -> Verdict
-    requires { ⌜ Judgeable (catalogueAt (now names) tables) (lent (now cells) (now rows) (now nodes)) count (now names) tables (now fields) (now widths) k ⌝ }
+    requires { ⌜ Judgeable (catalogueAt (now names) tables) (lent (now cells) (now rows) (now nodes)) n (now names) tables (now fields) (now widths) k ⌝ }
     ensures { λ r. ⌜ Checked (catalogueAt (now (names .entry)) tables) (lent (now (cells .entry)) (now (rows .entry)) (now (nodes .entry))) k (now (fields .entry)) (now (widths .entry)) (now (fields .exit)) (now (widths .exit)) r ⌝ }
 {
     let node = tree::node_at(nodes, k);
     let kids = kids_of(node);
     let left = k + 1;
     match kids {
-        Kids::Nothing => own_verdict(
-            cells,
-            rows,
-            names,
-            node,
-            one_side(left, 0),
-            fields,
-            widths,
-            k,
-        ),
+        Kids::Nothing => {
+            let sides = one_side(left, 0);
+            own_verdict(cells, rows, names, node, sides, fields, widths, k)
+        }
         Kids::One => {
-            let first = accept_node(
-                cells,
-                rows,
-                nodes,
-                count,
-                names,
-                tables,
-                fields,
-                widths,
-                left,
-            );
-            let Verdict::Fine = first else {
-                return first;
+            let below = accept_node(cells, rows, nodes, n, names, tables, fields, widths, left);
+            let Verdict::Fine = below else {
+                return below;
             };
             let sides = one_side(left, widths[left] as usize);
             own_verdict(cells, rows, names, node, sides, fields, widths, k)
         }
         Kids::Two(right) => {
-            let first = accept_node(
-                cells,
-                rows,
-                nodes,
-                count,
-                names,
-                tables,
-                fields,
-                widths,
-                left,
-            );
+            let first = accept_node(cells, rows, nodes, n, names, tables, fields, widths, left);
             let Verdict::Fine = first else {
                 return first;
             };
-            let second = accept_node(
-                cells,
-                rows,
-                nodes,
-                count,
-                names,
-                tables,
-                fields,
-                widths,
-                right,
-            );
+            let second = accept_node(cells, rows, nodes, n, names, tables, fields, widths, right);
             let Verdict::Fine = second else {
                 return second;
             };
-            let sides = Sides {
-                left,
-                lwidth: widths[left] as usize,
-                right,
-                rwidth: widths[right] as usize,
-            };
+            let sides = two_sides(left, widths[left] as usize, right, widths[right] as usize);
             own_verdict(cells, rows, names, node, sides, fields, widths, k)
         }
     }

@@ -1,14 +1,14 @@
 -- Rows of fields that are kept, and rows that are filled field by field. Assumes nothing.
 use mathlib.Core.Path.{_≡_, refl, sym, ap, ap₂, subst, _∙_}
 use mathlib.Core.List.{List, [], _∷_, _++_, append-nil, append-assoc}
-use Prim.Native.Nat.{ℕ, zero, suc, _+_, _-_, _*_, _<_, _≤_}
+use Prim.Native.Nat.{ℕ, _+_, _*_, _<_, _≤_}
 use native.Mathlib.Omega.{arith}
 use lib.ListN.{length, getD, set, length-set}
 use lib.Seq.{getD-set-same, getD-set-other}
 use Rattle.cpl.specs.Plan.{Pair, pair}
 use Rattle.tree.specs.Rows.{listAt, one}
-use Rattle.lookup.specs.Fields.{fieldAt, rowAt, RowIn, widthAt, fieldsAt, Kept, RowsKept, WidthsKept, Filled}
-use Rattle.lookup.proofs.Lists.{list-same, list-append, list-length, rest, rest-all, rest-next, rest-none}
+use Rattle.lookup.specs.Fields.{fieldAt, rowAt, Kept, RowsKept, Filled}
+use Rattle.lookup.proofs.Lists.{list-same, list-append, rest, rest-all, rest-next, rest-none}
 
 -- ── what is kept ────────────────────────────────────────────────────────────────────────────
 

@@ -1,7 +1,7 @@
 -- How two lent arrays stand for the fields of nodes. Field j is the two numbers at 2 * j of `fields`, its qualifier and its name. The fields of
 -- node k are those from 128 * k on, as many as `widths` has at k.
 use mathlib.Core.Path.{_≡_}
-use mathlib.Core.List.{List, _++_}
+use mathlib.Core.List.{List}
 use Prim.Native.Nat.{ℕ, _+_, _*_, _<_, _≤_}
 use lib.ListN.{length, getD}
 use Rattle.cpl.specs.Plan.{Pair, pair}

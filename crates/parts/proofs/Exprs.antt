@@ -1,22 +1,19 @@
 -- The expressions of a node's parts, and when they are known. Assumes nothing.
 use mathlib.Core.Path.{_≡_, refl, sym, ap, ap₂, _∙_}
-use mathlib.Core.Bool.{Bool, true, false, cond, _&&_}
+use mathlib.Core.Bool.{Bool, true, false, _&&_}
 use mathlib.Core.List.{List, [], _∷_, _++_, map}
-use Prim.Native.Nat.{ℕ, zero, suc, _+_, _-_, _*_, _<_, _≤_}
+use Prim.Native.Nat.{ℕ, zero, suc, _+_, _<_}
 use native.Mathlib.Omega.{arith}
 use borrow.Author.Tests.{eq-eqb, ne-eqb}
-use lib.Dec.{eqb}
 use lib.ListN.{length}
 use Rattle.cpl.specs.Accept.{knownOn}
-use Rattle.cpl.specs.Codes.{fnOf}
 use Rattle.cpl.specs.Exprs.{aggExprs, callExprs, known, winExprs}
-use Rattle.cpl.specs.Plan.{Pair, Expr, Item, Key, Call, rows, over, Agg, agg, Win, win, On, on, itemExpr, keyExpr}
-use Rattle.cpl.specs.Read.{pick}
+use Rattle.cpl.specs.Plan.{Pair, Expr, itemExpr, keyExpr}
 use Rattle.cpl.specs.Tests.{allB, concatMap}
 use Rattle.arena.specs.Cells.{exprAt}
-use Rattle.arena.specs.Rows.{RowOk, RowsOk, itemAt, itemsAt, rootAt}
+use Rattle.arena.specs.Rows.{RowsOk, itemAt, itemsAt}
 use Rattle.arena.proofs.Rows.{item-expr}
-use Rattle.tree.specs.Rows.{AggOk, AllAt, EachOk, ExprOk, KeyOk, OnOk, WinOk, aggAt, aggsAt, callOf, exprsAt, keyAt, keyOf, keysAt, listAt, numberAt, one, onAt, winAt}
+use Rattle.tree.specs.Rows.{EachOk, ExprOk, KeyOk, aggAt, callOf, exprsAt, keyAt, keyOf, keysAt, listAt, one, onAt, winAt}
 use Rattle.tree.specs.Shows.{AggIs, OnIs, WinIs}
 use Rattle.lookup.proofs.Lists.{list-map, list-same}
 

@@ -1,14 +1,13 @@
 -- Things that take several rows each, one after the other. Assumes nothing.
-use mathlib.Core.Path.{_≡_, refl, sym, ap, ap₂, _∙_, subst}
+use mathlib.Core.Path.{_≡_, sym, ap, ap₂, _∙_, subst}
 use mathlib.Core.Bool.{Bool, true, false, _&&_}
-use mathlib.Core.List.{List, [], _∷_, _++_, map}
-use Prim.Native.Nat.{ℕ, zero, suc, _+_, _-_, _*_, _<_, _≤_}
+use mathlib.Core.List.{List, [], _∷_, _++_}
+use Prim.Native.Nat.{ℕ, suc, _+_, _-_, _*_, _<_, _≤_}
 use native.Mathlib.Omega.{arith}
-use lib.ListN.{length}
 use Rattle.cpl.specs.Plan.{Pair}
 use Rattle.cpl.specs.Tests.{allB}
 use Rattle.tree.specs.Rows.{AllAt, listAt}
-use Rattle.lookup.specs.Fields.{Filled, Kept, RowsKept, fieldAt, rowAt}
+use Rattle.lookup.specs.Fields.{Filled, Kept, fieldAt, rowAt}
 use Rattle.lookup.proofs.Rows.{Filling, fill-all, fill-more, fill-none}
 
 module _ (Ok : ℕ → Type 0) (size : ℕ → ℕ) (r n i : ℕ) where

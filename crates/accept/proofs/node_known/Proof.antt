@@ -55,8 +55,8 @@ known-roots-requires-3 c κs =
     let pre = c .before .before .before .before .before .before .pre in
     (items-roots ((rw (node4 .given .1) at (pre .0)) .0), pre .1 .left-in)
 
-add-known-aggs : tie.Need-add-known-aggs
-add-known-aggs c =
+add-next : tie.Need-add-next
+add-next c =
     let node4 = c .before .before .before .node4 in
     let pre = c .before .before .before .before .before .before .before .before .pre in
     omega (arith, (rw (node4 .given .1) at (pre .0)) .1 .room)
@@ -202,4 +202,4 @@ returns-13 c =
     known-at (args .cells .now) (args .rows .now) (leftRow (args .fields .now) (args .sides)) (rightRow (args .fields .now) (args .sides)) (enum-told6 .given .1)
 
 pub node-known-spec : {M : Type 1} → statement M
-node-known-spec = tie.close (tie.spec enum-known-node known-roots-requires enum-known-node-2 known-expr-requires enum-known-node-3 known-roots-requires-2 enum-told enum-known-node-4 known-roots-requires-3 add-known-aggs known-aggs-requires returns enum-known-node-5 known-wins-requires enum-told-2 enum-told-3 enum-told-4 enum-known-node-6 join-known-requires enum-told-5 enum-told-6 returns-2 returns-3 returns-4 returns-5 returns-6 returns-7 returns-8 returns-9 returns-10 returns-11 returns-12 returns-13)
+node-known-spec = tie.close (tie.spec enum-known-node known-roots-requires enum-known-node-2 known-expr-requires enum-known-node-3 known-roots-requires-2 enum-told enum-known-node-4 known-roots-requires-3 add-next known-aggs-requires returns enum-known-node-5 known-wins-requires enum-told-2 enum-told-3 enum-told-4 enum-known-node-6 join-known-requires enum-told-5 enum-told-6 returns-2 returns-3 returns-4 returns-5 returns-6 returns-7 returns-8 returns-9 returns-10 returns-11 returns-12 returns-13)

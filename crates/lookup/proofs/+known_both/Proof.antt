@@ -1,8 +1,8 @@
 -- The proof of the cycle of calls {known_both}. The measure is the node's number. Assumes nothing.
 use Prim.Native.Nat.{_<_, ℕ}
-use Rattle.arena.proofs.Laws.{operand}
-use Rattle.arena.proofs.Rows.{Asked}
+use Rattle.arena.proofs.Laws.{below, operand}
 use Rattle.lookup.proofs.Known.{known-bin, known-bin-no, known-col, known-lit, known-miss, known-un}
+use Rattle.lookup.proofs.Lists.{Asked}
 use Rattle.tree.proofs.Plans.{taken}
 use borrow.Author.Needs.{needs}
 use mathlib.Core.Path.{_∙_, sym}

@@ -1,0 +1,2 @@
+-- The plan of one node that is judged.
+pub mod Node

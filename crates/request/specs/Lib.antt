@@ -1,0 +1,2 @@
+-- What an answer on a request stands for.
+pub mod Requests
