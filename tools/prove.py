@@ -37,7 +37,7 @@ def fields(p):
     for m in re.finditer(r'(?m)^( *)pub record \S+.*where\n((?:\1  .*\n|\n)+)',t):
         for k in re.finditer(r'(?m)^\s*pub (\S+) :',m.group(2)): r.add(k.group(1))
     return r
-order=['cpl','rules','required_indices','arena','tree','lookup','parts','accept']
+order=['cpl','rules','required_indices','arena','tree','lookup','parts','accept','reader_fields','reader_parts','reader_heads','reader','request','intake']
 for c in order:
     for kind in ('specs','proofs'):
         for p in sorted(glob.glob(f'crates/{c}/{kind}/*.antt')):
