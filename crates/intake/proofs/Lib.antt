@@ -1,0 +1,4 @@
+-- Laws of intakes.
+pub mod Tables
+pub mod Ways
+pub mod All

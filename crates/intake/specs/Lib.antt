@@ -1,0 +1,2 @@
+-- Intakes.
+pub mod Intake
