@@ -1,0 +1,546 @@
+#!/usr/bin/env python3
+"""tools/choose_vectors.py [LIBRARY]: writes crates/replay/stdin and crates/replay/stdout.
+
+The vectors that the gate replays: cases made by hand from document 01, then a choice of the lines of LIBRARY (../shared/vectors/library.txt).
+
+By hand. Each case below has the answer that document 01 gives, written down beside it, never computed by code of this project: a
+result is spelled out as bytes, a refusal as code and place. A file is a list of fields, so that an offset is the sum of the sizes before it.
+
+Choice. Lines are looked at short ones first, none over 3,000 characters. A line is taken where it has a trait of which fewer than the
+wanted number were taken. Traits: its code (12 of each, so all where there are fewer); the field at which it is refused (2); each node kind in
+the file and in the result of a success (6 each), join type, function, expression tag (3 each); a count at its limit; mode, mask and
+request with the code (2); no room to spare, or one byte too little (5 each).
+"""
+import sys
+from pathlib import Path
+
+ROOT = Path(__file__).resolve().parent.parent
+LONGEST = 3000
+ROOM = 65536
+
+
+# ── pieces of plan files ──────────────────────────────────────────────────────────────────────
+
+
+def u8(x):
+    return bytes([x])
+
+
+def u16(x):
+    return x.to_bytes(2, 'little')
+
+
+def u32(x):
+    return x.to_bytes(4, 'little')
+
+
+def join(*parts):
+    return b''.join(parts)
+
+
+MARK = b'CPL' + u16(1)
+NO_TABLES = MARK + u8(0)  # 6 bytes: the plan starts at 6
+ONE_NAME = MARK + u8(1) + u8(1) + u16(1)  # 9 bytes: one table of one column
+HEADER = MARK + u8(1) + u8(3) + u16(1) + u16(2) + u16(3)  # 13 bytes: document 01's table 0 with names 1, 2, 3
+
+
+def pair(q, n):
+    return u16(q) + u16(n)
+
+
+def col(q, n):
+    return u8(0) + pair(q, n)
+
+
+def lit(x):
+    return u8(1) + x.to_bytes(8, 'little')
+
+
+MISSING = u8(2)
+
+
+def alias(q, n, e):
+    return u8(12) + pair(q, n) + e
+
+
+def add(x, y):
+    return u8(5) + x + y
+
+
+def equal(x, y):
+    return u8(8) + x + y
+
+
+def projection(*items):
+    return u8(1) + u8(len(items)) + join(*items)
+
+
+def filter_(e):
+    return u8(2) + e
+
+
+def limit(skip, fetch):
+    return u8(4) + u32(skip) + u32(fetch)
+
+
+UNION = u8(8)
+DISTINCT = u8(9)
+
+
+def aggregate(groups, aggs):
+    return u8(5) + u8(len(groups)) + join(*groups) + u8(len(aggs)) + join(*aggs)
+
+
+def join_on(kind, pairs=(), condition=None):
+    on = join(*[x + y for x, y in pairs])
+    return u8(10) + u8(kind) + u8(len(pairs)) + on + (u8(0) if condition is None else u8(1) + condition)
+
+
+def scan(columns=None, table=0, q=1):
+    head = u8(11) + u8(table) + u16(q)
+    return head + (u8(0) if columns is None else u8(1) + u8(len(columns)) + bytes(columns))
+
+
+def empty(pairs=(), one_row=0):
+    return u8(12) + u8(one_row) + u8(len(pairs)) + join(*pairs)
+
+
+# Document 01's letters, as docs/DECISIONS.md chooses them.
+S = scan()
+A, B, C = col(1, 1), col(1, 2), col(1, 3)
+X, Y, Z = (0, 7), (0, 8), (0, 9)
+B_IS_5 = filter_(equal(B, lit(5)))
+
+
+# ── cases made by hand ────────────────────────────────────────────────────────────────────────
+
+cases = []
+
+
+def case(mode, mask, room, request, file, code, place, out):
+    asked = '*' if request is None else ','.join(map(str, request)) or '-'
+    cases.append(f'{mode} {mask} {room} {asked} {file.hex() or "-"} => {code} {len(out)} {place} {out.hex() or "-"}')
+
+
+def gives(out, file, request=None, mode=1, mask=0, room=ROOM):
+    case(mode, mask, room, request, file, 0, 0, out)
+
+
+def refused(code, place, file, request=None, mode=1, mask=0, room=ROOM):
+    case(mode, mask, room, request, file, code, place, b'')
+
+
+def settings_and_marks():
+    refused(2, 0, b'')
+    refused(3, 5, MARK)
+    refused(2, 0, MARK[:4])
+    refused(2, 0, MARK[:1])
+    for mark in (b'cpl\x01\x00', b'CPM\x01\x00', b'DPL\x01\x00', b'CPL\x00\x00', b'CPL\x02\x00', b'CPL\x01\x01', b'\x00' * 5):
+        refused(2, 0, mark)
+        refused(2, 0, mark + HEADER[5:] + S)
+    for mode, mask in ((2, 0), (255, 0), (0, 4096), (1, 65535), (2, 4096)):
+        refused(1, 0, b'', mode=mode, mask=mask)
+        refused(1, 0, HEADER + S, [1, 1], mode=mode, mask=mask, room=0)
+    for mode in (0, 1):
+        gives(HEADER + scan([0, 1, 2]), HEADER + S, mode=mode, mask=4095)
+
+
+def samples():
+    for room in (ROOM, 20):
+        gives(HEADER + scan([0]), HEADER + projection(A) + S, room=room)  # S1
+    # "output shorter than the result": 13 bytes of catalogue and 7 of the scan
+    for room in (0, 1, 19):
+        refused(13, 20, HEADER + projection(A) + S, room=room)
+    # S2
+    top = projection(alias(*X, A)) + B_IS_5
+    gives(HEADER + top + scan([0, 1]), HEADER + top + S)
+    # S3
+    sum_b, max_c = pair(*X) + u8(2) + B, pair(*Y) + u8(4) + C
+    gives(HEADER + limit(0, 3) + aggregate([A], [max_c]) + scan([0, 2]), HEADER + limit(0, 3) + aggregate([A], [sum_b, max_c]) + S, [2])
+    # S4
+    gives(HEADER + empty(one_row=1), HEADER + aggregate([], [pair(*X) + u8(0)]) + S, [])
+    # S5
+    rows = u8(6) + u8(1) + pair(*X) + u8(0) + u8(1) + A + u8(1) + u8(0) + B
+    gives(HEADER + scan([0]), HEADER + rows + S, [0])
+    gives(HEADER + rows + scan([0, 1]), HEADER + rows + S, [3])
+    # S6
+    gives(HEADER + scan([2]), HEADER + scan([2, 0]), [0])
+    # S7
+    y_1 = projection(alias(*Y, add(col(*Y), lit(1))))
+    a_y = projection(alias(*Y, A))
+    once = projection(alias(*Y, add(A, lit(1))))
+    twice = projection(alias(*Y, add(add(A, lit(1)), lit(1))))
+    gives(HEADER + once + scan([0]), HEADER + y_1 + y_1 + a_y + S, mode=0)
+    gives(HEADER + twice + scan([0]), HEADER + y_1 + y_1 + a_y + S, mode=1)
+    # S8
+    y_y = projection(alias(*Z, add(col(*Y), col(*Y))))
+    a_1 = add(A, lit(1))
+    gives(HEADER + y_y + once + scan([0]), HEADER + y_y + once + S)
+    gives(HEADER + projection(alias(*Z, add(a_1, a_1))) + scan([0]), HEADER + y_y + once + S, mask=32)
+
+
+def requests():
+    refused(11, 1, HEADER + S, [1, 1])
+    for place, request in ((0, [3]), (0, [65535]), (1, [0, 3]), (1, [2, 1]), (2, [0, 1, 1]), (2, [0, 2, 1, 9]), (3, [0, 1, 2, 3])):
+        refused(11, place, HEADER + S, request)
+        refused(11, place, HEADER + S, request, room=0)  # before ROOM
+    gives(HEADER + scan([]), HEADER + S, [])
+    gives(HEADER + scan([1]), HEADER + S, [1])
+    gives(HEADER + scan([0, 1, 2]), HEADER + S, [0, 1, 2])
+    gives(HEADER + B_IS_5 + scan([0, 1]), HEADER + B_IS_5 + S, [0])
+    # beneath the filter a and b are asked for and Distinct keeps all three: topped up
+    gives(HEADER + B_IS_5 + projection(A, B) + DISTINCT + scan([0, 1, 2]), HEADER + B_IS_5 + DISTINCT + S, [0])
+
+
+def counts_of_fields():
+    def many(k, q):
+        return empty([pair(q, i + 1) for i in range(k)])
+
+    row_number = u8(6) + u8(1) + pair(0, 200) + u8(0) + u8(0) + u8(0)
+    for file in (join_on(0) + many(127, 1) + many(1, 2), row_number + many(127, 1), many(128, 1)):
+        gives(NO_TABLES + file, NO_TABLES + file)
+    refused(10, 0, NO_TABLES + join_on(0) + many(128, 1) + many(1, 2))
+    refused(10, 0, NO_TABLES + row_number + many(128, 1))
+    refused(10, 1, NO_TABLES + DISTINCT + join_on(3) + many(1, 1) + many(128, 2))
+    # 128 fields of one side: a semi join's own fields are counted; nothing is asked of the other side, which is topped up with no items
+    gives(NO_TABLES + join_on(4) + many(128, 1) + projection() + many(1, 2), NO_TABLES + join_on(4) + many(128, 1) + many(1, 2))
+    wide = MARK + u8(1) + u8(64) + join(*[u16(i + 1) for i in range(64)])
+    every = list(range(64))
+    gives(wide + join_on(0) + scan(every) + scan(every, q=2), wide + join_on(0) + scan() + scan(q=2))
+    refused(10, 0, wide + join_on(0) + join_on(0) + scan() + scan(q=2) + scan([0], q=3))
+
+
+def limits_of_a_file():
+    # 256 nodes; the 257th at offset 6 + 256, before its value, after a cut
+    gives(NO_TABLES + DISTINCT * 255 + empty(), NO_TABLES + DISTINCT * 255 + empty())
+    refused(5, 262, NO_TABLES + DISTINCT * 256 + empty())
+    refused(5, 262, NO_TABLES + DISTINCT * 256 + u8(99))
+    refused(3, 262, NO_TABLES + DISTINCT * 256)
+    # 4,096 tags; the 4,097th at offset 7 + 4096
+    gives(NO_TABLES + filter_(u8(3) * 4095 + MISSING) + empty(), NO_TABLES + filter_(u8(3) * 4095 + MISSING) + empty())
+    refused(5, 4103, NO_TABLES + filter_(u8(3) * 4096 + MISSING) + empty())
+    # 16 tables, 64 columns
+    gives(MARK + u8(16) + bytes(16) + empty(), MARK + u8(16) + bytes(16) + empty())
+    for count in (17, 255):
+        refused(5, 5, MARK + u8(count) + bytes(count) + empty())
+    refused(5, 6, MARK + u8(1) + u8(65) + join(*[u16(i + 1) for i in range(65)]) + S)
+    refused(5, 9, MARK + u8(2) + u8(1) + u16(1) + u8(255))
+
+
+def large():
+    """Each step of [y+y as y] doubles: with k of them alias, 2^k - 1 sums and 2^k columns, 2^(k+1) tags. House mode merges them with mask 32."""
+    y_y = projection(alias(*Y, add(col(*Y), col(*Y))))
+    a_y = projection(alias(*Y, A))
+
+    def tree(k, leaf):
+        return leaf if k == 0 else add(tree(k - 1, leaf), tree(k - 1, leaf))
+
+    refused(12, 0, HEADER + y_y * 12 + a_y + S, mask=32)  # 8,192 tags
+    refused(12, 0, HEADER + y_y * 11 + a_y + S, mask=32)  # 4,096 tags, and the two of [a as y] stay beneath
+    refused(12, 0, HEADER + y_y * 12 + a_y + S, mask=32, room=0)  # before ROOM
+    refused(11, 0, HEADER + y_y * 12 + a_y + S, [1], mask=32)  # after REQUEST
+    gives(HEADER + projection(alias(*Y, tree(11, A))) + scan([0]), HEADER + y_y * 11 + a_y + S, mask=33)
+    gives(HEADER + projection(alias(*Y, tree(3, col(*Y)))) + a_y + scan([0]), HEADER + y_y * 3 + a_y + S, mask=32)
+    # crate mode: equal lists fold into one
+    gives(HEADER + y_y + a_y + scan([0]), HEADER + y_y * 12 + a_y + S, mode=0, mask=32)
+    gives(HEADER + projection(alias(*Y, add(A, A))) + scan([0]), HEADER + y_y * 12 + a_y + S, mode=0, mask=33)
+
+
+def values():
+    """A wrong value and a count above its limit, each at its field's offset. The plan starts at 6."""
+    for tag in (0, 13, 255):
+        refused(4, 6, NO_TABLES + u8(tag))
+    for code, place, plan in (
+        # names and qualifiers that may not be 0
+        (4, 11, empty([pair(5, 0)])),
+        (4, 15, empty([pair(5, 1), pair(0, 0)])),
+        (4, 7, u8(7) + u16(0) + empty()),
+        (4, 10, filter_(col(1, 0)) + empty()),
+        (4, 11, projection(alias(0, 0, MISSING)) + empty()),
+        (4, 11, aggregate([], [pair(0, 0) + u8(0)]) + empty()),
+        (4, 10, u8(6) + u8(1) + pair(0, 0) + u8(0) + u8(0) + u8(0) + empty()),
+        # tags of expressions and items
+        (4, 7, filter_(u8(13)) + empty()),
+        (4, 7, filter_(alias(*X, MISSING)) + empty()),
+        (4, 13, projection(alias(*X, alias(*X, MISSING))) + empty()),
+        (4, 8, projection(lit(1)) + empty()),
+        (4, 8, aggregate([MISSING], []) + empty()),
+        # counts
+        (5, 7, u8(1) + u8(129)),
+        (4, 7, u8(3) + u8(0) + empty()),
+        (5, 7, u8(3) + u8(17)),
+        (4, 8, aggregate([], []) + empty()),
+        (5, 7, u8(5) + u8(129)),
+        (5, 8, u8(5) + u8(0) + u8(129)),
+        (4, 7, u8(6) + u8(0) + empty()),
+        (5, 7, u8(6) + u8(129)),
+        (5, 13, u8(6) + u8(1) + pair(*X) + u8(0) + u8(17)),
+        (5, 14, u8(6) + u8(1) + pair(*X) + u8(0) + u8(0) + u8(17)),
+        (5, 8, u8(10) + u8(0) + u8(17)),
+        (5, 8, u8(12) + u8(0) + u8(129)),
+        # flags, functions, types
+        (4, 8, u8(3) + u8(1) + u8(4) + MISSING + empty()),
+        (4, 13, aggregate([], [pair(*X) + u8(5) + MISSING]) + empty()),
+        (4, 12, u8(6) + u8(1) + pair(*X) + u8(5)),
+        (4, 15, u8(6) + u8(1) + pair(*X) + u8(0) + u8(0) + u8(1) + u8(4)),
+        (4, 7, join_on(8) + empty() + empty()),
+        (4, 9, u8(10) + u8(0) + u8(0) + u8(2)),
+        (4, 7, empty(one_row=2)),
+        (4, 7, scan()),
+    ):
+        refused(code, place, NO_TABLES + plan)
+    # names of tables; a scan's parts, with one table of one column: the plan starts at 9
+    refused(4, 7, MARK + u8(1) + u8(1) + u16(0))
+    refused(4, 9, MARK + u8(1) + u8(2) + u16(1) + u16(0))
+    refused(4, 10, ONE_NAME + scan(table=1))
+    refused(4, 11, ONE_NAME + scan(q=0))
+    refused(4, 13, ONE_NAME + scan()[:-1] + u8(2))
+    refused(4, 15, ONE_NAME + scan([1]))
+    refused(4, 16, ONE_NAME + scan([0, 1]))
+    refused(5, 14, ONE_NAME + scan()[:-1] + u8(1) + u8(65))
+    # bytes after the plan
+    for tail in (b'\x00', b'CPL'):
+        refused(6, 18, HEADER + S + tail)
+        refused(6, 9, NO_TABLES + empty() + tail)
+
+
+def cuts():
+    """A plan of every node kind, field by field; cut before each field and before its last byte."""
+    p = [u16(1), u16(1)]  # a pair is two fields
+    a = [u8(0)] + p
+    call = p + [u8(2)] + a
+    catalogue = [u8(1), u8(2), u16(1), u16(2)]
+    plan = (
+        [u8(1), u8(2)] + a + [u8(12)] + p + a  # Projection: an item of tag 0, one of tag 12
+        + [u8(2), u8(8)] + a + [u8(1), bytes(8)]  # Filter: equal, a column, a literal
+        + [u8(3), u8(1), u8(0), u8(3), u8(2)]  # Sort: a key of not missing
+        + [u8(4), u32(0), u32(1)]  # Limit
+        + [u8(5), u8(1)] + a + [u8(1)] + call  # Aggregate
+        + [u8(6), u8(1)] + p + [u8(2), u8(1)] + a + [u8(1), u8(0)] + a + a  # Window: a part, a key, a column
+        + [u8(7), u16(1)]  # SubqueryAlias
+        + [u8(8), u8(9)]  # Union of Distinct, and what follows
+        + [u8(12), u8(0), u8(1)] + p  # Empty
+        + [u8(10), u8(0), u8(1)] + a + a + [u8(1)] + a  # Join: a pair of columns, a condition
+        + [u8(11), u8(0), u16(1), u8(0)]  # Scan of all columns
+        + [u8(11), u8(0), u16(1), u8(1), u8(1), u8(1)]  # Scan of one
+    )
+    file = MARK
+    for field in catalogue + plan:
+        refused(3, len(file), file)
+        if len(field) > 1:
+            refused(3, len(file), file + field[:-1])
+        file += field
+
+
+def acceptance():
+    refused(7, 0, NO_TABLES + empty([pair(0, 1), pair(0, 1)]))
+    refused(7, 0, NO_TABLES + empty([pair(0, 1), pair(5, 1)]))
+    refused(7, 0, NO_TABLES + empty([pair(5, 1), pair(4, 2), pair(0, 1)]))
+    gives(NO_TABLES + empty([pair(4, 1), pair(5, 1)]), NO_TABLES + empty([pair(4, 1), pair(5, 1)]))
+    refused(7, 0, HEADER + scan([0, 0]))
+    refused(7, 2, HEADER + DISTINCT + limit(0, 1) + scan([1, 2, 1]))
+    refused(7, 0, HEADER + u8(7) + u16(9) + join_on(0) + S + scan(q=2))  # both names 1 become (9, 1)
+    for kind in range(8):
+        refused(7, 0, HEADER + join_on(kind) + S + S)
+        refused(7, 1, HEADER + DISTINCT + join_on(kind) + S + S)
+    refused(8, 0, HEADER + filter_(col(1, 9)) + S)
+    refused(8, 0, HEADER + filter_(col(0, 1)) + S)
+    refused(8, 1, HEADER + projection(A) + filter_(col(2, 1)) + S)
+    refused(8, 0, HEADER + join_on(0, [(col(2, 1), col(1, 1))]) + S + scan(q=2))  # each half in its own side
+    refused(8, 0, HEADER + join_on(4, [(A, A)]) + S + scan(q=2))
+    refused(8, 0, HEADER + join_on(0, (), col(3, 1)) + S + scan(q=2))
+    # the condition in both sides: kept as it is, with the columns that it names
+    both = join_on(4, (), equal(A, col(2, 2)))
+    gives(HEADER + both + scan([0, 1, 2]) + scan([1], q=2), HEADER + both + S + scan(q=2))
+    refused(9, 0, HEADER + UNION + S + scan([0]))
+    refused(9, 1, HEADER + DISTINCT + UNION + S + empty())
+    # by place, not by name: the second input's old projection at the request
+    gives(HEADER + UNION + scan([0]) + scan([1]), HEADER + UNION + S + scan([1, 0, 2]), [0])
+    # children first, left before right
+    refused(8, 1, HEADER + UNION + filter_(col(1, 9)) + S + scan([0, 0]))
+    refused(7, 1, HEADER + UNION + scan([0, 0]) + filter_(col(1, 9)) + S)
+    refused(8, 2, HEADER + filter_(col(1, 9)) + filter_(col(1, 8)) + filter_(col(1, 7)) + S)
+    # after the whole reading: a tail, then UNKNOWN, then REQUEST
+    refused(6, 18 + 6, HEADER + filter_(col(1, 9)) + S + u8(0))
+    refused(8, 0, HEADER + filter_(col(1, 9)) + S, [1, 1])
+
+
+for make in (settings_and_marks, samples, requests, counts_of_fields, limits_of_a_file, large, values, cuts, acceptance):
+    make()
+
+
+# ── traits of a stored line ───────────────────────────────────────────────────────────────────
+
+
+class Stop(Exception):
+    pass
+
+
+class Walk:
+    """Goes through a plan file and notes what it has, up to the first byte that it cannot go past. It judges nothing."""
+
+    def __init__(self, file):
+        self.file, self.at, self.traits, self.field, self.starts = file, 5, set(), 'start', {}
+        try:
+            for _ in range(self.count('tables', 16)):
+                for _ in range(self.count('columns', 64)):
+                    self.number('name', 2)
+            self.plan()
+        except (Stop, RecursionError):
+            pass
+
+    def number(self, field, size):
+        self.starts[self.at] = field
+        if self.at + size > len(self.file):
+            raise Stop
+        x = int.from_bytes(self.file[self.at:self.at + size], 'little')
+        self.at += size
+        return x
+
+    def count(self, field, limit):
+        n = self.number(field, 1)
+        if n == limit:
+            self.traits.add(('at its limit', field))
+        if n > limit:
+            raise Stop
+        return n
+
+    def pair(self, what):
+        self.number(what + ' qualifier', 2)
+        self.number(what + ' name', 2)
+
+    def expr(self, item=False):
+        tag = self.number('item tag' if item else 'expression tag', 1)
+        self.traits.add(('expression', tag))
+        if tag == 0:
+            self.pair('column')
+        elif tag == 1:
+            self.number('literal', 8)
+        elif tag in (3, 4):
+            self.expr()
+        elif 5 <= tag <= 11:
+            self.expr()
+            self.expr()
+        elif tag == 12:
+            self.pair('alias')
+            self.expr()
+        elif tag != 2:
+            raise Stop
+
+    def keys(self):
+        for _ in range(self.count('keys', 16)):
+            self.number('flags', 1)
+            self.expr()
+
+    def function(self, what):
+        self.pair(what)
+        f = self.number(what + ' function', 1)
+        self.traits.add((what, f))
+        return f
+
+    def plan(self):
+        tag = self.number('node tag', 1)
+        self.traits.add(('node', tag))
+        if tag == 1:
+            for _ in range(self.count('items', 128)):
+                self.expr(True)
+        elif tag == 2:
+            self.expr()
+        elif tag == 3:
+            self.keys()
+        elif tag == 4:
+            self.number('skip', 4)
+            self.number('fetch', 4)
+        elif tag == 5:
+            for _ in range(self.count('groups', 128)):
+                self.expr(True)
+            for _ in range(self.count('aggregates', 128)):
+                if self.function('aggregate'):
+                    self.expr()
+        elif tag == 6:
+            for _ in range(self.count('windows', 128)):
+                f = self.function('window')
+                for _ in range(self.count('parts', 16)):
+                    self.expr()
+                self.keys()
+                if f:
+                    self.expr()
+        elif tag == 7:
+            self.number('alias qualifier', 2)
+        elif tag == 10:
+            self.traits.add(('join', self.number('join type', 1)))
+            for _ in range(self.count('pairs', 16)):
+                self.expr()
+                self.expr()
+            if self.number('condition', 1):
+                self.expr()
+        elif tag == 11:
+            self.number('table', 1)
+            self.number('scan qualifier', 2)
+            if self.number('given', 1):
+                for _ in range(self.count('scan columns', 64)):
+                    self.number('column index', 1)
+        elif tag == 12:
+            self.number('one row', 1)
+            for _ in range(self.count('pairs of empty', 128)):
+                self.pair('empty')
+        elif tag not in (8, 9):
+            raise Stop
+        for _ in range({8: 2, 10: 2, 11: 0, 12: 0}.get(tag, 1)):
+            self.plan()
+
+
+def traits(line):
+    mode, mask, room, request, file, _, code, length, place, out = line.split(' ')
+    code, room, length, place = int(code), int(room), int(length), int(place)
+    some = {('code', code): 12}
+    kind = request if request in '*-' else 'list'
+    for t in (('mode', mode), ('mask', mask if mask in ('0', '4095') else 'other'), ('request', kind)):
+        some[t + (code,)] = 2
+    walk = Walk(b'' if file == '-' else bytes.fromhex(file))
+    if 3 <= code <= 5:
+        some['refused at', code, walk.starts.get(place, 'nowhere')] = 2
+    if code == 0:
+        for t in walk.traits:
+            some['file', t, mode] = {'node': 6}.get(t[0], 3)
+        for t in Walk(bytes.fromhex(out)).traits:
+            some['result', t] = {'node': 6}.get(t[0], 3)
+        if room == length:
+            some['no room to spare'] = 5
+    if code == 13 and room + 1 == place:
+        some['a byte too little'] = 5
+    if code >= 7:
+        for t in walk.traits:
+            if t[0] == 'node':
+                some['code', code, t] = 1
+    return some
+
+
+def choose(lines):
+    taken, had = [], {}
+    for line in sorted((l for l in lines if len(l) <= LONGEST), key=lambda l: (len(l), l)):
+        some = traits(line)
+        if any(had.get(t, 0) < wanted for t, wanted in some.items()):
+            taken.append(line)
+            for t in some:
+                had[t] = had.get(t, 0) + 1
+    return taken
+
+
+def main():
+    library = Path(sys.argv[1]) if len(sys.argv) > 1 else ROOT.parent / 'shared/vectors/library.txt'
+    chosen = choose(library.read_text().split('\n')[:-1])
+    lines = cases + chosen
+    text = ''.join(line + '\n' for line in lines)
+    per_code = [sum(line.split(' ')[6] == str(code) for line in lines) for code in range(14)]
+    crate = ROOT / 'crates/replay'
+    (crate / 'stdin').write_text(text)
+    summary = [f'vectors {len(lines)}'] + [f'code {code}: {n}' for code, n in enumerate(per_code)] + ['differ 0']
+    (crate / 'stdout').write_text('\n'.join(summary) + '\n')
+    print(f'{len(cases)} by hand, {len(chosen)} chosen, {len(text)} bytes; by code', per_code)
+    if len(text) >= 262144:
+        sys.exit('more than the program reads')
+
+
+if __name__ == '__main__':
+    main()
