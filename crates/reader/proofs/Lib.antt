@@ -3,3 +3,4 @@ pub mod Names
 pub mod Sizes
 pub mod Plans
 pub mod Files
+pub mod Exact

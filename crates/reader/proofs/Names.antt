@@ -10,7 +10,7 @@ use Rattle.cpl.specs.Limits.{maxColumns}
 use Rattle.cpl.specs.Plan.{Catalogue}
 use Rattle.cpl.specs.Read.{Res, ok, bad, Reader, nonzero, any, count, times, counted}
 use Rattle.reader_heads.specs.Heads.{Widths}
-use Rattle.reader_parts.proofs.Compose.{times-bad}
+use Rattle.reader_parts.proofs.Compose.{times-more, times-bad}
 use Rattle.reader_parts.proofs.Counts.{counted-few}
 use Rattle.reader.specs.Tables.{namesAt, tableAt, tablesAt, catalogueAt, Kept, readTable, NextIs}
 use Rattle.reader.specs.declared.Next.{Next}
@@ -20,20 +20,10 @@ use Rattle.reader.specs.declared.Next.the-variants.{At, Bad}
 
 module _ {A : Type 0} (p : Reader A) (file : List ℕ) (at tags n k : ℕ) (some : k ≡ 0 → ⊥) {x : A} {next used : ℕ} (e : p file at tags n ≡ ok x next used n) where
   times-cons : {xs : List A} {end used′ : ℕ} → times (k - 1) p file next used n ≡ ok xs end used′ n → times k p file at tags n ≡ ok (x ∷ xs) end used′ n
-  unfolding times
-  times-cons {xs} {end} {used′} f = go k some f
-    where
-      go : (k : ℕ) → (k ≡ 0 → ⊥) → times (k - 1) p file next used n ≡ ok xs end used′ n → times k p file at tags n ≡ ok (x ∷ xs) end used′ n
-      go zero h f = absurd (h refl)
-      go (suc k) h f = rw (e, rw (sub-one (suc k)) at f)
+  times-cons f = rw (times-more p file at tags n k some, e, f)
 
   times-rest-bad : {code place : ℕ} → times (k - 1) p file next used n ≡ bad code place → times k p file at tags n ≡ bad code place
-  unfolding times
-  times-rest-bad {code} {place} f = go k some f
-    where
-      go : (k : ℕ) → (k ≡ 0 → ⊥) → times (k - 1) p file next used n ≡ bad code place → times k p file at tags n ≡ bad code place
-      go zero h f = absurd (h refl)
-      go (suc k) h f = rw (e, rw (sub-one (suc k)) at f)
+  times-rest-bad f = rw (times-more p file at tags n k some, e, f)
 
 -- ── names ───────────────────────────────────────────────────────────────────────────────────
 

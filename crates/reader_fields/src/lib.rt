@@ -7,7 +7,7 @@ ghost use lib.ListN.{length, getD};
 ghost use lib.Seq.{sets};
 ghost use Rattle.cpl.specs.Read.{little, field, nonzero, below, count, tag};
 ghost use Rattle.cpl.specs.ReadExpr.{readPair, readColumn, readLiteral, leafRest};
-ghost use Rattle.reader_fields.specs.Answers.{Fields, From, Tags, Pairs, RightCells, Reads};
+ghost use Rattle.reader_fields.specs.Answers.{Fields, From, Tags, Pairs, spot, RightCells, Reads};
 
 // A number: its value and the offset after it, or the code and the place of a refusal.
 pub enum Field {
@@ -218,6 +218,20 @@ fn read_leaf(file: &[u8], s: Spot, cells: &mut [u64], t: u64) -> Parsed
     }
 }
 
+// The node of an operator, after those of its operands.
+fn put_root(cells: &mut [u64], s: Spot, tag: u64, x: u64, y: u64) -> Parsed
+    requires { ⌜ 3 * s .made + 3 ≤ length (now cells) ⌝ }
+    ensures { λ r. ⌜ (r ≡ Parsed.Done (spot (s .at) (s .tags) (s .made + 1) (s .row))) × (now (cells .exit) ≡ sets (now (cells .entry)) (3 * s .made) (tag ∷ x ∷ y ∷ [])) ⌝ }
+{
+    put(cells, s.made, tag, x, y);
+    Parsed::Done(Spot {
+        at: s.at,
+        tags: s.tags,
+        made: s.made + 1,
+        row: s.row,
+    })
+}
+
 // An expression. Its nodes go into cells, operands first, from the number `s.made` on.
 pub fn read_expr(file: &[u8], s: Spot, cells: &mut [u64]) -> Parsed
     requires { ⌜ (s .made ≤ s .tags) × (s .tags ≤ 4096) × (12288 ≤ length (now cells)) ⌝ }
@@ -251,25 +265,13 @@ pub fn read_expr(file: &[u8], s: Spot, cells: &mut [u64]) -> Parsed
                 return first;
             };
             if t < 5 {
-                put(cells, a.made, t, (a.made - 1) as u64, 0);
-                return Parsed::Done(Spot {
-                    at: a.at,
-                    tags: a.tags,
-                    made: a.made + 1,
-                    row: a.row,
-                });
+                return put_root(cells, a, t, (a.made - 1) as u64, 0);
             }
             let second = read_expr(file, a, cells);
             let Parsed::Done(b) = second else {
                 return second;
             };
-            put(cells, b.made, t, (a.made - 1) as u64, (b.made - 1) as u64);
-            Parsed::Done(Spot {
-                at: b.at,
-                tags: b.tags,
-                made: b.made + 1,
-                row: b.row,
-            })
+            put_root(cells, b, t, (a.made - 1) as u64, (b.made - 1) as u64)
         }
     }
 }

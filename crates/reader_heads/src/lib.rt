@@ -310,15 +310,8 @@ fn read_columns(
                     },
                 );
             }
-            let list = reader_parts::read_list(
-                file,
-                from,
-                Kind::Column(columns),
-                0,
-                64,
-                cells,
-                rows,
-            );
+            let kind = Kind::Column(columns);
+            let list = reader_parts::read_list(file, from, kind, 0, 64, cells, rows);
             match list {
                 Parsed::Bad(code, place) => Head::Bad(code, place),
                 Parsed::Done(u) => Head::Leaf(

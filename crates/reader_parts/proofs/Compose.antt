@@ -149,7 +149,7 @@ all-one s one [] = refl
 all-one s one (x ∷ xs) = omega (arith, one x, all-one s one xs)
 
 module _ {A : Type 0} (p : Reader A) (file : List ℕ) (at tags n k : ℕ) where
-  times-more : (k ≡ 0 → ⊥) → times k p file at tags n ≡ andThen (p file at tags n) (λ x a t m. andThen (times (k - 1) p file a t m) (λ xs a′ t′ m′. ok (x ∷ xs) a′ t′ m′))
+  pub times-more : (k ≡ 0 → ⊥) → times k p file at tags n ≡ andThen (p file at tags n) (λ x a t m. andThen (times (k - 1) p file a t m) (λ xs a′ t′ m′. ok (x ∷ xs) a′ t′ m′))
   unfolding times
   times-more h = go k h
     where

@@ -8,7 +8,7 @@ use borrow.Fn.PlainCycle.{Measures, is, falls, and}
 use Rattle.reader_fields.proofs.read_expr.Reads as read-expr
 use Rattle.reader_fields.proofs.read_expr.Kinds as read-expr-kinds
 use Rattle.reader_fields.proofs.+read_expr.Lts-read_expr as lts
-use Rattle.reader_fields.proofs.put.Reads as put-reads
+use Rattle.reader_fields.proofs.put_root.Reads as put-root-reads
 use Rattle.reader_fields.proofs.read_leaf.Reads as read-leaf-reads
 use Rattle.reader_fields.proofs.read_tag.Reads as read-tag-reads
 use Rattle.reader_fields.proofs.+read_expr.{statement}
@@ -22,7 +22,7 @@ abbrev given : ℕ → In 2 read-expr-kinds.ps
 given t = and 2 read-expr-kinds.ps (is 2 read-expr-kinds.ps μ t) read-expr.Pre
 
 abbrev callees : ℕ → lts.Claims
-callees t = (read-tag-reads.Asked, read-tag-reads.Learnt, read-leaf-reads.Asked, read-leaf-reads.Learnt, and 2 read-expr-kinds.ps (falls 2 read-expr-kinds.ps _<_ μ t) read-expr.Pre, read-expr.Post, put-reads.Asked, put-reads.Learnt)
+callees t = (read-tag-reads.Asked, read-tag-reads.Learnt, read-leaf-reads.Asked, read-leaf-reads.Learnt, and 2 read-expr-kinds.ps (falls 2 read-expr-kinds.ps _<_ μ t) read-expr.Pre, read-expr.Post, put-root-reads.Asked, put-root-reads.Learnt)
 
 module _ (t : ℕ) where
   read-tag-requires : lts.Need-read-tag-requires (callees t) (given t) read-expr.Post
@@ -63,10 +63,10 @@ module _ (t : ℕ) where
       let pre = c .before .before .before .before .before .before .before .before .pre in
       let if2 = c .if2 in
       let e = rw (tag2 .given .1) at (read-tag .ensures) in
-      reads-value _ _ _ (pre .1 .1) (e .0) (if2 .taken)
+      reads-value _ _ _ (pre .1 .1) (e .0) (omega (arith, if2 .taken))
 
-  add-put : lts.Need-add-put (callees t) (given t) read-expr.Post
-  add-put c =
+  add-put-root : lts.Need-add-put-root (callees t) (given t) read-expr.Post
+  add-put-root c =
       let tag2 = c .before .before .before .before .tag2 in
       let read-tag = c .before .before .before .before .before .before .read-tag in
       let e = rw (tag2 .given .1) at (read-tag .ensures) in
@@ -101,26 +101,18 @@ module _ (t : ℕ) where
       let e = rw (tag2 .given .1) at (read-tag .ensures) in
       rw (enum-told .given .1) (reads-first _ _ _ (pre .1 .1) (e .0) (if1 .left) (if2 .left) (rw (enum-told .given .1) at (read-expr .ensures)))
 
-  sub-put : lts.Need-sub-put (callees t) (given t) read-expr.Post
-  sub-put c =
+  sub-put-root : lts.Need-sub-put-root (callees t) (given t) read-expr.Post
+  sub-put-root c =
       let first = c .before .before .before .before .first in
       let read-expr = c .before .before .before .before .before .before .before .before .read-expr in
       let g = reads-grown _ _ _ _ _ (rw (first .given .1) at (read-expr .ensures)) in
       omega (arith, g .2)
 
-  put-requires : lts.Need-put-requires (callees t) (given t) read-expr.Post
-  put-requires c κs =
+  put-root-requires : lts.Need-put-root-requires (callees t) (given t) read-expr.Post
+  put-root-requires c κs =
       let first = c .before .before .before .before .first in
       let read-expr = c .before .before .before .before .before .before .before .before .read-expr in
       let pre = c .before .before .before .before .before .before .before .before .before .before .before .before .before .before .before .before .before .before .before .pre in
-      let g = reads-grown _ _ _ _ _ (rw (first .given .1) at (read-expr .ensures)) in
-      omega (arith, g, pre .1)
-
-  add-t26 : lts.Need-add-t26 (callees t) (given t) read-expr.Post
-  add-t26 c =
-      let first = c .before .before .before .before .before .before .before .before .first in
-      let read-expr = c .before .before .before .before .before .before .before .before .before .before .before .before .read-expr in
-      let pre = c .before .before .before .before .before .before .before .before .before .before .before .before .before .before .before .before .before .before .before .before .before .before .before .pre in
       let g = reads-grown _ _ _ _ _ (rw (first .given .1) at (read-expr .ensures)) in
       omega (arith, g, pre .1)
 
@@ -129,17 +121,17 @@ module _ (t : ℕ) where
 
   returns-4 : lts.Need-returns-4 (callees t) (given t) read-expr.Post
   returns-4 c =
-      let tag2 = c .before .before .before .before .before .before .before .before .before .before .before .before .before .before .before .before .before .before .tag2 in
-      let read-tag = c .before .before .before .before .before .before .before .before .before .before .before .before .before .before .before .before .before .before .before .before .read-tag in
-      let pre = c .before .before .before .before .before .before .before .before .before .before .before .before .before .before .before .before .before .before .before .before .before .before .before .pre in
-      let if1 = c .before .before .before .before .before .before .before .before .before .before .before .before .before .before .before .before .if1 in
-      let if2 = c .before .before .before .before .before .before .before .before .before .before .before .before .before .before .before .if2 in
-      let first = c .before .before .before .before .before .before .before .before .first in
-      let read-expr = c .before .before .before .before .before .before .before .before .before .before .before .before .read-expr in
-      let if3 = c .before .before .before .before .before .before .if3 in
-      let put = c .before .before .before .put in
+      let tag2 = c .before .before .before .before .before .before .before .before .before .before .before .before .before .before .before .before .before .tag2 in
+      let read-tag = c .before .before .before .before .before .before .before .before .before .before .before .before .before .before .before .before .before .before .before .read-tag in
+      let put-root = c .before .before .put-root in
+      let pre = c .before .before .before .before .before .before .before .before .before .before .before .before .before .before .before .before .before .before .before .before .before .before .pre in
+      let if1 = c .before .before .before .before .before .before .before .before .before .before .before .before .before .before .before .if1 in
+      let if2 = c .before .before .before .before .before .before .before .before .before .before .before .before .before .before .if2 in
+      let first = c .before .before .before .before .before .before .before .first in
+      let read-expr = c .before .before .before .before .before .before .before .before .before .before .before .read-expr in
+      let if3 = c .before .before .before .before .before .if3 in
       let e = rw (tag2 .given .1) at (read-tag .ensures) in
-      reads-one _ _ _ (pre .1 .1) (e .0) (if1 .left) (if2 .left) _ _ (rw (first .given .1) at (read-expr .ensures)) (if3 .taken) (put .ensures)
+      rw (put-root .ensures .0) (reads-one _ _ _ (pre .1 .1) (e .0) (if1 .left) (if2 .left) _ _ (rw (first .given .1) at (read-expr .ensures)) (if3 .taken) (put-root .ensures .1))
 
   read-expr-requires-2 : lts.Need-read-expr-requires-2 (callees t) (given t) read-expr.Post
   read-expr-requires-2 c κs =
@@ -173,38 +165,27 @@ module _ (t : ℕ) where
       let e = rw (tag2 .given .1) at (read-tag .ensures) in
       rw (enum-told2 .given .1) (reads-second _ _ _ (pre .1 .1) (e .0) (if1 .left) (if2 .left) _ _ (rw (first .given .1) at (read-expr .ensures)) (if3 .left) (rw (enum-told2 .given .1) at (read-expr2 .ensures)))
 
-  sub-put-2 : lts.Need-sub-put-2 (callees t) (given t) read-expr.Post
-  sub-put-2 c =
+  sub-put-root-2 : lts.Need-sub-put-root-2 (callees t) (given t) read-expr.Post
+  sub-put-root-2 c =
       let first = c .before .before .before .before .before .before .before .before .before .before .before .first in
       let read-expr = c .before .before .before .before .before .before .before .before .before .before .before .before .before .before .before .read-expr in
       let g = reads-grown _ _ _ _ _ (rw (first .given .1) at (read-expr .ensures)) in
       omega (arith, g .2)
 
-  sub-put-3 : lts.Need-sub-put-3 (callees t) (given t) read-expr.Post
-  sub-put-3 c =
+  sub-put-root-3 : lts.Need-sub-put-root-3 (callees t) (given t) read-expr.Post
+  sub-put-root-3 c =
       let second = c .before .before .before .before .second in
       let read-expr2 = c .before .before .before .before .before .before .before .before .read-expr2 in
       let g = reads-grown _ _ _ _ _ (rw (second .given .1) at (read-expr2 .ensures)) in
       omega (arith, g .2)
 
-  put-requires-2 : lts.Need-put-requires-2 (callees t) (given t) read-expr.Post
-  put-requires-2 c κs =
+  put-root-requires-2 : lts.Need-put-root-requires-2 (callees t) (given t) read-expr.Post
+  put-root-requires-2 c κs =
       let first = c .before .before .before .before .before .before .before .before .before .before .before .before .first in
       let read-expr = c .before .before .before .before .before .before .before .before .before .before .before .before .before .before .before .before .read-expr in
       let second = c .before .before .before .before .second in
       let read-expr2 = c .before .before .before .before .before .before .before .before .read-expr2 in
       let pre = c .before .before .before .before .before .before .before .before .before .before .before .before .before .before .before .before .before .before .before .before .before .before .before .before .before .before .before .pre in
-      let g = reads-grown _ _ _ _ _ (rw (first .given .1) at (read-expr .ensures)) in
-      let h = reads-grown _ _ _ _ _ (rw (second .given .1) at (read-expr2 .ensures)) in
-      omega (arith, g, h, pre .1)
-
-  add-t20 : lts.Need-add-t20 (callees t) (given t) read-expr.Post
-  add-t20 c =
-      let first = c .before .before .before .before .before .before .before .before .before .before .before .before .before .before .before .before .first in
-      let read-expr = c .before .before .before .before .before .before .before .before .before .before .before .before .before .before .before .before .before .before .before .before .read-expr in
-      let second = c .before .before .before .before .before .before .before .before .second in
-      let read-expr2 = c .before .before .before .before .before .before .before .before .before .before .before .before .read-expr2 in
-      let pre = c .before .before .before .before .before .before .before .before .before .before .before .before .before .before .before .before .before .before .before .before .before .before .before .before .before .before .before .before .before .before .before .pre in
       let g = reads-grown _ _ _ _ _ (rw (first .given .1) at (read-expr .ensures)) in
       let h = reads-grown _ _ _ _ _ (rw (second .given .1) at (read-expr2 .ensures)) in
       omega (arith, g, h, pre .1)
@@ -221,21 +202,21 @@ module _ (t : ℕ) where
 
   returns-7 : lts.Need-returns-7 (callees t) (given t) read-expr.Post
   returns-7 c =
-      let tag2 = c .before .before .before .before .before .before .before .before .before .before .before .before .before .before .before .before .before .before .before .before .before .before .before .before .before .before .tag2 in
-      let read-tag = c .before .before .before .before .before .before .before .before .before .before .before .before .before .before .before .before .before .before .before .before .before .before .before .before .before .before .before .before .read-tag in
-      let pre = c .before .before .before .before .before .before .before .before .before .before .before .before .before .before .before .before .before .before .before .before .before .before .before .before .before .before .before .before .before .before .before .pre in
-      let if1 = c .before .before .before .before .before .before .before .before .before .before .before .before .before .before .before .before .before .before .before .before .before .before .before .before .if1 in
-      let if2 = c .before .before .before .before .before .before .before .before .before .before .before .before .before .before .before .before .before .before .before .before .before .before .before .if2 in
-      let first = c .before .before .before .before .before .before .before .before .before .before .before .before .before .before .before .before .first in
-      let read-expr = c .before .before .before .before .before .before .before .before .before .before .before .before .before .before .before .before .before .before .before .before .read-expr in
-      let if3 = c .before .before .before .before .before .before .before .before .before .before .before .before .before .before .if3 in
-      let second = c .before .before .before .before .before .before .before .before .second in
-      let read-expr2 = c .before .before .before .before .before .before .before .before .before .before .before .before .read-expr2 in
-      let put2 = c .before .before .before .put2 in
+      let tag2 = c .before .before .before .before .before .before .before .before .before .before .before .before .before .before .before .before .before .before .before .before .before .before .before .before .before .tag2 in
+      let read-tag = c .before .before .before .before .before .before .before .before .before .before .before .before .before .before .before .before .before .before .before .before .before .before .before .before .before .before .before .read-tag in
+      let put-root2 = c .before .before .put-root2 in
+      let pre = c .before .before .before .before .before .before .before .before .before .before .before .before .before .before .before .before .before .before .before .before .before .before .before .before .before .before .before .before .before .before .pre in
+      let if1 = c .before .before .before .before .before .before .before .before .before .before .before .before .before .before .before .before .before .before .before .before .before .before .before .if1 in
+      let if2 = c .before .before .before .before .before .before .before .before .before .before .before .before .before .before .before .before .before .before .before .before .before .before .if2 in
+      let first = c .before .before .before .before .before .before .before .before .before .before .before .before .before .before .before .first in
+      let read-expr = c .before .before .before .before .before .before .before .before .before .before .before .before .before .before .before .before .before .before .before .read-expr in
+      let if3 = c .before .before .before .before .before .before .before .before .before .before .before .before .before .if3 in
+      let second = c .before .before .before .before .before .before .before .second in
+      let read-expr2 = c .before .before .before .before .before .before .before .before .before .before .before .read-expr2 in
       let e = rw (tag2 .given .1) at (read-tag .ensures) in
-      reads-two _ _ _ (pre .1 .1) (e .0) (if1 .left) (if2 .left) _ _ (rw (first .given .1) at (read-expr .ensures)) (if3 .left) _ _ (rw (second .given .1) at (read-expr2 .ensures)) (put2 .ensures)
+      rw (put-root2 .ensures .0) (reads-two _ _ _ (pre .1 .1) (e .0) (if1 .left) (if2 .left) _ _ (rw (first .given .1) at (read-expr .ensures)) (if3 .left) _ _ (rw (second .given .1) at (read-expr2 .ensures)) (put-root2 .ensures .1))
 
 pub +read-expr-spec : {M : Type 1} → statement M
 +read-expr-spec = close μ λ t.
     lts.spec (callees t) (given t) read-expr.Post
-    (read-tag-requires t) (enum-known-tag t) (enum-known-tag-2 t) (read-leaf-requires t) (same-length t) (returns t) (returns-2 t) (add-put t) (read-expr-requires t) (enum-known-first t) (enum-told t) (same-length-2 t) (returns-3 t) (sub-put t) (put-requires t) (add-t26 t) (same-length-3 t) (returns-4 t) (read-expr-requires-2 t) (enum-known-second t) (enum-told-2 t) (same-length-4 t) (returns-5 t) (sub-put-2 t) (sub-put-3 t) (put-requires-2 t) (add-t20 t) (returns-6 t) (same-length-5 t) (returns-7 t)
+    (read-tag-requires t) (enum-known-tag t) (enum-known-tag-2 t) (read-leaf-requires t) (same-length t) (returns t) (returns-2 t) (add-put-root t) (read-expr-requires t) (enum-known-first t) (enum-told t) (same-length-2 t) (returns-3 t) (sub-put-root t) (put-root-requires t) (same-length-3 t) (returns-4 t) (read-expr-requires-2 t) (enum-known-second t) (enum-told-2 t) (same-length-4 t) (returns-5 t) (sub-put-root-2 t) (sub-put-root-3 t) (put-root-requires-2 t) (returns-6 t) (same-length-5 t) (returns-7 t)

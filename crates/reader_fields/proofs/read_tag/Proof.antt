@@ -14,7 +14,7 @@ returns-2 : tie.Need-returns-2
 returns-2 c =
     let if1 = c .before .if1 in
     let if2 = c .if2 in
-    tag-many _ _ _ (if1 .left) (if2 .taken)
+    tag-many _ _ _ (if1 .left) (omega (arith, if2 .taken))
 
 byte-requires : tie.Need-byte-requires
 byte-requires c κs = search needs
