@@ -291,6 +291,30 @@ fn replay(all: &[u8]) {
     text(b"\n");
 }
 
+// A file of 65,536 bytes that starts with these six and goes on with b: its refusal.
+fn long(start: &[u8; 6], b: u8) {
+    let mut file = [b; 65536];
+    file[0] = start[0];
+    file[1] = start[1];
+    file[2] = start[2];
+    file[3] = start[3];
+    file[4] = start[4];
+    file[5] = start[5];
+    let c = Numbers {
+        mode: 0,
+        mask: 0,
+        code: 0,
+        place: 0,
+    };
+    let none = [0u16; 1];
+    let a = check(c, &file, true, &none);
+    text(b"65536 bytes: code ");
+    number(a.code as u64);
+    text(b" place ");
+    number(a.place as u64);
+    text(b"\n");
+}
+
 // Room for standard input.
 fn input_buffer() -> [u8; INPUT]
     ensures { λ r. ⌜ 262144 ≡ length r ⌝ }
@@ -303,6 +327,9 @@ fn main() {
     let n = io::read_full(0, &mut input);
     if n < INPUT {
         replay(&input[..n]);
+        long(&[67, 80, 76, 1, 0, 0], 9);
+        long(&[67, 80, 76, 1, 0, 0], 165);
+        long(&[165, 165, 165, 165, 165, 165], 165);
     } else {
         text(b"more than 262,143 bytes\n");
     }
