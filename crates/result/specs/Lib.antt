@@ -1,0 +1,2 @@
+-- The rewritten plan in lent arrays.
+pub mod Result

@@ -1,0 +1,1 @@
+//! result: how a rewritten plan stands in the lent arrays.
