@@ -1,1 +1,4 @@
 -- What the proofs of several functions use.
+pub mod Grow
+pub mod Defs
+pub mod Ways
