@@ -11,6 +11,6 @@ pub mod Places
 pub mod Search
 pub mod Loops
 pub mod Parts
-pub mod Rest
+pub mod Slides
 pub mod Shifts
 pub mod Determined

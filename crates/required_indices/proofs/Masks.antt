@@ -2,15 +2,15 @@
 use mathlib.Core.Path.{_≡_, refl, sym, _∙_, ap, ap₂, subst}
 use mathlib.Core.Bool.{Bool, true, false, _||_}
 use mathlib.Core.List.{List, [], _∷_, _++_}
-use Prim.Native.Nat.{ℕ, zero, suc, _+_, _-_, _/_, _%_, _^_, _≤_, _<_}
+use Prim.Native.Nat.{ℕ, zero, suc, _+_, _-_, _*_, _/_, _%_, _^_, _≤_, _<_}
 use native.Mathlib.Nat.{mod-lt, div-one, div-add-mod'}
 use native.Mathlib.Omega.{arith}
 use lib.Arith.{lt-one}
 use lib.Pow.{shr-shr, high, low}
-use lib.Bits.{bitOr, or-shr, or-lt}
+use lib.Bits.{bitOr, or-shr, or-lt, or-shifted-r}
 use lib.Count.{ones, onesIn, ones-step}
 use lib.Dec.{eqb}
-use lib.ListN.{length, getD, take, drop}
+use lib.ListN.{length, getD, take, drop, take-append-drop}
 use Rattle.cpl.specs.Lists.{z[], _z∷_}
 use Rattle.rules.specs.Mask.{Mask, orM, count, LeB, LeM}
 use Rattle.rules.specs.Mask as mask
@@ -65,6 +65,14 @@ mask-rest (suc k) (suc n) s h =
     let places : suc n - suc k ≡ n - k = omega arith in
     let next : suc k ≡ 1 + k = omega arith in
     ap₂ setMask places (ap (λ (x : ℕ). s / 2 ^ x) next ∙ sym (shr-shr s 1 k)) ∙ mask-rest k n (s / 2) (omega arith)
+
+-- two sets, the second above the first
+pub mask-follow : (n m s t : ℕ) → s < 2 ^ n → setMask (n + m) (bitOr s (t * 2 ^ n)) ≡ setMask n s ++ setMask m t
+mask-follow n m s t h =
+    let x : ℕ = t * 2 ^ n + s in
+    let places : (n + m) - n ≡ m = omega arith in
+    ap (setMask (n + m)) (or-shifted-r t n s h) ∙ sym (take-append-drop n (setMask (n + m) x))
+    ∙ ap₂ _++_ (sym (mask-below n (n + m) x (omega arith)) ∙ ap (setMask n) (low t n h)) (sym (mask-rest n (n + m) x (omega arith)) ∙ ap₂ setMask places (high t n h))
 
 -- all of the fields, and none
 pub mask-all : {A : Type 0} (xs : List A) → setMask (length xs) (2 ^ length xs - 1) ≡ mask.ones xs

@@ -2,11 +2,11 @@
 use mathlib.Core.Path.{_≡_, refl, sym, _∙_, ap, ap₂, subst}
 use mathlib.Core.Logic.{⊎-elim}
 use mathlib.Core.Bool.{Bool, true, false}
-use mathlib.Core.List.{List, [], _∷_}
-use Prim.Native.Nat.{ℕ, _+_, _-_, _/_, _%_, _^_, _≤_, _<_}
-use native.Mathlib.Nat.{mod-lt}
+use mathlib.Core.List.{List, [], _∷_, _++_}
+use Prim.Native.Nat.{ℕ, _+_, _-_, _*_, _/_, _%_, _^_, _≤_, _<_}
+use native.Mathlib.Nat.{mod-lt, lt-of-lt-of-le}
 use native.Mathlib.Omega.{arith}
-use lib.Pow.{pow-pos, pow-lt, shr-lt}
+use lib.Pow.{pow-pos, pow-lt, pow-mono, shl-lt, shr-lt}
 use lib.Bits.{bitOr, or-lt}
 use lib.Count.{ones}
 use lib.Dec.{eqb}
@@ -16,10 +16,10 @@ use Rattle.rules.specs.Mask.{Mask, orM, count, LeM}
 use Rattle.rules.specs.Mask as mask
 use Rattle.rules.specs.Request.{maskOf}
 use Rattle.required_indices.specs.Set.{has, setMask}
-use Rattle.required_indices.specs.Request.{setOf, Holds, Asks}
+use Rattle.required_indices.specs.Request.{wordsN, setOf, Holds, Asks}
 use Rattle.required_indices.specs.declared.RequiredIndices.{RequiredIndices}
 use Rattle.required_indices.proofs.Members.{side, has-past}
-use Rattle.required_indices.proofs.Masks.{mask-length, mask-at, mask-or, mask-below, mask-rest, mask-all, mask-none, mask-count, mask-empty, mask-inj, mask-le, le-mask}
+use Rattle.required_indices.proofs.Masks.{mask-length, mask-at, mask-or, mask-below, mask-rest, mask-follow, mask-all, mask-none, mask-count, mask-empty, mask-inj, mask-le, le-mask}
 use Rattle.required_indices.proofs.Singles.{mask-single}
 
 -- a set over n fields asks for its mask
@@ -63,6 +63,17 @@ pub rest-asks : {r out : RequiredIndices} {R : Mask} {b : Bool} (k : ℕ) → As
 rest-asks {r} {R = R} k a l h =
     let whole : length R ≡ (length R - k) + k = omega arith in
     asks (length R - k) h (mask-rest k (length R) (setOf r) l ∙ ap (drop k) (a .mask)) (shr-lt (length R - k) k (subst (λ (x : ℕ). setOf r < 2 ^ x) whole (a .within)))
+
+-- followed_by: its requires, and the fields of both, one after the other
+pub follow-fits : {q : RequiredIndices} {S : Mask} (n : ℕ) → Asks q S → n + length S ≤ wordsN * 64 → setOf q * 2 ^ n < 2 ^ (wordsN * 64)
+follow-fits {S = S} n c l = lt-of-lt-of-le (shl-lt (length S) n (c .within)) (pow-mono {j = wordsN * 64} (omega arith))
+
+pub follow-asks : {r q out : RequiredIndices} {K S : Mask} {b : Bool} (n : ℕ) → Asks r K → Asks q S → n ≡ length K → Holds out (bitOr (setOf r) (setOf q * 2 ^ n)) b → Asks out (K ++ S)
+follow-asks {r} {q} {K = K} {S} n a c e h =
+    let m : ℕ = length S in
+    let inside : setOf r < 2 ^ n = subst (λ (x : ℕ). setOf r < 2 ^ x) (sym e) (a .within) in
+    asks (n + m) h (mask-follow n m (setOf r) (setOf q) inside ∙ ap₂ _++_ (ap (λ (x : ℕ). setMask x (setOf r)) e ∙ a .mask) (c .mask))
+    (or-lt (n + m) (setOf r) (setOf q * 2 ^ n) (lt-of-lt-of-le inside (pow-mono (omega arith))) (lt-of-lt-of-le (shl-lt m n (c .within)) (pow-mono (omega arith))))
 
 -- contains: the mask's place i, and no past the fields
 pub contains-mask : {r : RequiredIndices} {R : Mask} → Asks r R → (i : ℕ) → has (setOf r) i ≡ getD R i false

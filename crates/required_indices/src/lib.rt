@@ -6,11 +6,12 @@
 //! is by `setOf`, the number that the words hold; `proofs/Methods.antt` says the same by masks.
 ghost use mathlib.Core.Path.{_≡_};
 ghost use mathlib.Core.Bool.{true, false};
+ghost use mathlib.Core.List.{_++_};
 ghost use Prim.Native.Nat.{_-_, _*_, _/_, _%_, _^_, _≤_, _<_, min};
 ghost use lib.Bits.{bitOr};
 ghost use lib.Count.{ones};
 ghost use lib.Dec.{eqb};
-ghost use lib.ListN.{getD};
+ghost use lib.ListN.{getD, replicate};
 ghost use Rattle.required_indices.specs.Set.{has};
 ghost use Rattle.required_indices.specs.Request.{wordsN, setOf, flagOf, Holds, IsNext};
 
@@ -180,8 +181,18 @@ impl RequiredIndices {
         ensures { λ r. ⌜ Holds (r .rest) (setOf self / 2 ^ n) (flagOf self) ⌝ }
     {
         let below = self.below(n);
-        let rest = self.rest(n);
+        let rest = self.slide(0, n);
         Split { below, rest }
+    }
+
+    /// The indices, and those of rest each more by n; the flag stays. The inverse of `split_off`. Requires
+    /// that the moved indices are below 128, as they are where rest is over at most 128 - n fields.
+    pub fn followed_by(self, n: usize, rest: RequiredIndices) -> Self
+        requires { ⌜ setOf rest * 2 ^ n < 2 ^ (wordsN * 64) ⌝ }
+        ensures { λ r. ⌜ Holds r (bitOr (setOf self) (setOf rest * 2 ^ n)) (flagOf self) ⌝ }
+    {
+        let moved = rest.slide(n / 64 + 1, 64 - n % 64);
+        self.append(moved)
     }
 
     // The indices below n. Rust: the first half of `partition`.
@@ -199,28 +210,34 @@ impl RequiredIndices {
         out
     }
 
-    // The indices from n on, less n. Rust: the second half of `partition`, and `map_indices`.
-    fn rest(self, n: usize) -> RequiredIndices
-        ensures { λ r. ⌜ Holds r (setOf self / 2 ^ n) (flagOf self) ⌝ }
+    // The indices, each more by up * 64 and then less n; those that are below n by then are left out. By
+    // it the second half of the Rust's `partition` with `map_indices`, and its inverse.
+    fn slide(self, up: usize, n: usize) -> RequiredIndices
+        requires { ⌜ setOf self * 2 ^ (up * 64) / 2 ^ n < 2 ^ (wordsN * 64) ⌝ }
+        ensures { λ r. ⌜ Holds r (setOf self * 2 ^ (up * 64) / 2 ^ n) (flagOf self) ⌝ }
     {
         let mut out = self;
         let q = n / 64;
         let m = n % 64;
         let mut k = 0;
         while k < WORDS {
-            let w = self.word(q + k);
-            let v = self.word(q + k + 1);
+            let w = self.word(up, q + k);
+            let v = self.word(up, q + k + 1);
             out.indices[k] = (w >> m) | carry(v, m);
             k += 1;
         }
         out
     }
 
-    // A word, and 0 past the last.
-    fn word(self, k: usize) -> u64
-        ensures { λ r. ⌜ r ≡ getD (self .indices) k 0 ⌝ }
+    // Word k behind up words of 0, and 0 past the last.
+    fn word(self, up: usize, k: usize) -> u64
+        ensures { λ r. ⌜ r ≡ getD (replicate up 0 ++ self .indices) k 0 ⌝ }
     {
-        if k < WORDS { self.indices[k] } else { 0 }
+        if k < up {
+            return 0;
+        }
+        let i = k - up;
+        if i < WORDS { self.indices[i] } else { 0 }
     }
 
     /// Whether the two sets have the same indices. Rust: `==` of `indices()`.

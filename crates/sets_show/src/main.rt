@@ -37,7 +37,13 @@ fn indices(r: RequiredIndices) {
     }
 }
 
-// Whether r has n, and its two parts at n.
+// The indices of a, and those of r from n on: split off, and moved back.
+fn behind(a: RequiredIndices, r: RequiredIndices, n: usize) -> RequiredIndices {
+    let s = r.split_off(n);
+    a.followed_by(n, s.rest)
+}
+
+// Whether r has n, its two parts at n, these put together again, and the second put behind a set of 1 with the flag.
 fn parts(r: RequiredIndices, n: usize) {
     text(b"at ");
     number(n);
@@ -47,6 +53,15 @@ fn parts(r: RequiredIndices, n: usize) {
     indices(s.below);
     text(b"  rest:");
     indices(s.rest);
+    text(b"  again:");
+    indices(behind(s.below, r, n));
+    let one = RequiredIndices::new()
+        .with_index(1)
+        .with_projection_beneficial();
+    let both = behind(one, r, n);
+    text(b"  with 1:");
+    answer(both.projection_beneficial());
+    indices(both);
 }
 
 // All indices below n: how many, whether r has all of them, what r is with them, whether that is all below 128.

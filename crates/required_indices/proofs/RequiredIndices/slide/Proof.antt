@@ -1,26 +1,26 @@
--- `required_indices::RequiredIndices::rest` meets its contract.
+-- `required_indices::RequiredIndices::slide` meets its contract.
 use borrow.Author.Needs.{needs}
 use native.Mathlib.Omega.{arith}
 use Prim.Native.Nat.{_-_}
 use mathlib.Core.Path.{_≡_, refl}
-use lib.ListN.{length, set}
+use lib.ListN.{set}
 use Rattle.required_indices.specs.Request.{wordsN, flagOf}
 use Rattle.required_indices.proofs.Loops.{Filled}
 use Rattle.required_indices.proofs.Places.{words}
 use mir.Val.{Fits}
 use mir.Syntax.{w64}
-use Rattle.required_indices.proofs.Rest.{restW, rest-start, rest-turn, rest-end}
-use Rattle.required_indices.proofs.RequiredIndices.rest.Statement.{statement}
-use Rattle.required_indices.proofs.RequiredIndices.rest.Tie as tie
+use Rattle.required_indices.proofs.Slides.{ahead, slideW, slide-start, slide-turn, slide-end}
+use Rattle.required_indices.proofs.RequiredIndices.slide.Statement.{statement}
+use Rattle.required_indices.proofs.RequiredIndices.slide.Tie as tie
 
 abbrev Inv-loop : tie.InvT-loop
-Inv-loop self n out₀ q m k₀ out k = Filled (restW n (self .indices)) (out .indices) k × (flagOf out ≡ flagOf self)
+Inv-loop self up n out₀ q m k₀ out k = Filled (slideW wordsN n (ahead up (self .indices))) (out .indices) k × (flagOf out ≡ flagOf self)
 
 abbrev μ-loop : tie.MeasureT-loop
-μ-loop self n out₀ q m k₀ out k = wordsN - k
+μ-loop self up n out₀ q m k₀ out k = wordsN - k
 
 loop-holds : tie.Need-loop-holds Inv-loop μ-loop
-loop-holds c = (rest-start (c .args .n) (c .args .self .indices), refl)
+loop-holds c = (slide-start wordsN (c .args .n) (ahead (c .args .up) (c .args .self .indices)) (c .args .self .indices) (search needs), refl)
 
 add-word : tie.Need-add-word Inv-loop μ-loop
 add-word c = search needs
@@ -58,10 +58,8 @@ loop-less c = omega arith
 loop-again : tie.Need-loop-again Inv-loop μ-loop
 loop-again c =
     let s = c .before .before .before .before in
-    let ws = s .before .args .self .indices in
-    let long : length ws ≡ wordsN = search needs in
     let fits : Fits w64 (c .before .before .word .result) = search needs in (
-      rest-turn (s .before .args .n) ws (s .loop .out .indices) (s .loop .k) (s .loop .inv .0) (c .before .before .word .result) (c .before .word2 .result) (c .carry .result) (omega arith) (fits .fits)
+      slide-turn wordsN (s .before .args .n) (ahead (s .before .args .up) (s .before .args .self .indices)) (s .loop .out .indices) (s .loop .k) (s .loop .inv .0) (c .before .before .word .result) (c .before .word2 .result) (c .carry .result) (omega arith) (fits .fits)
           (c .before .before .word .ensures) (c .before .word2 .ensures) (c .carry .ensures),
       s .loop .inv .1,
     )
@@ -70,14 +68,13 @@ returns : tie.Need-returns Inv-loop μ-loop
 returns c =
     let s = c .before in
     let ws = s .before .args .self .indices in
-    let long : length ws ≡ wordsN = search needs in
     record {
-      set = rest-end (s .before .args .n) ws (s .loop .out .indices) (s .loop .k) (s .loop .inv .0) (omega arith) (words ws (λ i. search needs));
+      set = slide-end wordsN (s .before .args .up) (s .before .args .n) ws (s .loop .out .indices) (s .loop .k) (s .loop .inv .0) (omega arith) (words ws (λ i. search needs)) (s .before .pre);
       flag = s .loop .inv .1;
     }
 
-pub rest-spec : {M : Type 1} → statement M
-rest-spec =
+pub slide-spec : {M : Type 1} → statement M
+slide-spec =
     tie.close
     (tie.spec
     Inv-loop
