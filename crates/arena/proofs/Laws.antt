@@ -74,6 +74,10 @@ pub wf-less : (s : List ℕ) (n m : ℕ) → n ≤ m → Wf s m → Wf s n
 unfolding Wf
 wf-less s n m h w k l = w k (omega arith)
 
+pub wf-fits : (s : List ℕ) (n : ℕ) → Wf s n → n * 3 ≤ length s
+wf-fits s zero w = omega arith
+wf-fits s (suc n) w = omega (arith, here s n (wf-less s (n + 1) (suc n) (omega arith) w) .inside)
+
 -- the numbers that stand for operators and literals
 -- from a on: it is a, or from a + 1 on
 from : (P : ℕ → Type 0) (t a : ℕ) → P a → (suc a ≤ t → P t) → a ≤ t → P t

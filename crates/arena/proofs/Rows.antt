@@ -109,6 +109,9 @@ module _ {s : List ℕ} {i q n m k : ℕ} (cells : List ℕ) (e : RowIs s i q n 
   pub read-wf : RowOk s cells i → Wf cells (k + 1)
   read-wf o = rw (e .root-is) (o .node)
 
+  pub read-col : RowOk s cells i → m ≡ 0 → exprAt cells k ≡ col (pair q n)
+  read-col o h = ap (exprAt cells) (e .root-is) ∙ o .bare (sym (e .mark-is) ∙ h) ∙ ap col (sym (e .pair-is))
+
   pub read-small : RowOk s cells i → (z : ℕ) → itemTags (itemAt s cells i) < z → exprTags (exprAt cells k) < z
   read-small o z h = omega (arith, ap exprTags (read-expr o), tags-le (itemAt s cells i))
 

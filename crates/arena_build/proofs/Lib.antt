@@ -2,3 +2,4 @@
 pub mod Grow
 pub mod Defs
 pub mod Ways
+pub mod Items

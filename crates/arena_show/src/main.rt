@@ -1,4 +1,8 @@
 //! Runs each function of `arena` and `arena_build` on samples, and writes what it answers.
+ghost use Prim.Native.Nat.{_+_, _*_, _≤_};
+ghost use lib.ListN.{length};
+ghost use Rattle.arena.specs.Cells.{Wf};
+ghost use Rattle.arena.specs.Rows.{RowsOk};
 use arena::View;
 use arena_build::Built;
 use arena_build::Found;
@@ -22,8 +26,10 @@ fn line() {
     io::write_all(STDOUT_FILENO, b"\n");
 }
 
-// The numbers of a node, by its view.
-fn node(cells: &[u64], i: usize) {
+/// Node `i`, by its view. The nodes up to it are well formed.
+fn show_node(cells: &[u64], i: usize)
+    requires { ⌜ Wf (now cells) (i + 1) ⌝ }
+{
     let v = arena::node_at(cells, i);
     match v {
         View::Col(q, n) => {
@@ -36,8 +42,8 @@ fn node(cells: &[u64], i: usize) {
             number(x);
         }
         View::Miss => {
- io::write_all(STDOUT_FILENO, b"miss ");
- },
+            io::write_all(STDOUT_FILENO, b"miss ");
+        }
         View::One(t, x) => {
             number(t);
             number(x as u64);
@@ -51,27 +57,130 @@ fn node(cells: &[u64], i: usize) {
     line();
 }
 
-// (1,1), 5, (1,1) + 5, not that, (0,7), missing, (1,1) and not ((1,1) + 5)
-const CELLS: [u64; 21] = [
-    0, 1, 1, 1, 5, 0, 5, 0, 1, 3, 2, 0, 0, 0, 7, 2, 0, 0, 10, 0, 3,
+/// The first `n` nodes, which are well formed.
+fn show_nodes(cells: &[u64], n: usize)
+    requires { ⌜ Wf (now cells) n ⌝ }
+{
+    let mut i = 0;
+    while i < n {
+        show_node(cells, i);
+        i += 1;
+    }
+}
+
+/// The first `n` rows, which lie in the array.
+fn show_rows(rows: &[u16], n: usize)
+    requires { ⌜ n * 4 ≤ length (now rows) ⌝ }
+{
+    let mut i = 0;
+    while i < n {
+        let row = arena::row_at(rows, i);
+        number(row.qualifier as u64);
+        number(row.name as u64);
+        number(row.mark as u64);
+        number(row.root as u64);
+        line();
+        i += 1;
+    }
+}
+
+// (1,1), 5, (1,1) + 5, not that, (0,7), missing, (1,1) and not ((1,1) + 5), (0,3)
+const CELLS: [u64; 24] = [
+    0,
+    1,
+    1,
+    1,
+    5,
+    0,
+    5,
+    0,
+    1,
+    3,
+    2,
+    0,
+    0,
+    0,
+    7,
+    2,
+    0,
+    0,
+    10,
+    0,
+    3,
+    0,
+    0,
+    3,
 ];
-// (1,1); (1,1) + 5 as (0,7); missing as (0,9); (1,1) and not ((1,1) + 5) as (2,8)
-const ITEMS: [u16; 16] = [1, 1, 0, 0, 0, 7, 1, 2, 0, 9, 1, 5, 2, 8, 1, 6];
-// (0,7) * (1,1), (1,1), (0,7), (0,3), not (0,7)
-const ABOVE: [u64; 18] = [0, 0, 7, 0, 1, 1, 7, 0, 1, 0, 0, 3, 3, 0, 0, 0, 0, 9];
-// (0,7) * (1,1) as (0,4); (1,1) as (0,1); (1,1); (0,7); (1,1) as (1,1); not (0,7) as (0,7); (0,3) as (0,3); (0,9)
-const UPPER: [u16; 32] = [
-    0, 4, 1, 2, 0, 1, 1, 1, 1, 1, 0, 1, 0, 7, 0, 0, 1, 1, 1, 1, 0, 7, 1, 4, 0, 3, 1, 3, 0, 9, 0, 5,
+// (1,1); (1,1) + 5 as (0,7); missing as (0,9); (1,1) and not ((1,1) + 5) as (2,8); (0,3)
+const ITEMS: [u16; 20] = [1, 1, 0, 0, 0, 7, 1, 2, 0, 9, 1, 5, 2, 8, 1, 6, 0, 3, 0, 7];
+// (0,7), (1,1), (0,7) * (1,1), (0,3), not (0,7), (0,9), (0,6)
+const ABOVE: [u64; 21] = [
+    0,
+    0,
+    7,
+    0,
+    1,
+    1,
+    7,
+    0,
+    1,
+    0,
+    0,
+    3,
+    3,
+    0,
+    0,
+    0,
+    0,
+    9,
+    0,
+    0,
+    6,
+];
+// (0,7) * (1,1) as (0,4); (1,1) as (0,1); (1,1); (0,7); (1,1) as (1,1); not (0,7) as (0,7); (0,3) as (0,3); (0,9);
+// (0,6)
+const UPPER: [u16; 36] = [
+    0,
+    4,
+    1,
+    2,
+    0,
+    1,
+    1,
+    1,
+    1,
+    1,
+    0,
+    1,
+    0,
+    7,
+    0,
+    0,
+    1,
+    1,
+    1,
+    1,
+    0,
+    7,
+    1,
+    4,
+    0,
+    3,
+    1,
+    3,
+    0,
+    9,
+    0,
+    5,
+    0,
+    6,
+    0,
+    6,
 ];
 
-fn read() {
+fn read_exprs() {
     let cells = CELLS;
-    let items = ITEMS;
-    let above = ABOVE;
-    let upper = UPPER;
-    for i in 0..7 {
-        node(&cells, i);
-    }
+    show_nodes(&cells, 8);
     number(arena::tag_at(&cells, 6));
     number(arena::count_uses(&cells, 6, 1, 1) as u64);
     number(arena::count_tags(&cells, 6) as u64);
@@ -80,126 +189,250 @@ fn read() {
     answer(arena::is_column(&cells, 4, 0, 7));
     answer(arena::is_column(&cells, 4, 1, 7));
     line();
-    number(arena::list_uses(&items, 0, 4, &cells, 1, 1) as u64);
-    number(arena::list_tags(&items, 0, 4, &cells) as u64);
-    answer(arena::uses_no_column(&items, 0, 4, &cells));
+}
+
+fn read_lists() {
+    let cells = CELLS;
+    let items = ITEMS;
+    number(arena::list_uses(&items, 0, 5, &cells, 1, 1) as u64);
+    number(arena::list_tags(&items, 0, 5, &cells) as u64);
+    answer(arena::uses_no_column(&items, 0, 5, &cells));
     answer(arena::uses_no_column(&items, 2, 1, &cells));
-    answer(arena::all_plain(&items, 0, 4, &cells));
+    answer(arena::all_plain(&items, 0, 5, &cells));
     answer(arena::all_plain(&items, 2, 1, &cells));
     line();
+}
+
+fn compare() {
+    let cells = CELLS;
+    let items = ITEMS;
+    let above = ABOVE;
+    let upper = UPPER;
     answer(arena::same_expr(&cells, 6, &cells, 6));
     answer(arena::same_expr(&cells, 6, &above, 2));
     answer(arena::same_expr(&cells, 0, &above, 1));
     answer(arena::same_item(&items, 0, &cells, &upper, 2, &above));
     answer(arena::same_item(&items, 0, &cells, &upper, 4, &above));
-    answer(arena::same_list(&items, 0, 4, &cells, &items, 0, 4, &cells));
-    answer(arena::same_list(&items, 0, 4, &cells, &items, 0, 3, &cells));
+    answer(arena::same_list(&items, 0, 5, &cells, &items, 0, 5, &cells));
+    answer(arena::same_list(&items, 0, 5, &cells, &items, 0, 3, &cells));
     answer(arena::same_list(&items, 0, 1, &cells, &upper, 2, 1, &above));
     line();
 }
 
-// The upper list over the lower one, and a copy of its first row behind it.
+// The upper list over the lower one.
 fn build() {
     let cells = CELLS;
     let items = ITEMS;
     let above = ABOVE;
     let upper = UPPER;
     let mut rows = [0u16; 36];
-    let mut dst = [0u64; 90];
-    let f = arena_build::find_def(&items, 0, 4, 2, 8);
+    let mut dst = [0u64; 54];
+    let f = arena_build::find_def(&items, 0, 5, 2, 8);
     match f {
         Found::At(j) => number(j as u64),
-        Found::Nothing => {
- io::write_all(STDOUT_FILENO, b"nothing ");
- },
+        Found::Nothing => line(),
     }
     let l = arena_build::replace_items(
-        &upper, 0, 8, &above, &items, 0, 4, &cells, &mut rows, 0, &mut dst, 0,
+        &upper,
+        0,
+        9,
+        &above,
+        &items,
+        0,
+        5,
+        &cells,
+        &mut rows,
+        0,
+        &mut dst,
+        0,
     );
     match l {
         Listed::Done(u) => {
             number(u as u64);
             line();
-            for i in 0..u {
-                node(&dst, i);
-            }
-            for i in 0..8 {
-                let row = arena::row_at(&rows, i);
-                number(row.qualifier as u64);
-                number(row.name as u64);
-                number(row.mark as u64);
-                number(row.root as u64);
-                line();
-            }
-            let b = arena_build::copy_item(&upper, 0, &above, &mut rows, 8, &mut dst, u);
-            match b {
-                Built::Done(node, used) => {
-                    number(node as u64);
-                    number(used as u64);
-                }
-                Built::Full => {
- io::write_all(STDOUT_FILENO, b"full ");
- },
-            }
+            show_nodes(&dst, u);
+            show_rows(&rows, 9);
         }
-        Listed::Full => {
- io::write_all(STDOUT_FILENO, b"full ");
- },
+        Listed::Full => line(),
     }
-    line();
 }
 
-// 128 items (0,1) as (0,k) over a definition of 31 tags, in room for so many nodes: 4,096 tags in 3,968 nodes.
-fn large(room: usize) {
-    let mut upper = [0u16; 512];
-    let mut chain = [3u64; 93];
-    for i in 0..31 {
-        if i == 0 {
-            chain[0] = 0;
-            chain[1] = 0;
-            chain[2] = 2;
-        } else {
-            chain[i * 3 + 1] = (i - 1) as u64;
-            chain[i * 3 + 2] = 0;
-        }
+/// Copies the item (0,1) as (0,2) into row after row, to 128, until the cells are full: how many rows there are then.
+fn copies(upper: &mut [u16], above: &mut [u64]) -> usize
+    requires { ⌜ (512 ≤ length (now upper)) × (length (now above) ≤ 196608) ⌝ }
+    ensures { λ r. ⌜ (r ≤ 128) × RowsOk (now (upper .exit)) (now (above .exit)) 0 r ⌝ }
+{
+    let items = [0u16, 2, 1, 0];
+    let cells = [0u64, 0, 1];
+    let mut used = 0;
+    let mut i = 0;
+    while i < 128 {
+        let b = arena_build::copy_item(&items, 0, &cells, upper, i, above, used);
+        let Built::Done(_, more) = b else {
+            return i;
+        };
+        used = more;
+        i += 1;
     }
-    for i in 0..128 {
-        arena_build::put_row(&mut upper, i, 0, (i + 1) as u16, 1, 0);
-    }
-    let above = [0u64, 0, 1];
-    let lower = [0u16, 1, 1, 30];
+    i
+}
+
+// not not .. (0,3), 31 tags, as (0,1)
+const CHAIN: [u64; 93] = [
+    0,
+    0,
+    3,
+    3,
+    0,
+    0,
+    3,
+    1,
+    0,
+    3,
+    2,
+    0,
+    3,
+    3,
+    0,
+    3,
+    4,
+    0,
+    3,
+    5,
+    0,
+    3,
+    6,
+    0,
+    3,
+    7,
+    0,
+    3,
+    8,
+    0,
+    3,
+    9,
+    0,
+    3,
+    10,
+    0,
+    3,
+    11,
+    0,
+    3,
+    12,
+    0,
+    3,
+    13,
+    0,
+    3,
+    14,
+    0,
+    3,
+    15,
+    0,
+    3,
+    16,
+    0,
+    3,
+    17,
+    0,
+    3,
+    18,
+    0,
+    3,
+    19,
+    0,
+    3,
+    20,
+    0,
+    3,
+    21,
+    0,
+    3,
+    22,
+    0,
+    3,
+    23,
+    0,
+    3,
+    24,
+    0,
+    3,
+    25,
+    0,
+    3,
+    26,
+    0,
+    3,
+    27,
+    0,
+    3,
+    28,
+    0,
+    3,
+    29,
+    0,
+];
+
+const LOWER: [u16; 4] = [0, 1, 1, 30];
+
+/// Merges the list over the chain, and says how many nodes and tags it then has, or that there is no room.
+fn merge(upper: &[u16], n: usize, above: &[u64], dst: &mut [u64])
+    requires { ⌜ (n ≤ 128) × RowsOk (now upper) (now above) 0 n ⌝ }
+    requires { ⌜ length (now dst) ≤ 196608 ⌝ }
+{
+    let chain = CHAIN;
+    let lower = LOWER;
     let mut rows = [0u16; 512];
-    let mut dst = [0u64; 11904];
-    let end = room * 3;
     let l = arena_build::replace_items(
-        &upper,
+        upper,
         0,
-        128,
-        &above,
+        n,
+        above,
         &lower,
         0,
         1,
         &chain,
         &mut rows,
         0,
-        &mut dst[..end],
+        dst,
         0,
     );
     match l {
         Listed::Done(u) => {
             number(u as u64);
-            number(arena::list_tags(&rows, 0, 128, &dst[..end]) as u64);
+            number(arena::list_tags(&rows, 0, n, dst) as u64);
         }
         Listed::Full => {
- io::write_all(STDOUT_FILENO, b"full ");
- },
+            io::write_all(STDOUT_FILENO, b"full");
+        }
     }
     line();
 }
 
+/// The same in room for so many nodes only, which the array has.
+fn merge_within(upper: &[u16], n: usize, above: &[u64], dst: &mut [u64], room: usize)
+    requires { ⌜ (n ≤ 128) × RowsOk (now upper) (now above) 0 n ⌝ }
+    requires { ⌜ (length (now dst) ≤ 196608) × (room * 3 ≤ length (now dst)) ⌝ }
+{
+    let end = room * 3;
+    merge(upper, n, above, &mut dst[..end]);
+}
+
+/// 128 items over a definition of 31 tags make 4,096 tags in 3,968 nodes: in room for so many nodes, and for one fewer.
+fn large() {
+    let mut upper = [0u16; 512];
+    let mut above = [0u64; 384];
+    let mut dst = [0u64; 11904];
+    let n = copies(&mut upper, &mut above);
+    merge_within(&upper, n, &above, &mut dst, 3968);
+    merge_within(&upper, n, &above, &mut dst, 3967);
+}
+
 fn main() {
-    read();
+    read_exprs();
+    read_lists();
+    compare();
     build();
-    large(3968);
-    large(3967);
+    large();
 }
