@@ -1,0 +1,3 @@
+-- What is proved of plans in the lent arrays.
+pub mod Parts
+pub mod Plans
