@@ -149,7 +149,7 @@ pub fn mark_for(mark: u16, q: u16, n: u16, cells: &[u64], i: usize) -> u16
 pub fn replace_item(
     upper: &[u16],
     i: usize,
-    upper_cells: &[u64],
+    ucells: &[u64],
     items: &[u16],
     first: usize,
     count: usize,
@@ -159,26 +159,16 @@ pub fn replace_item(
     dst: &mut [u64],
     used: usize,
 ) -> Built
-    requires { ⌜ RowOk (now upper) (now upper_cells) i ⌝ }
+    requires { ⌜ RowOk (now upper) (now ucells) i ⌝ }
     requires { ⌜ RowsOk (now items) (now cells) first count ⌝ }
     requires { ⌜ k * 4 + 3 < length (now rows) ⌝ }
     requires { ⌜ (length (now dst) ≤ 196608) × Wf (now dst) used ⌝ }
-    ensures { λ r. ⌜ ItemAnswer (replaceItem (itemsAt (now (items .entry)) (now (cells .entry)) first count) (itemAt (now (upper .entry)) (now (upper_cells .entry)) i)) k (now (rows .entry)) (now (dst .entry)) used r (now (rows .exit)) (now (dst .exit)) ⌝ }
+    ensures { λ r. ⌜ ItemAnswer (replaceItem (itemsAt (now (items .entry)) (now (cells .entry)) first count) (itemAt (now (upper .entry)) (now (ucells .entry)) i)) k (now (rows .entry)) (now (dst .entry)) used r (now (rows .exit)) (now (dst .exit)) ⌝ }
 {
     let row = arena::row_at(upper, i);
     let q = row.qualifier;
     let n = row.name;
-    let b = subst(
-        upper_cells,
-        row.root,
-        items,
-        first,
-        count,
-        cells,
-        REPLACE,
-        dst,
-        used,
-    );
+    let b = subst(ucells, row.root, items, first, count, cells, REPLACE, dst, used);
     let Built::Done(node, more) = b else {
         return Built::Full;
     };
@@ -224,7 +214,7 @@ pub fn replace_items(
     upper: &[u16],
     start: usize,
     size: usize,
-    upper_cells: &[u64],
+    ucells: &[u64],
     items: &[u16],
     first: usize,
     count: usize,
@@ -234,28 +224,16 @@ pub fn replace_items(
     dst: &mut [u64],
     used: usize,
 ) -> Listed
-    requires { ⌜ RowsOk (now upper) (now upper_cells) start size ⌝ }
+    requires { ⌜ RowsOk (now upper) (now ucells) start size ⌝ }
     requires { ⌜ RowsOk (now items) (now cells) first count ⌝ }
     requires { ⌜ (to + size) * 4 ≤ length (now rows) ⌝ }
     requires { ⌜ (length (now dst) ≤ 196608) × Wf (now dst) used ⌝ }
-    ensures { λ r. ⌜ ListAnswer (map (replaceItem (itemsAt (now (items .entry)) (now (cells .entry)) first count)) (itemsAt (now (upper .entry)) (now (upper_cells .entry)) start size)) to size (now (rows .entry)) (now (dst .entry)) used r (now (rows .exit)) (now (dst .exit)) ⌝ }
+    ensures { λ r. ⌜ ListAnswer (map (replaceItem (itemsAt (now (items .entry)) (now (cells .entry)) first count)) (itemsAt (now (upper .entry)) (now (ucells .entry)) start size)) to size (now (rows .entry)) (now (dst .entry)) used r (now (rows .exit)) (now (dst .exit)) ⌝ }
 {
     let mut most = used;
     let mut i = 0;
     while i < size {
-        let b = replace_item(
-            upper,
-            start + i,
-            upper_cells,
-            items,
-            first,
-            count,
-            cells,
-            rows,
-            to + i,
-            dst,
-            most,
-        );
+        let b = replace_item(upper, start + i, ucells, items, first, count, cells, rows, to + i, dst, most);
         let Built::Done(_, more) = b else {
             return Listed::Full;
         };

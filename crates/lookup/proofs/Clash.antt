@@ -1,0 +1,114 @@
+-- Clashes of a list that is put together from two. Assumes nothing.
+use mathlib.Core.Path.{_≡_, refl, sym, ap, ap₂, _∙_}
+use mathlib.Core.Bool.{Bool, true, false, cond, not, _&&_, _||_}
+use mathlib.Core.List.{List, [], _∷_, _++_}
+use Prim.Native.Nat.{ℕ, zero, suc, _+_, _-_, _*_, _<_, _≤_}
+use native.Mathlib.Omega.{arith}
+use lib.Dec.{eqb}
+use borrow.Author.Tests.{eqb-true, eq-eqb}
+use Rattle.cpl.specs.Tests.{anyB}
+use Rattle.cpl.specs.Plan.{Pair, pair, eqP}
+use Rattle.cpl.specs.Accept.{halfNamed, conflict, clash}
+use Rattle.tree.specs.Rows.{listAt, one}
+use Rattle.lookup.proofs.Known.{any-append, eqb-sym}
+use Rattle.lookup.proofs.Lists.{list-append}
+use Rattle.lookup.specs.Fields.{fieldAt, rowAt}
+use Rattle.lookup.proofs.Rows.{row-more}
+
+-- one name, and one qualifier or none at one of the two
+by-name : (n q z w : Bool) → (z ≡ true → w ≡ true → q ≡ true) → n && ((q || z) || w) ≡ (q && n) || (n && cond z (not w) w)
+by-name false true z w h = refl
+by-name false false z w h = refl
+by-name true true z w h = refl
+by-name true false true true h = sym (h refl refl)
+by-name true false true false h = refl
+by-name true false false w h = refl
+
+pub conflict-is : (q n r m : ℕ) → eqb n m && ((eqb q r || eqb q 0) || eqb r 0) ≡ conflict (pair q n) (pair r m)
+unfolding conflict eqP halfNamed
+conflict-is q n r m =
+    by-name (eqb n m) (eqb q r) (eqb q 0) (eqb r 0) (λ e g. eq-eqb q r (eqb-true q 0 e ∙ sym (eqb-true r 0 g)))
+    ∙ ap (_|| (eqb n m && cond (eqb q 0) (not (eqb r 0)) (eqb r 0))) (ap₂ _&&_ (eqb-sym q r) (eqb-sym n m))
+
+pub conflict-sym : (f g : Pair) → conflict f g ≡ conflict g f
+conflict-sym (pair q n) (pair r m) =
+    sym (conflict-is q n r m) ∙ ap₂ _&&_ (eqb-sym n m) (ap (λ b. (b || eqb q 0) || eqb r 0) (eqb-sym q r) ∙ swap (eqb r q) (eqb q 0) (eqb r 0)) ∙ conflict-is r m q n
+  where
+    swap : (a b c : Bool) → (a || b) || c ≡ (a || c) || b
+    swap true b c = refl
+    swap false true true = refl
+    swap false true false = refl
+    swap false false true = refl
+    swap false false false = refl
+
+-- ── two lists ───────────────────────────────────────────────────────────────────────────────
+
+-- is a field of ys in conflict with one of xs?
+unfoldable pub across : List Pair → List Pair → Bool
+across xs ys = anyB (λ g. anyB (conflict g) xs) ys
+
+any-same : {A : Type 0} (p q : A → Bool) → ((x : A) → p x ≡ q x) → (xs : List A) → anyB p xs ≡ anyB q xs
+unfolding anyB
+any-same p q h [] = refl
+any-same p q h (x ∷ xs) = ap₂ _||_ (h x) (any-same p q h xs)
+
+four : (a b c d : Bool) → (a || b) || (c || d) ≡ (a || c) || (b || d)
+four true b c d = refl
+four false true true d = refl
+four false true false d = refl
+four false false c d = refl
+
+any-or : {A : Type 0} (p q : A → Bool) (xs : List A) → anyB (λ x. p x || q x) xs ≡ anyB p xs || anyB q xs
+unfolding anyB
+any-or p q [] = refl
+any-or p q (x ∷ xs) = ap ((p x || q x) ||_) (any-or p q xs) ∙ four (p x) (q x) (anyB p xs) (anyB q xs)
+
+five : (a b c d e : Bool) → (a || b) || ((c || d) || e) ≡ ((a || c) || d) || (b || e)
+five true b c d e = refl
+five false true true d e = refl
+five false true false true e = refl
+five false true false false e = refl
+five false false c d e = refl
+
+pub clash-append : (xs ys : List Pair) → clash (xs ++ ys) ≡ (clash xs || clash ys) || across xs ys
+unfolding clash anyB across
+clash-append [] ys = go (clash ys) (none ys)
+  where
+    none : (zs : List Pair) → false ≡ anyB (λ g. false) zs
+    none [] = refl
+    none (z ∷ zs) = none zs
+
+    go : (b : Bool) → false ≡ anyB (λ g. anyB (conflict g) []) ys → b ≡ b || anyB (λ g. anyB (conflict g) []) ys
+    go true e = refl
+    go false e = e
+clash-append (x ∷ xs) ys =
+    ap₂ _||_ (any-append (conflict x) xs ys) (clash-append xs ys)
+    ∙ five (anyB (conflict x) xs) (anyB (conflict x) ys) (clash xs) (clash ys) (across xs ys)
+    ∙ ap (((anyB (conflict x) xs || clash xs) || clash ys) ||_)
+    (ap (_|| across xs ys) (any-same _ _ (λ g. conflict-sym x g) ys) ∙ sym (any-or (λ g. conflict g x) (λ g. anyB (conflict g) xs) ys))
+
+-- ── a row, field by field ───────────────────────────────────────────────────────────────────
+
+module _ (s : List ℕ) (k w i : ℕ) where
+  one-more : (b : Bool) → b ≡ anyB (conflict (fieldAt s (k * 128 + i))) (rowAt s k i) → clash (rowAt s k i) ≡ false → clash (rowAt s k (i + 1)) ≡ b
+  unfolding clash anyB across
+  one-more b e h =
+      ap clash (row-more s k i) ∙ clash-append (rowAt s k i) _ ∙ ap (λ c. (c || false) || (anyB (conflict (fieldAt s (k * 128 + i))) (rowAt s k i) || false)) h ∙ or-false _ ∙ sym e
+    where
+      or-false : (c : Bool) → c || false ≡ c
+      or-false true = refl
+      or-false false = refl
+
+  pub clear-more : false ≡ anyB (conflict (fieldAt s (k * 128 + i))) (rowAt s k i) → clash (rowAt s k i) ≡ false → clash (rowAt s k (i + 1)) ≡ false
+  clear-more e h = one-more false e h
+
+  pub clash-hit : true ≡ anyB (conflict (fieldAt s (k * 128 + i))) (rowAt s k i) → clash (rowAt s k i) ≡ false → i < w → true ≡ clash (rowAt s k w)
+  clash-hit e h l =
+      let d : w ≡ i + 1 + (w - (i + 1)) = omega arith in
+      let left = listAt (fieldAt s) one (k * 128 + (i + 1)) (w - (i + 1)) in
+      sym (ap (λ n. clash (rowAt s k n)) d ∙ ap clash (list-append (fieldAt s) (k * 128) (i + 1) (w - (i + 1))) ∙ clash-append (rowAt s k (i + 1)) left
+      ∙ ap (λ c. (c || clash left) || across (rowAt s k (i + 1)) left) (one-more true e h))
+
+-- two lists, neither of which clashes
+pub sides-clear : (xs ys : List Pair) → clash xs ≡ false → clash ys ≡ false → across xs ys ≡ clash (xs ++ ys)
+sides-clear xs ys a b = sym (clash-append xs ys ∙ ap₂ (λ c d. (c || d) || across xs ys) a b)

@@ -1,0 +1,5 @@
+-- The laws of fields in lent arrays, bottom up. Other crates cite `Lists`, `Rows`, `Known` and `Clash`.
+pub mod Lists
+pub mod Rows
+pub mod Known
+pub mod Clash

@@ -1,0 +1,82 @@
+-- `lookup::sides_clash` meets its contract: no field of the right side that was passed is in conflict with the left side. Assumes nothing.
+use Prim.Native.Nat.{_*_, _-_}
+use Rattle.cpl.specs.Accept.{conflict}
+use Rattle.cpl.specs.Plan.{Pair}
+use Rattle.cpl.specs.Tests.{anyB}
+use Rattle.lookup.proofs.Clash.{across, sides-clear}
+use Rattle.lookup.proofs.Lists.{Missed, left-none, missed-all, missed-hit, missed-more}
+use Rattle.lookup.specs.Fields.{fieldAt, leftRow}
+use Rattle.tree.proofs.Plans.{taken}
+use borrow.Author.Needs.{needs}
+use mathlib.Core.Path.{_∙_, ap, sym}
+use native.Mathlib.Omega.{arith}
+use Rattle.lookup.proofs.sides_clash.Statement.{statement}
+use Rattle.lookup.proofs.sides_clash.Tie as tie
+
+abbrev Inv-loop : tie.InvT-loop
+Inv-loop fields sides right width i₀ i = Missed (λ g. anyB (conflict g) (leftRow fields sides)) (fieldAt fields) (sides .right * 128) (sides .rwidth) i
+
+abbrev μ-loop : tie.MeasureT-loop
+μ-loop fields sides right width i₀ i = sides .rwidth - i
+
+loop-holds : tie.Need-loop-holds Inv-loop μ-loop
+loop-holds c = left-none _ _ _ _
+
+mul-field-at : tie.Need-mul-field-at Inv-loop μ-loop
+mul-field-at c =
+    let pre = c .before .before .before .pre in
+    omega (arith, pre .0 .right-in)
+
+add-field-at : tie.Need-add-field-at Inv-loop μ-loop
+add-field-at c =
+    let pre = c .before .before .before .pre in
+    omega (arith, pre .0 .right-in)
+
+field-at-requires : tie.Need-field-at-requires Inv-loop μ-loop
+field-at-requires c κs =
+    let pre = c .before .before .before .pre in
+    omega (arith, pre .0 .right-in)
+
+conflicts-requires : tie.Need-conflicts-requires Inv-loop μ-loop
+conflicts-requires c κs =
+    let pre = c .before .before .before .before .pre in
+    pre .0 .left-in
+
+returns : tie.Need-returns Inv-loop μ-loop
+unfolding across
+returns c =
+    let loop = c .before .before .before .before .loop in
+    let loop-test = c .before .before .before .loop-test in
+    let if1 = c .if1 in
+    let conflicts = c .before .conflicts in
+    let args = c .before .before .before .before .before .before .args in
+    let field-at = c .before .before .field-at in
+    let pre = c .before .before .before .before .before .before .pre in
+    missed-hit _ _ _ _ _ (loop .inv) (loop-test .taken) (sym (if1 .taken) ∙ conflicts .ensures ∙ ap (λ (p : Pair). anyB (conflict p) (leftRow (args .fields .now) (args .sides))) (field-at .ensures)) ∙ sides-clear _ _ (pre .1 .0) (pre .1 .1)
+
+add-i : tie.Need-add-i Inv-loop μ-loop
+add-i c = search needs
+
+loop-less : tie.Need-loop-less Inv-loop μ-loop
+loop-less c = search needs
+
+loop-again : tie.Need-loop-again Inv-loop μ-loop
+loop-again c =
+    let loop = c .before .before .before .before .loop in
+    let loop-test = c .before .before .before .loop-test in
+    let if1 = c .if1 in
+    let conflicts = c .before .conflicts in
+    let args = c .before .before .before .before .before .before .args in
+    let field-at = c .before .before .field-at in
+    missed-more _ _ _ _ _ (loop .inv) (loop-test .taken) (sym (if1 .left) ∙ conflicts .ensures ∙ ap (λ (p : Pair). anyB (conflict p) (leftRow (args .fields .now) (args .sides))) (field-at .ensures))
+
+returns-2 : tie.Need-returns-2 Inv-loop μ-loop
+unfolding across
+returns-2 c =
+    let loop = c .before .loop in
+    let loop-test = c .loop-test in
+    let pre = c .before .before .before .pre in
+    missed-all _ _ _ _ _ (loop .inv) (loop-test .left) ∙ sides-clear _ _ (pre .1 .0) (pre .1 .1)
+
+pub sides-clash-spec : {M : Type 1} → statement M
+sides-clash-spec = tie.close (tie.spec Inv-loop μ-loop loop-holds mul-field-at add-field-at field-at-requires conflicts-requires returns add-i loop-less loop-again returns-2)

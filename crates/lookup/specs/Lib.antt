@@ -1,0 +1,3 @@
+-- How lent arrays stand for field lists, and what is said of them, bottom up.
+pub mod Fields
+pub mod Answers

@@ -1,0 +1,217 @@
+//! The fields of nodes in lent arrays: lookup, known columns, clashes, and rows that are filled.
+//!
+//! Field j is two numbers of `fields`, its qualifier and its name, at 2 * j. Node k's fields are those from 128 * k on.
+ghost use mathlib.Core.Bool.{Bool, false};
+ghost use mathlib.Core.List.{_++_, map};
+ghost use mathlib.Core.Path.{_≡_};
+ghost use Prim.Native.Nat.{ℕ, _+_, _*_, _<_, _≤_};
+ghost use lib.ListN.{length};
+ghost use Rattle.arena.specs.Cells.{exprAt, Wf};
+ghost use Rattle.cpl.specs.Accept.{clash, conflict};
+ghost use Rattle.cpl.specs.Exprs.{find, known, present};
+ghost use Rattle.cpl.specs.Fields.{requalify};
+ghost use Rattle.cpl.specs.Plan.{pair};
+ghost use Rattle.cpl.specs.Tests.{anyB};
+ghost use Rattle.lookup.specs.Answers.{placeOf};
+ghost use Rattle.lookup.specs.Fields.{fieldAt, Filled, Kept, leftRow, pairOf, rightRow, rowAt, RowIn, SidesIn};
+use arena::View;
+
+/// A field: a qualifier, 0 for none, and a name.
+pub struct Field {
+    pub qualifier: u16,
+    pub name: u16,
+}
+
+/// Two sides: the first `lwidth` fields of node `left`, the first `rwidth` of node `right`. What has one input or none has width 0 there.
+pub struct Sides {
+    pub left: usize,
+    pub lwidth: usize,
+    pub right: usize,
+    pub rwidth: usize,
+}
+
+/// Where a column is found among fields.
+pub enum Lookup {
+    Found(usize),
+    Absent,
+}
+
+/// Field `j`, which lies in the array.
+pub fn field_at(fields: &[u16], j: usize) -> Field
+    requires { ⌜ j * 2 + 1 < length (now fields) ⌝ }
+    ensures { λ r. ⌜ pairOf r ≡ fieldAt (now (fields .entry)) j ⌝ }
+{
+    let at = j * 2;
+    Field {
+        qualifier: fields[at],
+        name: fields[at + 1],
+    }
+}
+
+/// Field `j`, which lies in the array, is set.
+pub fn put_field(fields: &mut [u16], j: usize, f: Field)
+    requires { ⌜ j * 2 + 1 < length (now fields) ⌝ }
+    ensures { λ r. ⌜ fieldAt (now (fields .exit)) j ≡ pairOf f ⌝ }
+    ensures { λ r. ⌜ Kept fieldAt j (j + 1) (now (fields .entry)) (now (fields .exit)) ⌝ }
+{
+    let at = j * 2;
+    fields[at] = f.qualifier;
+    fields[at + 1] = f.name;
+}
+
+/// The place of a column among the first `width` fields of node `k`, which lie in the array.
+pub fn look_up(fields: &[u16], k: usize, width: usize, qualifier: u16, name: u16) -> Lookup
+    requires { ⌜ RowIn (now fields) k width ⌝ }
+    ensures { λ r. ⌜ placeOf r ≡ find (pair qualifier name) (rowAt (now (fields .entry)) k width) ⌝ }
+{
+    let mut i = 0;
+    while i < width {
+        let f = field_at(fields, k * 128 + i);
+        if (f.qualifier == qualifier) & (f.name == name) {
+            return Lookup::Found(i);
+        }
+        i += 1;
+    }
+    Lookup::Absent
+}
+
+/// Is the column found in one of two sides, which lie in the array?
+pub fn known_column(fields: &[u16], sides: Sides, qualifier: u16, name: u16) -> bool
+    requires { ⌜ SidesIn (now fields) sides ⌝ }
+    ensures { λ r. ⌜ r ≡ present (find (pair qualifier name) (leftRow (now (fields .entry)) sides ++ rightRow (now (fields .entry)) sides)) ⌝ }
+{
+    let Lookup::Found(_) = look_up(fields, sides.left, sides.lwidth, qualifier, name) else {
+        let Lookup::Found(_) = look_up(fields, sides.right, sides.rwidth, qualifier, name) else {
+            return false;
+        };
+        return true;
+    };
+    true
+}
+
+/// Is each column of node `i`'s expression found in one of two sides, which lie in the array? The nodes up to `i` are well formed.
+pub fn known_both(cells: &[u64], i: usize, fields: &[u16], sides: Sides) -> bool
+    requires { ⌜ Wf (now cells) (i + 1) ⌝ }
+    requires { ⌜ SidesIn (now fields) sides ⌝ }
+    ensures { λ r. ⌜ r ≡ known (leftRow (now (fields .entry)) sides ++ rightRow (now (fields .entry)) sides) (exprAt (now (cells .entry)) i) ⌝ }
+{
+    let v = arena::node_at(cells, i);
+    match v {
+        View::Col(q, n) => known_column(fields, sides, q, n),
+        View::Lit(_) => true,
+        View::Miss => true,
+        View::One(_, x) => known_both(cells, x, fields, sides),
+        View::Two(_, x, y) => {
+            if known_both(cells, x, fields, sides) {
+                return known_both(cells, y, fields, sides);
+            }
+            false
+        }
+    }
+}
+
+/// Is each column of node `i`'s expression found among the first `width` fields of node `k`, which lie in the array? The nodes up to `i` are
+/// well formed.
+pub fn known_expr(cells: &[u64], i: usize, fields: &[u16], k: usize, width: usize) -> bool
+    requires { ⌜ Wf (now cells) (i + 1) ⌝ }
+    requires { ⌜ RowIn (now fields) k width ⌝ }
+    ensures { λ r. ⌜ r ≡ known (rowAt (now (fields .entry)) k width) (exprAt (now (cells .entry)) i) ⌝ }
+{
+    let one = Sides {
+        left: k,
+        lwidth: width,
+        right: k,
+        rwidth: 0,
+    };
+    known_both(cells, i, fields, one)
+}
+
+/// May two fields not stand in one list? Two equal pairs, or one name both with and without qualifier.
+fn in_conflict(f: Field, g: Field) -> bool
+    ensures { λ r. ⌜ r ≡ conflict (pairOf f) (pairOf g) ⌝ }
+{
+    (f.name == g.name) & ((f.qualifier == g.qualifier) | (f.qualifier == 0) | (g.qualifier == 0))
+}
+
+/// Is a field in conflict with one of the first `width` of node `k`, which lie in the array?
+fn conflicts(fields: &[u16], k: usize, width: usize, f: Field) -> bool
+    requires { ⌜ RowIn (now fields) k width ⌝ }
+    ensures { λ r. ⌜ r ≡ anyB (conflict (pairOf f)) (rowAt (now (fields .entry)) k width) ⌝ }
+{
+    let mut i = 0;
+    while i < width {
+        let g = field_at(fields, k * 128 + i);
+        if in_conflict(f, g) {
+            return true;
+        }
+        i += 1;
+    }
+    false
+}
+
+/// Do the first `width` fields of node `k`, which lie in the array, clash? The first `start` of them do not.
+pub fn clash_from(fields: &[u16], k: usize, start: usize, width: usize) -> bool
+    requires { ⌜ RowIn (now fields) k width ⌝ }
+    requires { ⌜ (start ≤ width) × (clash (rowAt (now fields) k start) ≡ false) ⌝ }
+    ensures { λ r. ⌜ r ≡ clash (rowAt (now (fields .entry)) k width) ⌝ }
+{
+    let mut i = start;
+    while i < width {
+        let f = field_at(fields, k * 128 + i);
+        if conflicts(fields, k, i, f) {
+            return true;
+        }
+        i += 1;
+    }
+    false
+}
+
+/// Do the fields of two sides together clash? They lie in the array, and the fields of each side by themselves do not clash.
+pub fn sides_clash(fields: &[u16], sides: Sides) -> bool
+    requires { ⌜ SidesIn (now fields) sides ⌝ }
+    requires { ⌜ (clash (leftRow (now fields) sides) ≡ false) × (clash (rightRow (now fields) sides) ≡ false) ⌝ }
+    ensures { λ r. ⌜ r ≡ clash (leftRow (now (fields .entry)) sides ++ rightRow (now (fields .entry)) sides) ⌝ }
+{
+    let right = sides.right;
+    let width = sides.rwidth;
+    let mut i = 0;
+    while i < width {
+        let f = field_at(fields, right * 128 + i);
+        if conflicts(fields, sides.left, sides.lwidth, f) {
+            return true;
+        }
+        i += 1;
+    }
+    false
+}
+
+/// The first `width` fields of node `j` are put behind the first `at` of node `k`, an earlier node. Node `j`'s lie in the array, and node
+/// `k` has at most 128.
+pub fn copy_fields(fields: &mut [u16], k: usize, at: usize, j: usize, width: usize)
+    requires { ⌜ (k < j) × (at + width ≤ 128) × RowIn (now fields) j width ⌝ }
+    ensures { λ r. ⌜ Filled k (at + width) (rowAt (now (fields .entry)) k at ++ rowAt (now (fields .entry)) j width) (now (fields .entry)) (now (fields .exit)) ⌝ }
+{
+    let mut i = 0;
+    while i < width {
+        let f = field_at(fields, j * 128 + i);
+        put_field(fields, k * 128 + (at + i), f);
+        i += 1;
+    }
+}
+
+/// Node `k` gets the first `width` fields of node `j`, a later node, under a qualifier. They lie in the array, and are at most 128.
+pub fn alias_fields(fields: &mut [u16], k: usize, j: usize, width: usize, qualifier: u16)
+    requires { ⌜ (k < j) × (width ≤ 128) × RowIn (now fields) j width ⌝ }
+    ensures { λ r. ⌜ Filled k width (map (requalify qualifier) (rowAt (now (fields .entry)) j width)) (now (fields .entry)) (now (fields .exit)) ⌝ }
+{
+    let mut i = 0;
+    while i < width {
+        let f = field_at(fields, j * 128 + i);
+        let g = Field {
+            qualifier,
+            name: f.name,
+        };
+        put_field(fields, k * 128 + i, g);
+        i += 1;
+    }
+}
