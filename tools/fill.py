@@ -100,7 +100,7 @@ for n,N in needs:
     if names or '\n' in t:
         o+=f'{ind}{n} c{req} =\n'+''.join(f'{ind}    let {x} = {P[x]} in\n' for x in names)+''.join(f'{ind}    {l}\n' for l in t.split('\n'))+'\n'
     else: o+=f'{ind}{n} c{req} = {t}\n\n'
-assert not answers,('unused',answers)
+if answers: print('UNUSED',list(answers),'needs:',[n for n,_ in needs])
 if cyc:
     o+=f'pub +{f}-spec : {{M : Type 1}} → statement M\n+{f}-spec = close μ λ t.\n    lts.spec (callees t) (given t) {f}.Post\n    '
     o+=' '.join(f'({n} t)' for n,_ in needs)+'\n'
