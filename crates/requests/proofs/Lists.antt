@@ -91,15 +91,15 @@ module _ {s cells : List ℕ} {f n : ℕ} where
 
 -- ── things that are picked by a set ─────────────────────────────────────────────────────────
 
-picks : (n set i : ℕ) → i < n → drop i (setMask n set) ≡ has set i ∷ drop (i + 1) (setMask n set)
+pub picks : (n set i : ℕ) → i < n → drop i (setMask n set) ≡ has set i ∷ drop (i + 1) (setMask n set)
 picks n set i h = rw add-one (drop-cons (setMask n set) i false (omega (arith, mask-length n set)) ∙ ap (_∷ drop (suc i) (setMask n set)) (mask-at n set i h))
 
 module _ {A : Type 0} (n set i : ℕ) (h : i < n) where
-  pick-yes : has set i ≡ true → (x : A) (xs : List A) → select (drop i (setMask n set)) (x ∷ xs) ≡ x ∷ select (drop (i + 1) (setMask n set)) xs
+  pub pick-yes : has set i ≡ true → (x : A) (xs : List A) → select (drop i (setMask n set)) (x ∷ xs) ≡ x ∷ select (drop (i + 1) (setMask n set)) xs
   unfolding select
   pick-yes e x xs = rw (picks n set i h, e)
 
-  pick-no : has set i ≡ false → (x : A) (xs : List A) → select (drop i (setMask n set)) (x ∷ xs) ≡ select (drop (i + 1) (setMask n set)) xs
+  pub pick-no : has set i ≡ false → (x : A) (xs : List A) → select (drop i (setMask n set)) (x ∷ xs) ≡ select (drop (i + 1) (setMask n set)) xs
   unfolding select
   pick-no e x xs = rw (picks n set i h, e)
 
