@@ -1,0 +1,24 @@
+-- `jobs::filter_job` meets its contract. Assumes nothing.
+use borrow.Author.Needs.{needs}
+use Rattle.jobs.proofs.Simple.{filter-done}
+use Rattle.jobs.proofs.filter_job.Statement.{statement}
+use Rattle.jobs.proofs.filter_job.Tie as tie
+
+add-expr-requires : tie.Need-add-expr-requires
+add-expr-requires c κs = search needs
+
+with-projection-beneficial-requires : tie.Need-with-projection-beneficial-requires
+with-projection-beneficial-requires c κs = search needs
+
+passes-requires : tie.Need-passes-requires
+passes-requires c κs = search needs
+
+returns : tie.Need-returns
+returns c =
+    let add-expr = c .before .before .add-expr in
+    let with-projection-beneficial = c .before .with-projection-beneficial in
+    let passes = c .passes in
+    filter-done _ (add-expr .ensures) (with-projection-beneficial .ensures) (passes .ensures)
+
+pub filter-job-spec : {M : Type 1} → statement M
+filter-job-spec = tie.close (tie.spec add-expr-requires with-projection-beneficial-requires passes-requires returns)

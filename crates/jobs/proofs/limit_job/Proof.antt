@@ -1,0 +1,20 @@
+-- `jobs::limit_job` meets its contract. Assumes nothing.
+use borrow.Author.Needs.{needs}
+use Rattle.jobs.proofs.Simple.{limit-done}
+use Rattle.jobs.proofs.limit_job.Statement.{statement}
+use Rattle.jobs.proofs.limit_job.Tie as tie
+
+projection-beneficial-requires : tie.Need-projection-beneficial-requires
+projection-beneficial-requires c κs = search needs
+
+passes-requires : tie.Need-passes-requires
+passes-requires c κs = search needs
+
+returns : tie.Need-returns
+returns c =
+    let projection-beneficial = c .before .projection-beneficial in
+    let passes = c .passes in
+    limit-done (projection-beneficial .ensures) (passes .ensures)
+
+pub limit-job-spec : {M : Type 1} → statement M
+limit-job-spec = tie.close (tie.spec projection-beneficial-requires passes-requires returns)

@@ -1,0 +1,3 @@
+-- What is to be done at a node.
+pub mod Jobs
+pub mod Joins

@@ -1,0 +1,4 @@
+-- The laws that the proofs of this crate's functions cite.
+pub mod Tops
+pub mod Bare
+pub mod Copies

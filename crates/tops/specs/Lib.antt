@@ -1,0 +1,2 @@
+-- Projections on top.
+pub mod Tops
