@@ -6,12 +6,14 @@ import re,sys,subprocess,os,glob
 crate,fn=sys.argv[1:3]
 ans=f"tools/answers/{fn}.txt"
 head,body=open(ans).read().split('\n----\n')
-answers={}; last=None
+answers={}; last=None; rules=[]
 for l in body.split('\n'):
     if not l.strip() or l.startswith('#'): continue
     if l.startswith(' '): answers[last]+='\n'+l.strip()
     else:
         last,t=l.split(' = ',1); last=last.strip(); answers[last]=t.strip()
+# a line /REGEX/ = TERM answers the needs that match, where `search needs` left them; [[, .. @thing ..]] goes where the thing is not known
+for k in [k for k in answers if k.startswith('/')]: rules.append((re.compile(k.strip('/')+'$'),answers.pop(k)))
 proof=f'crates/{crate}/proofs/{fn}/Proof.antt'
 skel=f'target/skel-{crate}-{fn}.antt'; lts=f'target/lts-{crate}-{fn}.antt'
 if '--new' in sys.argv or not os.path.exists(skel) or not os.path.exists(lts):
@@ -85,8 +87,15 @@ callees t = ({", ".join(parts)})
 o+=lem
 if cyc: o+='module _ (t : ℕ) where\n'
 for n,N in needs:
-    t=answers.pop(n,'search needs')
     P=paths(place[N],'c',{})
+    t=answers.pop(n,None)
+    left=re.search(r'\n%s (?:t )?c(?: κs)? =\s*\?'%re.escape((f+'-' if cyc else '')+n),s)
+    if t is None:
+        t='search needs'
+        if left:
+            for k,v in rules:
+                if k.match(n): t=v; break
+    t=re.sub(r'\[\[(.*?)\]\]',lambda m:m.group(1) if all(x in P for x in re.findall(r'@([\w-]*\w)',m.group(1))) else '',t)
     names=[]
     for x in re.findall(r'@([\w-]*\w)',t):
         assert x in P,(n,x,list(P))

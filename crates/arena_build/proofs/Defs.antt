@@ -76,8 +76,8 @@ module _ (s cells : List ℕ) (c : Pair) where
       go (def-found (suc f) n j (less o)) (r .node) (eqP c (pairAt s f)) e (def-next f n r)
     where
       go : (findIn s (suc f) n c ≡ At j → (defOf c (itemsAt s cells (suc f) n) ≡ exprAt cells j) × Wf cells (j + 1)) → Wf cells (rootAt s f + 1) → (b : Bool)
-        → cond b (At (rootAt s f)) (findIn s (suc f) n c) ≡ At j → defOf c (itemsAt s cells f (suc n)) ≡ cond b (exprAt cells (rootAt s f)) (defOf c (itemsAt s cells (suc f) n))
-        → (defOf c (itemsAt s cells f (suc n)) ≡ exprAt cells j) × Wf cells (j + 1)
+          → cond b (At (rootAt s f)) (findIn s (suc f) n c) ≡ At j → defOf c (itemsAt s cells f (suc n)) ≡ cond b (exprAt cells (rootAt s f)) (defOf c (itemsAt s cells (suc f) n))
+          → (defOf c (itemsAt s cells f (suc n)) ≡ exprAt cells j) × Wf cells (j + 1)
       go rest w true h d = let k : rootAt s f ≡ j = cc in (d ∙ ap (exprAt cells) k, rw k at w)
       go rest w false h d = let p = rest h in (d ∙ p .0, p .1)
 
@@ -87,7 +87,7 @@ module _ (s cells : List ℕ) (c : Pair) where
   def-none f (suc n) o e = go (def-none (suc f) n (less o)) (eqP c (pairAt s f)) e (def-next f n (o .each f (omega arith) (omega arith)))
     where
       go : (findIn s (suc f) n c ≡ Nothing → defOf c (itemsAt s cells (suc f) n) ≡ miss) → (b : Bool) → cond b (At (rootAt s f)) (findIn s (suc f) n c) ≡ Nothing
-        → defOf c (itemsAt s cells f (suc n)) ≡ cond b (exprAt cells (rootAt s f)) (defOf c (itemsAt s cells (suc f) n)) → defOf c (itemsAt s cells f (suc n)) ≡ miss
+          → defOf c (itemsAt s cells f (suc n)) ≡ cond b (exprAt cells (rootAt s f)) (defOf c (itemsAt s cells (suc f) n)) → defOf c (itemsAt s cells f (suc n)) ≡ miss
       go rest true h d = let z : _≡_ {A = ℕ} 0 1 = cc in absurd (omega arith)
       go rest false h d = d ∙ rest h
 

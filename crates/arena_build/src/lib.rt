@@ -168,7 +168,17 @@ pub fn replace_item(
     let row = arena::row_at(upper, i);
     let q = row.qualifier;
     let n = row.name;
-    let b = subst(ucells, row.root, items, first, count, cells, REPLACE, dst, used);
+    let b = subst(
+        ucells,
+        row.root,
+        items,
+        first,
+        count,
+        cells,
+        REPLACE,
+        dst,
+        used,
+    );
     let Built::Done(node, more) = b else {
         return Built::Full;
     };
@@ -233,7 +243,19 @@ pub fn replace_items(
     let mut most = used;
     let mut i = 0;
     while i < size {
-        let b = replace_item(upper, start + i, ucells, items, first, count, cells, rows, to + i, dst, most);
+        let b = replace_item(
+            upper,
+            start + i,
+            ucells,
+            items,
+            first,
+            count,
+            cells,
+            rows,
+            to + i,
+            dst,
+            most,
+        );
         let Built::Done(_, more) = b else {
             return Listed::Full;
         };

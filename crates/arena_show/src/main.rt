@@ -36,8 +36,8 @@ fn node(cells: &[u64], i: usize) {
             number(x);
         }
         View::Miss => {
- io::write_all(STDOUT_FILENO, b"miss ");
- },
+            io::write_all(STDOUT_FILENO, b"miss ");
+        },
         View::One(t, x) => {
             number(t);
             number(x as u64);
@@ -53,7 +53,27 @@ fn node(cells: &[u64], i: usize) {
 
 // (1,1), 5, (1,1) + 5, not that, (0,7), missing, (1,1) and not ((1,1) + 5)
 const CELLS: [u64; 21] = [
-    0, 1, 1, 1, 5, 0, 5, 0, 1, 3, 2, 0, 0, 0, 7, 2, 0, 0, 10, 0, 3,
+    0,
+    1,
+    1,
+    1,
+    5,
+    0,
+    5,
+    0,
+    1,
+    3,
+    2,
+    0,
+    0,
+    0,
+    7,
+    2,
+    0,
+    0,
+    10,
+    0,
+    3,
 ];
 // (1,1); (1,1) + 5 as (0,7); missing as (0,9); (1,1) and not ((1,1) + 5) as (2,8)
 const ITEMS: [u16; 16] = [1, 1, 0, 0, 0, 7, 1, 2, 0, 9, 1, 5, 2, 8, 1, 6];
@@ -61,7 +81,38 @@ const ITEMS: [u16; 16] = [1, 1, 0, 0, 0, 7, 1, 2, 0, 9, 1, 5, 2, 8, 1, 6];
 const ABOVE: [u64; 18] = [0, 0, 7, 0, 1, 1, 7, 0, 1, 0, 0, 3, 3, 0, 0, 0, 0, 9];
 // (0,7) * (1,1) as (0,4); (1,1) as (0,1); (1,1); (0,7); (1,1) as (1,1); not (0,7) as (0,7); (0,3) as (0,3); (0,9)
 const UPPER: [u16; 32] = [
-    0, 4, 1, 2, 0, 1, 1, 1, 1, 1, 0, 1, 0, 7, 0, 0, 1, 1, 1, 1, 0, 7, 1, 4, 0, 3, 1, 3, 0, 9, 0, 5,
+    0,
+    4,
+    1,
+    2,
+    0,
+    1,
+    1,
+    1,
+    1,
+    1,
+    0,
+    1,
+    0,
+    7,
+    0,
+    0,
+    1,
+    1,
+    1,
+    1,
+    0,
+    7,
+    1,
+    4,
+    0,
+    3,
+    1,
+    3,
+    0,
+    9,
+    0,
+    5,
 ];
 
 fn read() {
@@ -110,11 +161,22 @@ fn build() {
     match f {
         Found::At(j) => number(j as u64),
         Found::Nothing => {
- io::write_all(STDOUT_FILENO, b"nothing ");
- },
+            io::write_all(STDOUT_FILENO, b"nothing ");
+        },
     }
     let l = arena_build::replace_items(
-        &upper, 0, 8, &above, &items, 0, 4, &cells, &mut rows, 0, &mut dst, 0,
+        &upper,
+        0,
+        8,
+        &above,
+        &items,
+        0,
+        4,
+        &cells,
+        &mut rows,
+        0,
+        &mut dst,
+        0,
     );
     match l {
         Listed::Done(u) => {
@@ -138,13 +200,13 @@ fn build() {
                     number(used as u64);
                 }
                 Built::Full => {
- io::write_all(STDOUT_FILENO, b"full ");
- },
+                    io::write_all(STDOUT_FILENO, b"full ");
+                },
             }
         }
         Listed::Full => {
- io::write_all(STDOUT_FILENO, b"full ");
- },
+            io::write_all(STDOUT_FILENO, b"full ");
+        },
     }
     line();
 }
@@ -191,8 +253,8 @@ fn large(room: usize) {
             number(arena::list_tags(&rows, 0, 128, &dst[..end]) as u64);
         }
         Listed::Full => {
- io::write_all(STDOUT_FILENO, b"full ");
- },
+            io::write_all(STDOUT_FILENO, b"full ");
+        },
     }
     line();
 }
