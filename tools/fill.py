@@ -13,7 +13,7 @@ for l in body.split('\n'):
     else:
         last,t=l.split(' = ',1); last=last.strip(); answers[last]=t.strip()
 # a line /REGEX/ = TERM answers the needs that match, where `search needs` left them; [[, .. @thing ..]] goes where the thing is not known
-for k in [k for k in answers if k.startswith('/')]: rules.append((re.compile(k.strip('/')+'$'),answers.pop(k)))
+for k in [k for k in answers if k.startswith('/')]: rules.append((re.compile('(?:'+k.strip('/')+')$'),answers.pop(k)))
 proof=f'crates/{crate}/proofs/{fn}/Proof.antt'
 skel=f'target/skel-{crate}-{fn}.antt'; lts=f'target/lts-{crate}-{fn}.antt'
 if '--new' in sys.argv or not os.path.exists(skel) or not os.path.exists(lts):
