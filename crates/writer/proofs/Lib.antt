@@ -1,0 +1,3 @@
+-- The laws of heads and nodes, bottom up.
+pub mod Segments
+pub mod Heads
