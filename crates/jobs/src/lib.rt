@@ -421,10 +421,7 @@ pub fn job_at(
         Node::SubqueryAlias { qualifier: _ } => alias_job(r),
         Node::Union { right } => union_job(r, right),
         Node::Distinct => distinct_job(r, fields, i, w),
-        Node::Join(j) => {
-            let v = width_at(widths, j.right);
-            join_job(r, j, cells, rows, fields, i, w, v)
-        }
+        Node::Join(j) => join_job(r, j, cells, rows, fields, i, w, width_at(widths, j.right)),
         Node::Scan(_) => scan_job(r),
         Node::Empty {
             one_row: _,
