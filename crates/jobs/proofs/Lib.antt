@@ -1,4 +1,16 @@
+<<<<<<< HEAD
 -- The laws that the proofs of this crate's functions cite.
 pub mod Simple
 pub mod Splits
 pub mod Sides
+=======
+-- The laws that the proofs of this crate's functions cite, bottom up.
+pub mod Plain
+pub mod Aggregates
+pub mod Windows
+pub mod Inputs
+pub mod Leaves
+pub mod Kept
+pub mod Places
+pub mod Others
+>>>>>>> jobs

@@ -1,7 +1,14 @@
+<<<<<<< HEAD
 -- `jobs::sort_job` meets its contract. Assumes nothing.
 use borrow.Author.Needs.{needs}
 use Rattle.jobs.proofs.Simple.{sort-done}
 use Rattle.requests.proofs.Lists.{keys-ok}
+=======
+-- `jobs::sort_job` meets its contract: a law of `Plain`. Assumes nothing.
+use borrow.Author.Needs.{needs}
+use Rattle.requests.proofs.Lists.{keys-ok, keys-roots}
+use Rattle.jobs.proofs.Plain.{sort-one}
+>>>>>>> jobs
 use Rattle.jobs.proofs.sort_job.Statement.{statement}
 use Rattle.jobs.proofs.sort_job.Tie as tie
 
@@ -13,6 +20,7 @@ with-roots-requires c κs =
 with-projection-beneficial-requires : tie.Need-with-projection-beneficial-requires
 with-projection-beneficial-requires c κs = search needs
 
+<<<<<<< HEAD
 passes-requires : tie.Need-passes-requires
 passes-requires c κs = search needs
 
@@ -25,3 +33,18 @@ returns c =
 
 pub sort-job-spec : {M : Type 1} → statement M
 sort-job-spec = tie.close (tie.spec with-roots-requires with-projection-beneficial-requires passes-requires returns)
+=======
+through-requires : tie.Need-through-requires
+through-requires c κs = search needs
+
+returns : tie.Need-returns
+returns c =
+    let args = c .before .before .before .before .before .before .args in
+    let with-roots = c .before .before .with-roots in
+    let with-projection-beneficial = c .before .with-projection-beneficial in
+    let through = c .through in
+    sort-one _ _ (keys-roots (args .rows .now) (args .cells .now) (args .first) (args .n)) (with-roots .ensures) (with-projection-beneficial .ensures) (through .ensures)
+
+pub sort-job-spec : {M : Type 1} → statement M
+sort-job-spec = tie.close (tie.spec with-roots-requires with-projection-beneficial-requires through-requires returns)
+>>>>>>> jobs

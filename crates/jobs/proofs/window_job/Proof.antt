@@ -1,3 +1,4 @@
+<<<<<<< HEAD
 -- `jobs::window_job` meets its contract: each way is a law of `Splits`. Assumes nothing.
 use borrow.Author.Needs.{needs}
 use mathlib.Core.Path.{_≡_, refl, sym, _∙_}
@@ -18,11 +19,29 @@ split-off-requires c κs = search needs
 new-requires : tie.Need-new-requires
 new-requires c κs = search needs
 
+=======
+-- `jobs::window_job` meets its contract: laws of `Windows`. Assumes nothing.
+use borrow.Author.Needs.{needs}
+use mathlib.Core.Path.{sym, _∙_}
+use Rattle.tree.specs.Rows.{winsAt}
+use Rattle.jobs.proofs.Plain.{row-long, wins-long}
+use Rattle.jobs.proofs.Windows.{same-is, window-is}
+use Rattle.jobs.proofs.window_job.Statement.{statement}
+use Rattle.jobs.proofs.window_job.Tie as tie
+
+new-requires : tie.Need-new-requires
+new-requires c κs = search needs
+
+split-off-requires : tie.Need-split-off-requires
+split-off-requires c κs = search needs
+
+>>>>>>> jobs
 is-empty-requires : tie.Need-is-empty-requires
 is-empty-requires c κs = search needs
 
 returns : tie.Need-returns
 returns c =
+<<<<<<< HEAD
     let split-off = c .before .before .before .before .before .split-off in
     let pre = c .before .before .before .before .before .before .before .before .before .pre in
     let args = c .before .before .before .before .before .before .before .before .before .args in
@@ -31,12 +50,24 @@ returns c =
     λ C R t a f. inl (window-through _ _ _ _ _ _ _ (sym (list-length _ _ _ _)) (split-off .ensures .1) (split-off .ensures .0)
     (omega (arith, pre .1 .0 .few, list-length (fieldAt (args .fields .now)) one (args .k * 128) (args .width), list-length (winAt (args .rows .now) (args .cells .now)) (winSize (args .rows .now)) (args .first) (args .n)))
     C R a f _ refl refl refl (sym (is-empty .ensures) ∙ if1 .taken) refl refl refl)
+=======
+    let args = c .before .before .before .before .before .before .before .before .before .args in
+    let split-off = c .before .before .before .before .split-off in
+    let is-empty = c .before .is-empty in
+    let if1 = c .if1 in
+    record {
+      is = λ C R p.
+          same-is (winsAt (args .rows .now) (args .cells .now) (args .first) (args .n)) (row-long (args .fields .now) (args .k) (args .width)) (split-off .ensures .0) (split-off .ensures .1) p C _
+          (sym (is-empty .ensures) ∙ if1 .taken);
+    }
+>>>>>>> jobs
 
 with-windows-requires : tie.Need-with-windows-requires
 with-windows-requires c κs = search needs
 
 returns-2 : tie.Need-returns-2
 returns-2 c =
+<<<<<<< HEAD
     let split-off = c .before .before .before .before .before .before .split-off in
     let pre = c .before .before .before .before .before .before .before .before .before .before .pre in
     let args = c .before .before .before .before .before .before .before .before .before .before .args in
@@ -49,3 +80,18 @@ returns-2 c =
 
 pub window-job-spec : {M : Type 1} → statement M
 window-job-spec = tie.close (tie.spec split-off-requires new-requires is-empty-requires returns with-windows-requires returns-2)
+=======
+    let args = c .before .before .before .before .before .before .before .before .before .before .args in
+    let split-off = c .before .before .before .before .before .split-off in
+    let is-empty = c .before .before .is-empty in
+    let if1 = c .before .if1 in
+    let with-windows = c .with-windows in
+    record {
+      is = λ C R p.
+          window-is (winsAt (args .rows .now) (args .cells .now) (args .first) (args .n)) (row-long (args .fields .now) (args .k) (args .width)) (split-off .ensures .0) (split-off .ensures .1) p C _
+          (wins-long (args .rows .now) (args .cells .now) (args .first) (args .n)) (sym (is-empty .ensures) ∙ if1 .left) (with-windows .ensures);
+    }
+
+pub window-job-spec : {M : Type 1} → statement M
+window-job-spec = tie.close (tie.spec new-requires split-off-requires is-empty-requires returns with-windows-requires returns-2)
+>>>>>>> jobs
