@@ -1,6 +1,5 @@
 -- `projections::add_projection_on_top_if_helpful` meets its contract. Assumes nothing.
 use Rattle.projections.proofs.Tops.{topped-put, topped-stays}
-use Rattle.tree.proofs.Plans.{taken}
 use borrow.Author.Needs.{needs}
 use native.Mathlib.Omega.{arith}
 use Rattle.projections.proofs.add_projection_on_top_if_helpful.Statement.{statement}

@@ -1,9 +1,7 @@
 -- `projections::all_bare` meets its contract: the items that were passed are bare. Assumes nothing.
 use Prim.Native.Nat.{_-_}
-use Rattle.cpl.specs.Read.{count}
 use Rattle.projections.proofs.Chosen.{found}
 use Rattle.projections.proofs.Tests.{Bare, bare-all, bare-more, bare-no, bare-none}
-use Rattle.tree.proofs.Plans.{taken}
 use borrow.Author.Needs.{needs}
 use native.Mathlib.Omega.{arith}
 use Rattle.projections.proofs.all_bare.Statement.{statement}

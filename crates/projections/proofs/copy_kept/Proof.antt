@@ -1,11 +1,8 @@
 -- `projections::copy_kept` meets its contract: the rows that are done are a `Listing`. Assumes nothing.
 use Prim.Native.Nat.{_-_}
 use Rattle.arena.proofs.Rows.{row-fits, row-ok}
-use Rattle.cpl.specs.Read.{count}
 use Rattle.projections.proofs.Chosen.{found}
 use Rattle.projections.proofs.Copying.{Copying, copying-all, copying-dst, copying-full, copying-more, copying-none, copying-room}
-use Rattle.rules.specs.Rules.{used}
-use Rattle.tree.proofs.Stores.{row}
 use borrow.Author.Needs.{needs}
 use native.Mathlib.Omega.{arith}
 use Rattle.projections.proofs.copy_kept.Statement.{statement}

@@ -2,7 +2,6 @@
 use Prim.Native.Nat.{_-_}
 use Rattle.projections.proofs.Chosen.{found}
 use Rattle.projections.proofs.Tests.{Alike, alike-more, alike-no, alike-none, both-end, first-ends, second-ends}
-use Rattle.tree.proofs.Plans.{taken}
 use borrow.Author.Needs.{needs}
 use borrow.Author.Tests.{not-false, not-true}
 use native.Mathlib.Omega.{arith}

@@ -1,6 +1,5 @@
 -- `projections::put_projection` meets its contract. Assumes nothing.
 use Rattle.projections.proofs.Tops.{columns-put, columns-stay, items-put}
-use Rattle.tree.proofs.Plans.{taken}
 use borrow.Author.Needs.{needs}
 use mathlib.Core.Path.{_∙_, sym}
 use Rattle.projections.proofs.put_projection.Statement.{statement}
