@@ -100,29 +100,20 @@ pub fn copy_kept(
     ensures { λ r. ⌜ CopyAnswer (keptItems (now (items .entry)) (now (cells .entry)) first count kept) row (now («out_items» .entry)) (now («out_cells» .entry)) used r (now («out_items» .exit)) (now («out_cells» .exit)) ⌝ }
 {
     let mut most = used;
-    let mut n = 0;
+    let mut rows = 0;
     let mut from = 0;
     loop {
         let Next::At(i) = kept.next(from) else {
-            return Copied::Done {
-                rows: n,
-                used: most,
-            };
+            return Copied::Done { rows, used: most };
         };
-        let b = arena_build::copy_item(
-            items,
-            first + i,
-            cells,
-            out_items,
-            row + n,
-            out_cells,
-            most,
-        );
+        let at = first + i;
+        let to = row + rows;
+        let b = arena_build::copy_item(items, at, cells, out_items, to, out_cells, most);
         let Built::Done(_, more) = b else {
             return Copied::Full;
         };
         most = more;
-        n += 1;
+        rows += 1;
         from = i + 1;
     }
 }

@@ -9,11 +9,11 @@ use Rattle.projections.proofs.copy_kept.Statement.{statement}
 use Rattle.projections.proofs.copy_kept.Tie as tie
 
 abbrev Inv-loop : tie.InvT-loop
-Inv-loop items first count cells kept out-items₀ row out-cells₀ used most₀ n₀ from₀ out-items out-cells most n from =
-    Copying items cells first count kept row out-items₀ out-cells₀ used from n most out-items out-cells
+Inv-loop items first count cells kept out-items₀ row out-cells₀ used most₀ rows₀ from₀ out-items out-cells most rows from =
+    Copying items cells first count kept row out-items₀ out-cells₀ used from rows most out-items out-cells
 
 abbrev μ-loop : tie.MeasureT-loop
-μ-loop items first count cells kept out-items₀ row out-cells₀ used most₀ n₀ from₀ out-items out-cells most n from = count - from
+μ-loop items first count cells kept out-items₀ row out-cells₀ used most₀ rows₀ from₀ out-items out-cells most rows from = count - from
 
 loop-holds : tie.Need-loop-holds Inv-loop μ-loop
 loop-holds c =
@@ -43,17 +43,17 @@ returns c =
     let enum-told = c .enum-told in
     copying-all _ _ _ _ _ (pre .1 .0) _ _ _ _ (pre .1 .1) (loop .inv) (next .result) (next .ensures) (enum-told .given .1)
 
-add-copy-item : tie.Need-add-copy-item Inv-loop μ-loop
-add-copy-item c =
+add-at : tie.Need-add-at Inv-loop μ-loop
+add-at c =
     let pre = c .before .before .before .before .before .before .before .before .before .pre in
     let next = c .before .before .before .next in
     let i = c .before .i in
     omega (arith, row-fits (pre .0) _ (found _ _ (pre .1 .0) _ (next .result) (next .ensures) _ (i .given .1) .1))
 
-add-copy-item-2 : tie.Need-add-copy-item-2 Inv-loop μ-loop
-add-copy-item-2 c =
-    let pre = c .before .before .before .before .before .before .before .before .before .before .pre in
-    let loop = c .before .before .before .before .before .loop in
+add-to : tie.Need-add-to Inv-loop μ-loop
+add-to c =
+    let pre = c .before .before .before .before .before .before .before .before .before .pre in
+    let loop = c .before .before .before .before .loop in
     omega (arith, copying-room _ _ _ _ _ (pre .1 .0) _ _ _ _ (pre .1 .1) (loop .inv))
 
 copy-item-requires : tie.Need-copy-item-requires Inv-loop μ-loop
@@ -86,8 +86,8 @@ returns-2 c =
     let copy-item = c .before .before .before .before .before .before .copy-item in
     copying-full _ _ _ _ _ (pre .1 .0) _ _ _ _ (pre .1 .1) (loop .inv) (next .result) (next .ensures) _ (i .given .1) (rw (enum-told2 .given .1) at (copy-item .ensures))
 
-add-n : tie.Need-add-n Inv-loop μ-loop
-add-n c =
+add-rows : tie.Need-add-rows Inv-loop μ-loop
+add-rows c =
     let pre = c .before .before .before .before .before .before .before .before .before .before .before .before .before .before .before .before .before .before .before .pre in
     let loop = c .before .before .before .before .before .before .before .before .before .before .before .before .before .before .loop in
     omega (arith, copying-room _ _ _ _ _ (pre .1 .0) _ _ _ _ (pre .1 .1) (loop .inv))
@@ -117,4 +117,4 @@ loop-again c =
     copying-more _ _ _ _ _ (pre .1 .0) _ _ _ _ (pre .1 .1) (loop .inv) (next .result) (next .ensures) _ (i .given .1) (rw (b .given .1) at (copy-item .ensures))
 
 pub copy-kept-spec : {M : Type 1} → statement M
-copy-kept-spec = tie.close (tie.spec Inv-loop μ-loop loop-holds next-requires enum-known-i enum-told same-length same-length-2 returns add-copy-item add-copy-item-2 copy-item-requires enum-known-b enum-told-2 same-length-3 same-length-4 returns-2 add-n add-from loop-less loop-again)
+copy-kept-spec = tie.close (tie.spec Inv-loop μ-loop loop-holds next-requires enum-known-i enum-told same-length same-length-2 returns add-at add-to copy-item-requires enum-known-b enum-told-2 same-length-3 same-length-4 returns-2 add-rows add-from loop-less loop-again)
