@@ -43,11 +43,7 @@ fn show_node(cells: &[u64], i: usize)
         }
         View::Miss => {
             io::write_all(STDOUT_FILENO, b"miss ");
-<<<<<<< HEAD
         }
-=======
-        },
->>>>>>> writer
         View::One(t, x) => {
             number(t);
             number(x as u64);
@@ -61,7 +57,6 @@ fn show_node(cells: &[u64], i: usize)
     line();
 }
 
-<<<<<<< HEAD
 /// The first `n` nodes, which are well formed.
 fn show_nodes(cells: &[u64], n: usize)
     requires { ⌜ Wf (now cells) n ⌝ }
@@ -91,10 +86,6 @@ fn show_rows(rows: &[u16], n: usize)
 
 // (1,1), 5, (1,1) + 5, not that, (0,7), missing, (1,1) and not ((1,1) + 5), (0,3)
 const CELLS: [u64; 24] = [
-=======
-// (1,1), 5, (1,1) + 5, not that, (0,7), missing, (1,1) and not ((1,1) + 5)
-const CELLS: [u64; 21] = [
->>>>>>> writer
     0,
     1,
     1,
@@ -116,7 +107,6 @@ const CELLS: [u64; 21] = [
     10,
     0,
     3,
-<<<<<<< HEAD
     0,
     0,
     3,
@@ -150,15 +140,6 @@ const ABOVE: [u64; 21] = [
 // (0,7) * (1,1) as (0,4); (1,1) as (0,1); (1,1); (0,7); (1,1) as (1,1); not (0,7) as (0,7); (0,3) as (0,3); (0,9);
 // (0,6)
 const UPPER: [u16; 36] = [
-=======
-];
-// (1,1); (1,1) + 5 as (0,7); missing as (0,9); (1,1) and not ((1,1) + 5) as (2,8)
-const ITEMS: [u16; 16] = [1, 1, 0, 0, 0, 7, 1, 2, 0, 9, 1, 5, 2, 8, 1, 6];
-// (0,7) * (1,1), (1,1), (0,7), (0,3), not (0,7)
-const ABOVE: [u64; 18] = [0, 0, 7, 0, 1, 1, 7, 0, 1, 0, 0, 3, 3, 0, 0, 0, 0, 9];
-// (0,7) * (1,1) as (0,4); (1,1) as (0,1); (1,1); (0,7); (1,1) as (1,1); not (0,7) as (0,7); (0,3) as (0,3); (0,9)
-const UPPER: [u16; 32] = [
->>>>>>> writer
     0,
     4,
     1,
@@ -191,13 +172,10 @@ const UPPER: [u16; 32] = [
     9,
     0,
     5,
-<<<<<<< HEAD
     0,
     6,
     0,
     6,
-=======
->>>>>>> writer
 ];
 
 fn read_exprs() {
@@ -252,30 +230,16 @@ fn build() {
     let f = arena_build::find_def(&items, 0, 5, 2, 8);
     match f {
         Found::At(j) => number(j as u64),
-<<<<<<< HEAD
         Found::Nothing => line(),
-=======
-        Found::Nothing => {
-            io::write_all(STDOUT_FILENO, b"nothing ");
-        },
->>>>>>> writer
     }
     let l = arena_build::replace_items(
         &upper,
         0,
-<<<<<<< HEAD
         9,
         &above,
         &items,
         0,
         5,
-=======
-        8,
-        &above,
-        &items,
-        0,
-        4,
->>>>>>> writer
         &cells,
         &mut rows,
         0,
@@ -286,38 +250,10 @@ fn build() {
         Listed::Done(u) => {
             number(u as u64);
             line();
-<<<<<<< HEAD
             show_nodes(&dst, u);
             show_rows(&rows, 9);
         }
         Listed::Full => line(),
-=======
-            for i in 0..u {
-                node(&dst, i);
-            }
-            for i in 0..8 {
-                let row = arena::row_at(&rows, i);
-                number(row.qualifier as u64);
-                number(row.name as u64);
-                number(row.mark as u64);
-                number(row.root as u64);
-                line();
-            }
-            let b = arena_build::copy_item(&upper, 0, &above, &mut rows, 8, &mut dst, u);
-            match b {
-                Built::Done(node, used) => {
-                    number(node as u64);
-                    number(used as u64);
-                }
-                Built::Full => {
-                    io::write_all(STDOUT_FILENO, b"full ");
-                },
-            }
-        }
-        Listed::Full => {
-            io::write_all(STDOUT_FILENO, b"full ");
-        },
->>>>>>> writer
     }
 }
 
@@ -468,13 +404,8 @@ fn merge(upper: &[u16], n: usize, above: &[u64], dst: &mut [u64])
             number(arena::list_tags(&rows, 0, n, dst) as u64);
         }
         Listed::Full => {
-<<<<<<< HEAD
             io::write_all(STDOUT_FILENO, b"full");
         }
-=======
-            io::write_all(STDOUT_FILENO, b"full ");
-        },
->>>>>>> writer
     }
     line();
 }

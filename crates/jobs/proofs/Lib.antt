@@ -1,9 +1,3 @@
-<<<<<<< HEAD
--- The laws that the proofs of this crate's functions cite.
-pub mod Simple
-pub mod Splits
-pub mod Sides
-=======
 -- The laws that the proofs of this crate's functions cite, bottom up.
 pub mod Plain
 pub mod Aggregates
@@ -13,4 +7,3 @@ pub mod Leaves
 pub mod Kept
 pub mod Places
 pub mod Others
->>>>>>> jobs

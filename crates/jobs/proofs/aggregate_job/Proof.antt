@@ -1,35 +1,3 @@
-<<<<<<< HEAD
--- `jobs::aggregate_job` meets its contract: each way is a law of `Splits`. Assumes nothing.
-use borrow.Author.Needs.{needs}
-use mathlib.Core.Path.{_≡_, refl, sym, _∙_}
-use mathlib.Core.Logic.{inl, inr}
-use Prim.Native.Nat.{ℕ, _+_, _*_, _<_}
-use native.Mathlib.Omega.{arith}
-use Rattle.arena.proofs.Same.{items-length}
-use Rattle.lookup.proofs.Lists.{list-length}
-use Rattle.requests.proofs.Adding.{adds-then}
-use Rattle.jobs.proofs.Splits.{aggregate-empty, aggregate-one, items-ok, items-roots, within-moved}
-use Rattle.jobs.proofs.aggregate_job.Statement.{statement}
-use Rattle.jobs.proofs.aggregate_job.Tie as tie
-
-add-behind : tie.Need-add-behind
-add-behind c = search needs
-
-split-off-requires : tie.Need-split-off-requires
-split-off-requires c κs = search needs
-
-new-requires : tie.Need-new-requires
-new-requires c κs = search needs
-
-new-for-all-exprs-requires : tie.Need-new-for-all-exprs-requires
-new-for-all-exprs-requires c κs = search needs
-
-followed-by-requires : tie.Need-followed-by-requires
-followed-by-requires c κs =
-    let split-off = c .before .before .before .split-off in
-    let pre = c .before .before .before .before .before .before .before .pre in
-    within-moved _ _ _ _ (split-off .ensures .1 .set) (pre .1 .1 .0 .set) (pre .1 .1 .0 .few)
-=======
 -- `jobs::aggregate_job` meets its contract: laws of `Aggregates`. Assumes nothing.
 use borrow.Author.Needs.{needs}
 use mathlib.Core.Path.{sym, _∙_}
@@ -63,32 +31,18 @@ followed-by-requires c κs =
     let pre = c .before .before .before .before .before .before .before .pre in
     kept-fits (itemsAt (args .rows .now) (args .cells .now) (args .first) (args .groups)) (aggsAt (args .rows .now) (args .cells .now) (args .first + args .groups) (args .aggregates))
     (items-long (args .rows .now) (args .cells .now) (args .first) (args .groups)) (split-off .ensures .1) (pre .1 .1 .1 .1)
->>>>>>> jobs
 
 is-empty-requires : tie.Need-is-empty-requires
 is-empty-requires c κs = search needs
 
 returns : tie.Need-returns
 returns c =
-<<<<<<< HEAD
-    let split-off = c .before .before .before .before .before .before .split-off in
-=======
     let args = c .before .before .before .before .before .before .before .before .before .before .args in
     let split-off = c .before .before .before .before .before .split-off in
->>>>>>> jobs
     let new-for-all-exprs = c .before .before .before .new-for-all-exprs in
     let followed-by = c .before .before .followed-by in
     let is-empty = c .before .is-empty in
     let if1 = c .if1 in
-<<<<<<< HEAD
-    λ C R t a f. inr (aggregate-empty _ _ _ _ _ _ _ _ _ _ _ (sym (items-length _ _ _ _)) (split-off .ensures .1) (new-for-all-exprs .ensures) (followed-by .ensures) C R _ a f _
-    (rw (is-empty .ensures) at (if1 .taken)) refl refl refl refl)
-
-with-roots-requires : tie.Need-with-roots-requires
-with-roots-requires c κs =
-    let pre = c .before .before .before .before .before .before .before .before .before .before .pre in
-    (items-ok (pre .0), pre .1 .1 .1)
-=======
     record {
       is = λ C R p.
           nothing-is (itemsAt (args .rows .now) (args .cells .now) (args .first) (args .groups)) (aggsAt (args .rows .now) (args .cells .now) (args .first + args .groups) (args .aggregates))
@@ -104,32 +58,10 @@ add-at c =
     let pre = c .before .before .before .before .before .before .before .before .before .before .before .pre in
     let good = c .before .before .before .before .before .before .before .before .before .before .before .good in
     omega (arith, pre .0 .room, good)
->>>>>>> jobs
 
 with-aggregates-requires : tie.Need-with-aggregates-requires
 with-aggregates-requires c κs =
     let pre = c .before .before .before .before .before .before .before .before .before .before .before .pre in
-<<<<<<< HEAD
-    (pre .1 .0, pre .1 .1 .1)
-
-returns-2 : tie.Need-returns-2
-returns-2 c =
-    let split-off = c .before .before .before .before .before .before .before .before .split-off in
-    let new-for-all-exprs = c .before .before .before .before .before .new-for-all-exprs in
-    let followed-by = c .before .before .before .before .followed-by in
-    let new = c .before .before .before .before .before .before .new in
-    let pre = c .before .before .before .before .before .before .before .before .before .before .before .before .pre in
-    let with-roots = c .before .with-roots in
-    let with-aggregates = c .with-aggregates in
-    let is-empty = c .before .before .before .is-empty in
-    let if1 = c .before .before .if1 in
-    λ C R t a f. inl (aggregate-one _ _ _ _ _ _ _ _ _ _ _ (sym (items-length _ _ _ _)) (split-off .ensures .1) (new-for-all-exprs .ensures) (followed-by .ensures) C R _ a f
-    _ _ (new .ensures) _ (sym (list-length _ _ _ _)) _ (sym (items-roots _ _ _ _ (pre .0))) t (adds-then _ _ (with-roots .ensures) (with-aggregates .ensures)) _
-    (rw (is-empty .ensures) at (if1 .left)) refl refl refl refl refl refl refl)
-
-pub aggregate-job-spec : {M : Type 1} → statement M
-aggregate-job-spec = tie.close (tie.spec add-behind split-off-requires new-requires new-for-all-exprs-requires followed-by-requires is-empty-requires returns with-roots-requires with-aggregates-requires returns-2)
-=======
     (pre .1 .0, pre .1 .1 .0)
 
 returns-2 : tie.Need-returns-2
@@ -153,4 +85,3 @@ returns-2 c =
 
 pub aggregate-job-spec : {M : Type 1} → statement M
 aggregate-job-spec = tie.close (tie.spec new-requires split-off-requires new-for-all-exprs-requires followed-by-requires is-empty-requires returns with-items-requires add-at with-aggregates-requires returns-2)
->>>>>>> jobs

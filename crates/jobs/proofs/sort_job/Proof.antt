@@ -1,14 +1,7 @@
-<<<<<<< HEAD
--- `jobs::sort_job` meets its contract. Assumes nothing.
-use borrow.Author.Needs.{needs}
-use Rattle.jobs.proofs.Simple.{sort-done}
-use Rattle.requests.proofs.Lists.{keys-ok}
-=======
 -- `jobs::sort_job` meets its contract: a law of `Plain`. Assumes nothing.
 use borrow.Author.Needs.{needs}
 use Rattle.requests.proofs.Lists.{keys-ok, keys-roots}
 use Rattle.jobs.proofs.Plain.{sort-one}
->>>>>>> jobs
 use Rattle.jobs.proofs.sort_job.Statement.{statement}
 use Rattle.jobs.proofs.sort_job.Tie as tie
 
@@ -20,20 +13,6 @@ with-roots-requires c κs =
 with-projection-beneficial-requires : tie.Need-with-projection-beneficial-requires
 with-projection-beneficial-requires c κs = search needs
 
-<<<<<<< HEAD
-passes-requires : tie.Need-passes-requires
-passes-requires c κs = search needs
-
-returns : tie.Need-returns
-returns c =
-    let with-roots = c .before .before .with-roots in
-    let with-projection-beneficial = c .before .with-projection-beneficial in
-    let passes = c .passes in
-    sort-done _ _ _ _ (with-roots .ensures) (with-projection-beneficial .ensures) (passes .ensures)
-
-pub sort-job-spec : {M : Type 1} → statement M
-sort-job-spec = tie.close (tie.spec with-roots-requires with-projection-beneficial-requires passes-requires returns)
-=======
 through-requires : tie.Need-through-requires
 through-requires c κs = search needs
 
@@ -47,4 +26,3 @@ returns c =
 
 pub sort-job-spec : {M : Type 1} → statement M
 sort-job-spec = tie.close (tie.spec with-roots-requires with-projection-beneficial-requires through-requires returns)
->>>>>>> jobs

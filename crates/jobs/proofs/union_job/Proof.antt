@@ -1,13 +1,6 @@
-<<<<<<< HEAD
--- `jobs::union_job` meets its contract. Assumes nothing.
-use borrow.Author.Needs.{needs}
-use mathlib.Core.Path.{refl}
-use Rattle.jobs.proofs.Sides.{union-two}
-=======
 -- `jobs::union_job` meets its contract: a law of `Inputs`. Assumes nothing.
 use borrow.Author.Needs.{needs}
 use Rattle.jobs.proofs.Inputs.{union-two}
->>>>>>> jobs
 use Rattle.jobs.proofs.union_job.Statement.{statement}
 use Rattle.jobs.proofs.union_job.Tie as tie
 
@@ -20,11 +13,7 @@ new-requires c κs = search needs
 returns : tie.Need-returns
 returns c =
     let with-projection-beneficial = c .before .with-projection-beneficial in
-<<<<<<< HEAD
-    λ fl fr R e a. union-two fl fr R _ _ (with-projection-beneficial .ensures) a refl refl refl refl refl refl refl
-=======
     λ fl fr. union-two _ _ fl fr (with-projection-beneficial .ensures)
->>>>>>> jobs
 
 pub union-job-spec : {M : Type 1} → statement M
 union-job-spec = tie.close (tie.spec with-projection-beneficial-requires new-requires returns)

@@ -1,25 +1,3 @@
-<<<<<<< HEAD
--- `jobs::window_job` meets its contract: each way is a law of `Splits`. Assumes nothing.
-use borrow.Author.Needs.{needs}
-use mathlib.Core.Path.{_≡_, refl, sym, _∙_}
-use mathlib.Core.Logic.{inl}
-use Prim.Native.Nat.{ℕ, _+_, _*_, _<_}
-use native.Mathlib.Omega.{arith}
-use lib.ListN.{length}
-use Rattle.lookup.proofs.Lists.{list-length}
-use Rattle.lookup.specs.Fields.{fieldAt}
-use Rattle.tree.specs.Rows.{one, winAt, winSize}
-use Rattle.jobs.proofs.Splits.{window-kept, window-through}
-use Rattle.jobs.proofs.window_job.Statement.{statement}
-use Rattle.jobs.proofs.window_job.Tie as tie
-
-split-off-requires : tie.Need-split-off-requires
-split-off-requires c κs = search needs
-
-new-requires : tie.Need-new-requires
-new-requires c κs = search needs
-
-=======
 -- `jobs::window_job` meets its contract: laws of `Windows`. Assumes nothing.
 use borrow.Author.Needs.{needs}
 use mathlib.Core.Path.{sym, _∙_}
@@ -35,22 +13,11 @@ new-requires c κs = search needs
 split-off-requires : tie.Need-split-off-requires
 split-off-requires c κs = search needs
 
->>>>>>> jobs
 is-empty-requires : tie.Need-is-empty-requires
 is-empty-requires c κs = search needs
 
 returns : tie.Need-returns
 returns c =
-<<<<<<< HEAD
-    let split-off = c .before .before .before .before .before .split-off in
-    let pre = c .before .before .before .before .before .before .before .before .before .pre in
-    let args = c .before .before .before .before .before .before .before .before .before .args in
-    let is-empty = c .before .is-empty in
-    let if1 = c .if1 in
-    λ C R t a f. inl (window-through _ _ _ _ _ _ _ (sym (list-length _ _ _ _)) (split-off .ensures .1) (split-off .ensures .0)
-    (omega (arith, pre .1 .0 .few, list-length (fieldAt (args .fields .now)) one (args .k * 128) (args .width), list-length (winAt (args .rows .now) (args .cells .now)) (winSize (args .rows .now)) (args .first) (args .n)))
-    C R a f _ refl refl refl (sym (is-empty .ensures) ∙ if1 .taken) refl refl refl)
-=======
     let args = c .before .before .before .before .before .before .before .before .before .args in
     let split-off = c .before .before .before .before .split-off in
     let is-empty = c .before .is-empty in
@@ -60,27 +27,12 @@ returns c =
           same-is (winsAt (args .rows .now) (args .cells .now) (args .first) (args .n)) (row-long (args .fields .now) (args .k) (args .width)) (split-off .ensures .0) (split-off .ensures .1) p C _
           (sym (is-empty .ensures) ∙ if1 .taken);
     }
->>>>>>> jobs
 
 with-windows-requires : tie.Need-with-windows-requires
 with-windows-requires c κs = search needs
 
 returns-2 : tie.Need-returns-2
 returns-2 c =
-<<<<<<< HEAD
-    let split-off = c .before .before .before .before .before .before .split-off in
-    let pre = c .before .before .before .before .before .before .before .before .before .before .pre in
-    let args = c .before .before .before .before .before .before .before .before .before .before .args in
-    let with-windows = c .with-windows in
-    let is-empty = c .before .before .is-empty in
-    let if1 = c .before .if1 in
-    λ C R t a f. inl (window-kept _ _ _ _ _ _ _ (sym (list-length _ _ _ _)) (split-off .ensures .1) (split-off .ensures .0)
-    (omega (arith, pre .1 .0 .few, list-length (fieldAt (args .fields .now)) one (args .k * 128) (args .width), list-length (winAt (args .rows .now) (args .cells .now)) (winSize (args .rows .now)) (args .first) (args .n)))
-    C R a f _ refl refl refl _ _ (sym (list-length _ _ _ _)) t (with-windows .ensures) (sym (is-empty .ensures) ∙ if1 .left) refl refl refl refl)
-
-pub window-job-spec : {M : Type 1} → statement M
-window-job-spec = tie.close (tie.spec split-off-requires new-requires is-empty-requires returns with-windows-requires returns-2)
-=======
     let args = c .before .before .before .before .before .before .before .before .before .before .args in
     let split-off = c .before .before .before .before .before .split-off in
     let is-empty = c .before .before .is-empty in
@@ -94,4 +46,3 @@ window-job-spec = tie.close (tie.spec split-off-requires new-requires is-empty-r
 
 pub window-job-spec : {M : Type 1} → statement M
 window-job-spec = tie.close (tie.spec new-requires split-off-requires is-empty-requires returns with-windows-requires returns-2)
->>>>>>> jobs

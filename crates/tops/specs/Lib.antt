@@ -1,2 +1,0 @@
--- Projections on top.
-pub mod Tops
