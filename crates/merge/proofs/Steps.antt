@@ -20,7 +20,7 @@ use Rattle.arena.specs.Rows.{RowIs, RowOk, RowsOk, itemAt, itemsAt, pairAt}
 use Rattle.arena.proofs.Laws.{here}
 use Rattle.arena.proofs.Rows.{read-expr, rest, rest-all, rest-next, rest-none, tags-le}
 use Rattle.arena.proofs.Same.{items-length}
-use Rattle.arena_build.specs.Lists.{Listing, Overflown, nodesOf}
+use Rattle.arena_build.specs.Lists.{Listing, ListRefused, nodesOf}
 use Rattle.arena_build.proofs.Defs.{item-pair}
 use Rattle.arena_build.proofs.Items.{tags-within}
 use Rattle.merge.specs.Step.{Held, Over, pushesTag}
@@ -99,7 +99,7 @@ nodes-within (k ∷ ks) = let h = tags-le k in let t = nodes-within ks in omega 
 
 module _ {ks : List Item} {rows cells rows′ cells′ : List ℕ} where
   -- no room in the nodes is too many tags
-  pub over-nodes : maxTags * 3 ≤ length cells → Overflown ks 0 rows cells 0 rows′ cells′ → maxTags < sumOf itemTags ks
+  pub over-nodes : maxTags * 3 ≤ length cells → ListRefused ks 0 rows cells 0 rows′ cells′ → maxTags < sumOf itemTags ks
   over-nodes l o = omega (arith, o .tight, nodes-within ks)
 
   pub listed-small : {n more : ℕ} → length cells ≤ 196608 → n ≤ 128 → Listing ks 0 n rows cells 0 more rows′ cells′ → sumOf itemTags (itemsAt rows′ cells′ 0 n) < 4294967296

@@ -16,7 +16,7 @@ use Rattle.arena.specs.Rows.{itemAt}
 use Rattle.arena.proofs.Kept.{kept-trans}
 use Rattle.arena.proofs.Laws.{wf-fits}
 use Rattle.arena.proofs.Same.{items-length}
-use Rattle.arena_build.specs.Lists.{Left, Listing, Overflown, Placed, nodesOf}
+use Rattle.arena_build.specs.Lists.{ItemRefused, Listing, ListRefused, Placed, nodesOf}
 use Rattle.arena_build.proofs.Items.{listing-more, listing-none}
 use Rattle.tree.proofs.Exprs.{tags-pos}
 use Rattle.projections.specs.Lists.{Copies, Room, keptItems}
@@ -81,7 +81,7 @@ module _ (items cells : List ℕ) (first count : ℕ) (kept : RequiredIndices) (
           behind = omega (arith, p .behind, q .made .grown, tags-pos (itemExpr it));
         }
 
-        pub copying-full : {rows″ dst″ : List ℕ} → Left it rows′ dst′ more rows″ dst″ → Overflown (keptItems items cells first count kept) row rows dst used rows″ dst″
+        pub copying-full : {rows″ dst″ : List ℕ} → ItemRefused it rows′ dst′ more rows″ dst″ → ListRefused (keptItems items cells first count kept) row rows dst used rows″ dst″
         copying-full q = record {
           kept = kept-trans (omega (arith, p .listing .grown)) (p .listing .kept) (q .refused .kept);
           rows-kept = rw (q .same) (p .listing .rows-kept);

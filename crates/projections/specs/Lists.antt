@@ -11,7 +11,7 @@ use Rattle.required_indices.specs.Request.{requestMask, setOf}
 use Rattle.required_indices.specs.declared.RequiredIndices.{RequiredIndices}
 use Rattle.arena.specs.Cells.{Wf}
 use Rattle.arena.specs.Rows.{itemsAt}
-use Rattle.arena_build.specs.Lists.{Listing, Overflown}
+use Rattle.arena_build.specs.Lists.{Listing, ListRefused}
 use Rattle.lookup.specs.Fields.{RowIn, rowAt}
 use Rattle.projections.specs.declared.Copied.{Copied}
 use Rattle.projections.specs.declared.Copied.the-variants.{Done, Full}
@@ -63,4 +63,4 @@ pub record Copies (js : List Item) (row n : ℕ) (rows cells : List ℕ) (used m
 
 abbrev pub CopyAnswer : List Item → ℕ → (rows cells : List ℕ) → ℕ → Copied → (rows′ cells′ : List ℕ) → Type 0
 CopyAnswer js row rows cells used (Done n more) rows′ cells′ = Copies js row n rows cells used more rows′ cells′
-CopyAnswer js row rows cells used Full rows′ cells′ = Overflown js row rows cells used rows′ cells′
+CopyAnswer js row rows cells used Full rows′ cells′ = ListRefused js row rows cells used rows′ cells′

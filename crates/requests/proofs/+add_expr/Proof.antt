@@ -87,7 +87,7 @@ module _ (t : ℕ) where
       let pre = c .before .before .before .before .before .before .pre in
       let v2 = c .before .v2 in
       let node-at = c .before .before .before .node-at in
-      let o = operand _ _ _ (pre .0) (pre .1 .0) _ ((rw (v2 .given .1) at (node-at .ensures)) .1) in
+      let o = operand _ _ _ (pre .0) (pre .1 .0) _ ((rw (v2 .given .1) at (node-at .ensures)) .below) in
       (o .0, (o .1, pre .1 .1))
 
   enum-known-v-3 : lts.Need-enum-known-v-3 (callees t) (given t) add-expr.Post
@@ -98,7 +98,7 @@ module _ (t : ℕ) where
       let pre = c .before .before .before .before .before .before .pre in
       let v3 = c .before .v3 in
       let node-at = c .before .before .before .node-at in
-      let o = operand _ _ _ (pre .0) (pre .1 .0) _ ((rw (v3 .given .1) at (node-at .ensures)) .1) in
+      let o = operand _ _ _ (pre .0) (pre .1 .0) _ ((rw (v3 .given .1) at (node-at .ensures)) .first) in
       (o .0, (o .1, pre .1 .1))
 
   add-expr-requires-3 : lts.Need-add-expr-requires-3 (callees t) (given t) add-expr.Post
@@ -106,7 +106,7 @@ module _ (t : ℕ) where
       let pre = c .before .before .before .before .before .before .before .pre in
       let v3 = c .before .before .v3 in
       let node-at = c .before .before .before .before .node-at in
-      let o = operand _ _ _ (pre .0) (pre .1 .0) _ ((rw (v3 .given .1) at (node-at .ensures)) .2) in
+      let o = operand _ _ _ (pre .0) (pre .1 .0) _ ((rw (v3 .given .1) at (node-at .ensures)) .second) in
       (o .0, (o .1, pre .1 .1))
 
   returns-2 : lts.Need-returns-2 (callees t) (given t) add-expr.Post
@@ -135,7 +135,7 @@ module _ (t : ℕ) where
       let v2 = c .before .before .v2 in
       let node-at = c .before .before .before .before .node-at in
       let add-expr = c .add-expr in
-      adds-un ((rw (v2 .given .1) at (node-at .ensures)) .0) (add-expr .ensures)
+      adds-un ((rw (v2 .given .1) at (node-at .ensures)) .means) (add-expr .ensures)
 
   returns-6 : lts.Need-returns-6 (callees t) (given t) add-expr.Post
   returns-6 c =
@@ -143,7 +143,7 @@ module _ (t : ℕ) where
       let node-at = c .before .before .before .before .before .node-at in
       let add-expr2 = c .before .add-expr2 in
       let add-expr3 = c .add-expr3 in
-      adds-bin ((rw (v3 .given .1) at (node-at .ensures)) .0) (add-expr2 .ensures) (add-expr3 .ensures)
+      adds-bin ((rw (v3 .given .1) at (node-at .ensures)) .means) (add-expr2 .ensures) (add-expr3 .ensures)
 
 pub +add-expr-spec : {M : Type 1} → statement M
 +add-expr-spec = close μ λ t.

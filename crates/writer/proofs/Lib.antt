@@ -1,3 +1,0 @@
--- The laws of heads and nodes, bottom up.
-pub mod Segments
-pub mod Heads

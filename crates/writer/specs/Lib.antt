@@ -1,2 +1,0 @@
--- How a node's head stands in segments, and the bytes of a record.
-pub mod Shapes
