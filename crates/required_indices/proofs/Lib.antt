@@ -10,6 +10,7 @@ pub mod Words
 pub mod Places
 pub mod Search
 pub mod Loops
+pub mod Stored
 pub mod Parts
 pub mod Slides
 pub mod Shifts

@@ -7,12 +7,14 @@
 ghost use mathlib.Core.Path.{_≡_};
 ghost use mathlib.Core.Bool.{true, false};
 ghost use mathlib.Core.List.{_++_};
-ghost use Prim.Native.Nat.{_-_, _*_, _/_, _%_, _^_, _≤_, _<_, min};
+ghost use Prim.Native.Nat.{_+_, _-_, _*_, _/_, _%_, _^_, _≤_, _<_, min};
 ghost use lib.Bits.{bitOr};
 ghost use lib.Count.{ones};
 ghost use lib.Dec.{eqb};
-ghost use lib.ListN.{getD, replicate};
+ghost use lib.ListN.{drop, getD, length, replicate, take};
+ghost use lib.Seq.{paste};
 ghost use Rattle.required_indices.specs.Set.{has};
+ghost use Rattle.required_indices.specs.Words.{number};
 ghost use Rattle.required_indices.specs.Request.{wordsN, setOf, flagOf, Holds, IsNext};
 
 // The number of words; `wordsN` of specs/Request.antt is the same.
@@ -267,5 +269,31 @@ impl RequiredIndices {
     {
         let both = other.append(self);
         both.equals(self)
+    }
+
+    /// The words of the set, stored from `at` on. Requires room for them. The flag is not stored.
+    pub fn store(self, words: &mut [u64], at: usize)
+        requires { ⌜ at + wordsN ≤ length (now words) ⌝ }
+        ensures { λ _. ⌜ now (words .exit) ≡ paste (now (words .entry)) at (self .indices) wordsN ⌝ }
+    {
+        let mut k = 0;
+        while k < WORDS {
+            words[at + k] = self.indices[k];
+            k += 1;
+        }
+    }
+
+    /// The set whose words stand from `at` on, without the flag.
+    pub fn load(words: &[u64], at: usize) -> Self
+        requires { ⌜ at + wordsN ≤ length (now words) ⌝ }
+        ensures { λ r. ⌜ Holds r (number (take wordsN (drop at (now (words .entry))))) false ⌝ }
+    {
+        let mut out = RequiredIndices::new();
+        let mut k = 0;
+        while k < WORDS {
+            out.indices[k] = words[at + k];
+            k += 1;
+        }
+        out
     }
 }

@@ -1,0 +1,44 @@
+-- `jobs::side_ask` meets its contract: laws of `Inputs`. Assumes nothing.
+use borrow.Author.Needs.{needs}
+use Rattle.arena.specs.Cells.{exprAt}
+use Rattle.requests.specs.Asked.{rootsAt}
+use Rattle.jobs.proofs.Inputs.{sided-none, sided-some}
+use Rattle.jobs.proofs.side_ask.Statement.{statement}
+use Rattle.jobs.proofs.side_ask.Tie as tie
+
+with-roots-requires : tie.Need-with-roots-requires
+with-roots-requires c κs = search needs
+
+add-expr-requires : tie.Need-add-expr-requires
+add-expr-requires c κs =
+    let pre = c .before .before .before .before .before .pre in
+    let if1 = c .if1 in
+    (pre .1 .0 (if1 .taken), pre .1 .1)
+
+with-projection-beneficial-requires : tie.Need-with-projection-beneficial-requires
+with-projection-beneficial-requires c κs = search needs
+
+returns : tie.Need-returns
+returns c =
+    let args = c .before .before .before .before .before .before .before .args in
+    let with-roots = c .before .before .before .with-roots in
+    let if1 = c .before .before .if1 in
+    let add-expr = c .before .add-expr in
+    let with-projection-beneficial = c .with-projection-beneficial in
+    sided-some (args .j .«has_filter») (rootsAt (args .rows .now) (args .cells .now) (args .at) (args .j .first) (args .j .n)) (exprAt (args .cells .now) (args .j .filter))
+    (with-roots .ensures) (if1 .taken) (add-expr .ensures) (with-projection-beneficial .ensures)
+
+with-projection-beneficial-requires-2 : tie.Need-with-projection-beneficial-requires-2
+with-projection-beneficial-requires-2 c κs = search needs
+
+returns-2 : tie.Need-returns-2
+returns-2 c =
+    let args = c .before .before .before .before .before .before .args in
+    let with-roots = c .before .before .with-roots in
+    let if1 = c .before .if1 in
+    let with-projection-beneficial2 = c .with-projection-beneficial2 in
+    sided-none (args .j .«has_filter») (rootsAt (args .rows .now) (args .cells .now) (args .at) (args .j .first) (args .j .n)) (exprAt (args .cells .now) (args .j .filter))
+    (with-roots .ensures) (if1 .left) (with-projection-beneficial2 .ensures)
+
+pub side-ask-spec : {M : Type 1} → statement M
+side-ask-spec = tie.close (tie.spec with-roots-requires add-expr-requires with-projection-beneficial-requires returns with-projection-beneficial-requires-2 returns-2)

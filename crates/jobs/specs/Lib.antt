@@ -1,0 +1,3 @@
+-- Jobs.
+pub mod Standing
+pub mod Job

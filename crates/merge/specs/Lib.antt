@@ -1,0 +1,2 @@
+-- A step of merging.
+pub mod Step

@@ -1,0 +1,151 @@
+-- The proof of the cycle of calls {add_expr}. The measure is the node's number. Each case is a law of `Adding`. Assumes nothing.
+use borrow.Author.Needs.{needs}
+use mathlib.Core.Path.{_≡_, sym, ap, _∙_}
+use mathlib.Core.Option.{Option, some}
+use mathlib.Core.List.{List}
+use Prim.Native.Nat.{ℕ, _+_, _*_, _<_}
+use native.Mathlib.Omega.{arith}
+use Rattle.arena.proofs.Laws.{operand}
+use Rattle.cpl.specs.Exprs.{find}
+use Rattle.cpl.specs.Plan.{Pair, pair}
+use Rattle.lookup.proofs.Lists.{list-length}
+use Rattle.lookup.specs.Fields.{fieldAt, rowAt}
+use Rattle.tree.specs.Rows.{one}
+use Rattle.requests.specs.Asked.{Below}
+use Rattle.requests.proofs.Adding.{adds-absent, adds-bin, adds-found, adds-lit, adds-miss, adds-un, found-below}
+use borrow.Fn.Kinds.{In}
+use borrow.Fn.PlainCycle.{Measures, is, falls, and}
+use Rattle.requests.proofs.add_expr.Reads as add-expr
+use Rattle.requests.proofs.add_expr.Kinds as add-expr-kinds
+use Rattle.requests.proofs.+add_expr.Lts-add_expr as lts
+use Rattle.arena.proofs.node_at.Reads as node-at-reads
+use Rattle.lookup.proofs.look_up.Reads as look-up-reads
+use Rattle.required_indices.proofs.RequiredIndices.with_index.Reads as with-index-reads
+use Rattle.requests.proofs.+add_expr.{statement}
+use Rattle.requests.proofs.+add_expr.Tie.{close}
+
+abbrev μ : Measures 2 add-expr-kinds.ps ℕ
+μ κs a = a .1 .1 .0
+
+-- what it is given at the measure t, and what its callees ask and give, itself below t
+abbrev given : ℕ → In 2 add-expr-kinds.ps
+given t = and 2 add-expr-kinds.ps (is 2 add-expr-kinds.ps μ t) add-expr.Pre
+
+abbrev callees : ℕ → lts.Claims
+callees t = (node-at-reads.Asked, node-at-reads.Learnt, look-up-reads.Asked, look-up-reads.Learnt, with-index-reads.Asked, with-index-reads.Learnt, and 2 add-expr-kinds.ps (falls 2 add-expr-kinds.ps _<_ μ t) add-expr.Pre, add-expr.Post)
+
+-- a field's index is one of a set
+place-fits : {fields : List ℕ} {k width : ℕ} (c : Pair) (i : ℕ) → Below fields k width → some i ≡ find c (rowAt fields k width) → i < 128
+place-fits {fields} {k} {width} c i b e = omega (arith, b .few, found-below c (rowAt fields k width) i (sym e), list-length (fieldAt fields) one (k * 128) width)
+
+module _ (t : ℕ) where
+  node-at-requires : lts.Need-node-at-requires (callees t) (given t) add-expr.Post
+  node-at-requires c κs =
+      let pre = c .before .before .pre in
+      pre .1 .0
+
+  enum-known-v : lts.Need-enum-known-v (callees t) (given t) add-expr.Post
+  enum-known-v c = search needs
+
+  look-up-requires : lts.Need-look-up-requires (callees t) (given t) add-expr.Post
+  look-up-requires c κs =
+      let pre = c .before .before .before .before .before .before .pre in
+      pre .1 .1 .inside
+
+  enum-known-f : lts.Need-enum-known-f (callees t) (given t) add-expr.Post
+  enum-known-f c = search needs
+
+  enum-told : lts.Need-enum-told (callees t) (given t) add-expr.Post
+  enum-told c = search needs
+
+  returns : lts.Need-returns (callees t) (given t) add-expr.Post
+  returns c =
+      let v = c .before .before .before .before .v in
+      let node-at = c .before .before .before .before .before .before .node-at in
+      let enum-told = c .enum-told in
+      let look-up = c .before .before .look-up in
+      adds-absent _ (rw (v .given .1) at (node-at .ensures)) (sym (rw (enum-told .given .1) at (look-up .ensures)))
+
+  with-index-requires : lts.Need-with-index-requires (callees t) (given t) add-expr.Post
+  with-index-requires c κs =
+      let pre = c .before .before .before .before .before .before .before .before .before .before .pre in
+      let f = c .before .f in
+      let look-up = c .before .before .before .look-up in
+      place-fits _ _ (pre .1 .1) (rw (f .given .1) at (look-up .ensures))
+
+  enum-told-2 : lts.Need-enum-told-2 (callees t) (given t) add-expr.Post
+  enum-told-2 c = search needs
+
+  enum-told-3 : lts.Need-enum-told-3 (callees t) (given t) add-expr.Post
+  enum-told-3 c = search needs
+
+  enum-known-v-2 : lts.Need-enum-known-v-2 (callees t) (given t) add-expr.Post
+  enum-known-v-2 c = search needs
+
+  add-expr-requires : lts.Need-add-expr-requires (callees t) (given t) add-expr.Post
+  add-expr-requires c κs =
+      let pre = c .before .before .before .before .before .before .pre in
+      let v2 = c .before .v2 in
+      let node-at = c .before .before .before .node-at in
+      let o = operand _ _ _ (pre .0) (pre .1 .0) _ ((rw (v2 .given .1) at (node-at .ensures)) .below) in
+      (o .0, (o .1, pre .1 .1))
+
+  enum-known-v-3 : lts.Need-enum-known-v-3 (callees t) (given t) add-expr.Post
+  enum-known-v-3 c = search needs
+
+  add-expr-requires-2 : lts.Need-add-expr-requires-2 (callees t) (given t) add-expr.Post
+  add-expr-requires-2 c κs =
+      let pre = c .before .before .before .before .before .before .pre in
+      let v3 = c .before .v3 in
+      let node-at = c .before .before .before .node-at in
+      let o = operand _ _ _ (pre .0) (pre .1 .0) _ ((rw (v3 .given .1) at (node-at .ensures)) .first) in
+      (o .0, (o .1, pre .1 .1))
+
+  add-expr-requires-3 : lts.Need-add-expr-requires-3 (callees t) (given t) add-expr.Post
+  add-expr-requires-3 c κs =
+      let pre = c .before .before .before .before .before .before .before .pre in
+      let v3 = c .before .before .v3 in
+      let node-at = c .before .before .before .before .node-at in
+      let o = operand _ _ _ (pre .0) (pre .1 .0) _ ((rw (v3 .given .1) at (node-at .ensures)) .second) in
+      (o .0, (o .1, pre .1 .1))
+
+  returns-2 : lts.Need-returns-2 (callees t) (given t) add-expr.Post
+  returns-2 c =
+      let v = c .before .before .before .before .before .before .v in
+      let node-at = c .before .before .before .before .before .before .before .before .node-at in
+      let f = c .before .before .f in
+      let look-up = c .before .before .before .before .look-up in
+      let with-index = c .with-index in
+      adds-found _ (rw (v .given .1) at (node-at .ensures)) _ (sym (rw (f .given .1) at (look-up .ensures))) (with-index .ensures)
+
+  returns-3 : lts.Need-returns-3 (callees t) (given t) add-expr.Post
+  returns-3 c =
+      let enum-told2 = c .enum-told2 in
+      let node-at = c .before .before .node-at in
+      adds-lit (rw (enum-told2 .given .1) at (node-at .ensures))
+
+  returns-4 : lts.Need-returns-4 (callees t) (given t) add-expr.Post
+  returns-4 c =
+      let enum-told3 = c .enum-told3 in
+      let node-at = c .before .before .node-at in
+      adds-miss (rw (enum-told3 .given .1) at (node-at .ensures))
+
+  returns-5 : lts.Need-returns-5 (callees t) (given t) add-expr.Post
+  returns-5 c =
+      let v2 = c .before .before .v2 in
+      let node-at = c .before .before .before .before .node-at in
+      let add-expr = c .add-expr in
+      adds-un ((rw (v2 .given .1) at (node-at .ensures)) .means) (add-expr .ensures)
+
+  returns-6 : lts.Need-returns-6 (callees t) (given t) add-expr.Post
+  returns-6 c =
+      let v3 = c .before .before .before .v3 in
+      let node-at = c .before .before .before .before .before .node-at in
+      let add-expr2 = c .before .add-expr2 in
+      let add-expr3 = c .add-expr3 in
+      adds-bin ((rw (v3 .given .1) at (node-at .ensures)) .means) (add-expr2 .ensures) (add-expr3 .ensures)
+
+pub +add-expr-spec : {M : Type 1} → statement M
++add-expr-spec = close μ λ t.
+    lts.spec (callees t) (given t) add-expr.Post
+    (node-at-requires t) (enum-known-v t) (look-up-requires t) (enum-known-f t) (enum-told t) (returns t) (with-index-requires t) (enum-told-2 t) (enum-told-3 t) (enum-known-v-2 t) (add-expr-requires t) (enum-known-v-3 t) (add-expr-requires-2 t) (add-expr-requires-3 t) (returns-2 t) (returns-3 t) (returns-4 t) (returns-5 t) (returns-6 t)

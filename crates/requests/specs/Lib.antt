@@ -1,0 +1,2 @@
+-- What is asked of inputs.
+pub mod Asked

@@ -1,0 +1,111 @@
+-- The four numbers and the set of a record, once they are read or stored. Assumes nothing.
+use mathlib.Core.Path.{_≡_, refl, sym, ap, ap₂, _∙_}
+use mathlib.Core.List.{List}
+use Prim.Native.Nat.{ℕ, suc, _+_, _*_, _<_, _≤_}
+use native.Mathlib.Omega.{arith}
+use borrow.Author.Tests.{eq-eqb, ne-eqb}
+use lib.Dec.{eqb}
+use lib.ListN.{length, getD, take, drop, set, length-set}
+use lib.Seq.{paste, sets, getD-set-same, getD-set-other}
+use Rattle.arena.specs.Kept.{Kept}
+use Rattle.required_indices.specs.Request.{wordsN, setOf}
+use Rattle.required_indices.specs.Words.{number}
+use Rattle.required_indices.specs.declared.RequiredIndices.{RequiredIndices}
+use Rattle.required_indices.proofs.Stored.{paste-below, paste-long, paste-part}
+use Rattle.result.specs.Result.{firstAt, formAt, oldAt, recordN, secondAt, setAt}
+use Rattle.result.specs.Records.{Appended, Stored, recordAt, recordOf}
+use Rattle.result.specs.declared.Record.{Record}
+use Rattle.result.specs.declared.Record.the-variants.{Columns, Items, Nothing}
+use Rattle.result.specs.declared.Record.the-variants
+
+-- a record by its form
+module _ (s : List ℕ) (i : ℕ) where
+  pub form-kept : formAt s i ≡ 0 → the-variants.Kept (oldAt s i) (firstAt s i) (secondAt s i) ≡ recordAt s i
+  unfolding recordAt
+  form-kept e = rw e
+
+  pub form-columns : formAt s i ≡ 1 → Columns (oldAt s i) (firstAt s i) ≡ recordAt s i
+  unfolding recordAt
+  form-columns e = rw e
+
+  pub form-items : formAt s i ≡ 2 → Items (oldAt s i) (secondAt s i) (firstAt s i) ≡ recordAt s i
+  unfolding recordAt
+  form-items e = rw e
+
+  pub form-nothing : (formAt s i ≡ 0 → ⊥) → (formAt s i ≡ 1 → ⊥) → (formAt s i ≡ 2 → ⊥) → Nothing ≡ recordAt s i
+  unfolding recordAt
+  form-nothing f g h = simp (ne-eqb _ _ f, ne-eqb _ _ g, ne-eqb _ _ h)
+
+-- four numbers and a set, stored from `at` on
+module _ (s : List ℕ) (at form old first second : ℕ) (r : RequiredIndices) (long : length (r .indices) ≡ wordsN) (room : at + recordN ≤ length s) where
+  one : List ℕ
+  one = set s at form
+
+  two : List ℕ
+  two = set one (at + 1) old
+
+  three : List ℕ
+  three = set two (at + 2) first
+
+  four : List ℕ
+  four = set three (at + 3) second
+
+  after : List ℕ
+  after = paste four (at + 4) (r .indices) wordsN
+
+  four-long : length four ≡ length s
+  unfolding one two three four
+  four-long = simp length-set
+
+  low : (k : ℕ) → k < at + 4 → getD after k 0 ≡ getD four k 0
+  unfolding after
+  low k h = paste-below four (at + 4) (r .indices) wordsN (omega (arith, four-long)) long k h
+
+  at-0 : getD four at 0 ≡ form
+  unfolding one two three four
+  at-0 =
+      getD-set-other three (at + 3) at second 0 (omega arith) ∙ getD-set-other two (at + 2) at first 0 (omega arith)
+      ∙ getD-set-other one (at + 1) at old 0 (omega arith) ∙ getD-set-same s at form 0 (omega arith)
+
+  at-1 : getD four (at + 1) 0 ≡ old
+  unfolding one two three four
+  at-1 =
+      getD-set-other three (at + 3) (at + 1) second 0 (omega arith) ∙ getD-set-other two (at + 2) (at + 1) first 0 (omega arith)
+      ∙ getD-set-same one (at + 1) old 0 (simp length-set (omega arith))
+
+  at-2 : getD four (at + 2) 0 ≡ first
+  unfolding one two three four
+  at-2 = getD-set-other three (at + 3) (at + 2) second 0 (omega arith) ∙ getD-set-same two (at + 2) first 0 (simp length-set (omega arith))
+
+  at-3 : getD four (at + 3) 0 ≡ second
+  unfolding one two three four
+  at-3 = getD-set-same three (at + 3) second 0 (simp length-set (omega arith))
+
+  below : (k : ℕ) → k < at → getD four k 0 ≡ getD s k 0
+  unfolding one two three four
+  below k h =
+      getD-set-other three (at + 3) k second 0 (omega arith) ∙ getD-set-other two (at + 2) k first 0 (omega arith)
+      ∙ getD-set-other one (at + 1) k old 0 (omega arith) ∙ getD-set-other s at k form 0 (omega arith)
+
+  pub stored : (i : ℕ) → at ≡ i * recordN → (s′ : List ℕ) → s′ ≡ paste (set (set (set (set s at form) (at + 1) old) (at + 2) first) (at + 3) second) (at + 4) (r .indices) wordsN →
+      Stored s s′ i form old first second (setOf r)
+  unfolding after one two three four
+  stored i e s′ f =
+      record {
+        kept = record {
+          same = λ k h. ap (λ (x : List ℕ). getD x k 0) f ∙ low k (omega arith) ∙ below k (omega arith);
+          long = ap length f ∙ paste-long four (at + 4) (r .indices) wordsN (omega (arith, four-long)) long ∙ four-long;
+        };
+        form-is = ap₂ (λ (x : List ℕ) (y : ℕ). getD x y 0) f (sym e) ∙ low at (omega arith) ∙ at-0;
+        old-is = ap₂ (λ (x : List ℕ) (y : ℕ). getD x (y + 1) 0) f (sym e) ∙ low (at + 1) (omega arith) ∙ at-1;
+        first-is = ap₂ (λ (x : List ℕ) (y : ℕ). getD x (y + 2) 0) f (sym e) ∙ low (at + 2) (omega arith) ∙ at-2;
+        second-is = ap₂ (λ (x : List ℕ) (y : ℕ). getD x (y + 3) 0) f (sym e) ∙ low (at + 3) (omega arith) ∙ at-3;
+        set-is =
+            ap₂ (λ (x : List ℕ) (y : ℕ). number (take wordsN (drop (y + 4) x))) f (sym e)
+            ∙ ap number (paste-part four (at + 4) (r .indices) wordsN (omega (arith, four-long)) long);
+      }
+
+-- a record whose four numbers were stored is appended
+pub appended : {s s′ : List ℕ} {i form old first second set : ℕ} (x : Record) → recordOf form old first second ≡ x → Stored s s′ i form old first second set → Appended s s′ i x set
+unfolding recordAt
+appended x e o = record { kept = o .kept; is = rw (o .form-is, o .old-is, o .first-is, o .second-is) e; set-is = o .set-is }

@@ -1,0 +1,4 @@
+-- The laws of records, bottom up.
+pub mod Forms
+pub mod Steps
+pub mod Grow
