@@ -35,9 +35,9 @@ fn side(q: u16, table: u8, names: [u16; 2]) -> Box<Plan> {
     Box::new(Plan::SubqueryAlias(q + 40, Box::new(Plan::Projection(items, Box::new(filter)))))
 }
 
-/// Nineteen nodes: two sides joined, a window, a filter, a limit, a union, an aggregate, a projection. Shows (0, 70) and
-/// (0, 71).
-fn nineteen() -> Plan {
+/// Twenty nodes: two sides joined, a window, a filter, a limit, a union with two projections that merge, an aggregate, a
+/// projection. Shows (0, 70) and (0, 71). The pass adds one projection and merges one away.
+fn twenty() -> Plan {
     let on = vec![(col(41, 21), col(42, 22))];
     let condition = Some(binary(9, col(41, 31), col(42, 32)));
     let join = Plan::Join(Join { kind: 1, on, condition }, side(1, 0, [1, 2]), side(2, 1, [4, 5]));
@@ -53,8 +53,10 @@ fn nineteen() -> Plan {
     let first = Plan::Filter(binary(9, col(0, 50), Expr::Literal(4)), Box::new(window));
     let left = vec![Item::alias((0, 60), col(41, 21)), Item::alias((0, 61), col(42, 32))];
     let left = Plan::Projection(left, Box::new(Plan::Limit(0, 100, Box::new(first))));
-    let right = vec![Item::alias((0, 60), plus_one(col(9, 1))), Item::alias((0, 61), col(9, 3))];
-    let right = Plan::Projection(right, Box::new(Plan::Filter(equals(col(9, 2), 1), scan(0, 9))));
+    let lower = vec![Item::alias((0, 62), plus_one(col(9, 1))), Item::column((9, 3))];
+    let lower = Plan::Projection(lower, Box::new(Plan::Filter(equals(col(9, 2), 1), scan(0, 9))));
+    let right = vec![Item::alias((0, 60), plus_one(col(0, 62))), Item::alias((0, 61), col(9, 3))];
+    let right = Plan::Projection(right, Box::new(lower));
     let union = Plan::Union(Box::new(left), Box::new(right));
     let measure = |pair, function| Measure { pair, function, argument: Some(col(0, 61)) };
     let measures = vec![measure((0, 80), 2), measure((0, 81), 3)];
@@ -66,10 +68,10 @@ fn nineteen() -> Plan {
     Plan::Projection(shown, Box::new(aggregate))
 }
 
-/// A plan of exactly n nodes (5 or more): a union of plans of nineteen and five nodes, padded with filters, limits and
-/// sorts.
+/// A plan of exactly n nodes (5 or more): a union of plans of twenty and five nodes, padded with sorts, filters and
+/// limits.
 pub fn sized(n: usize) -> Vec<u8> {
-    let block = |room: usize| if room >= 19 { nineteen() } else { five() };
+    let block = |room: usize| if room >= 20 { twenty() } else { five() };
     let mut plan = block(n);
     while nodes_in(&plan) + 6 <= n {
         let room = n - nodes_in(&plan) - 1;
