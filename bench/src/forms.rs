@@ -96,7 +96,11 @@ impl<'a> Form<'a> {
                         result = plan.take().map(rig::pass);
                         0
                     };
-                    if counted { bench_measured(&mut Work(&mut work)) } else { black_box(work()); }
+                    if counted {
+                        bench_measured(&mut Work(&mut work))
+                    } else {
+                        black_box(work());
+                    }
                     black_box(result);
                 } else if counted {
                     bench_measured(&mut Work(&mut || self.call(file)));

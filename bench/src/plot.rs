@@ -11,12 +11,8 @@ const HEIGHT: f64 = 320.0;
 
 /// Every set but the random one has a size of its own.
 pub fn svg(sets: &[Set], rows: &[[f64; 4]]) -> String {
-    let points: Vec<(f64, [f64; 4])> = sets
-        .iter()
-        .zip(rows)
-        .filter(|(s, _)| s.files.len() == 1)
-        .map(|(s, r)| (s.nodes as f64, *r))
-        .collect();
+    let points: Vec<(f64, [f64; 4])> =
+        sets.iter().zip(rows).filter(|(s, _)| s.files.len() == 1).map(|(s, r)| (s.nodes as f64, *r)).collect();
     let all = points.iter().flat_map(|p| p.1);
     let low = all.clone().fold(f64::INFINITY, f64::min).log10().floor();
     let high = all.fold(0.0, f64::max).log10().ceil();
@@ -25,7 +21,11 @@ pub fn svg(sets: &[Set], rows: &[[f64; 4]]) -> String {
     let y = |v: f64| TOP + HEIGHT * (high - v.log10()) / (high - low);
     let mut s = String::new();
     let right = LEFT + WIDTH;
-    writeln!(s, r##"<svg xmlns="http://www.w3.org/2000/svg" width="780" height="430" font-family="sans-serif" font-size="13">"##).unwrap();
+    writeln!(
+        s,
+        r##"<svg xmlns="http://www.w3.org/2000/svg" width="780" height="430" font-family="sans-serif" font-size="13">"##
+    )
+    .unwrap();
     writeln!(s, r##"<rect width="780" height="430" fill="white"/><text x="{LEFT}" y="28" font-size="15">Time to prune a plan, by its size</text>"##).unwrap();
     for power in low as i32..=high as i32 {
         let v = 10f64.powi(power);
@@ -39,13 +39,21 @@ pub fn svg(sets: &[Set], rows: &[[f64; 4]]) -> String {
         writeln!(s, r##"<line x1="{LEFT}" x2="{right}" y1="{y:.1}" y2="{y:.1}" stroke="#ddd"/><text x="{:.0}" y="{:.1}" text-anchor="end">{label}</text>"##, LEFT - 8.0, y + 4.0).unwrap();
     }
     for (n, _) in &points {
-        writeln!(s, r##"<text x="{:.1}" y="{:.0}" text-anchor="middle">{n}</text>"##, x(*n), TOP + HEIGHT + 20.0).unwrap();
+        writeln!(s, r##"<text x="{:.1}" y="{:.0}" text-anchor="middle">{n}</text>"##, x(*n), TOP + HEIGHT + 20.0)
+            .unwrap();
     }
-    writeln!(s, r##"<text x="{:.0}" y="{:.0}" text-anchor="middle">nodes</text>"##, LEFT + WIDTH / 2.0, TOP + HEIGHT + 40.0).unwrap();
+    writeln!(
+        s,
+        r##"<text x="{:.0}" y="{:.0}" text-anchor="middle">nodes</text>"##,
+        LEFT + WIDTH / 2.0,
+        TOP + HEIGHT + 40.0
+    )
+    .unwrap();
     for (i, name) in NAMES.iter().enumerate() {
         let line: Vec<String> = points.iter().map(|(n, r)| format!("{:.1},{:.1}", x(*n), y(r[i]))).collect();
         let colour = COLOURS[i];
-        writeln!(s, r##"<polyline points="{}" fill="none" stroke="{colour}" stroke-width="2"/>"##, line.join(" ")).unwrap();
+        writeln!(s, r##"<polyline points="{}" fill="none" stroke="{colour}" stroke-width="2"/>"##, line.join(" "))
+            .unwrap();
         for (n, r) in &points {
             writeln!(s, r##"<circle cx="{:.1}" cy="{:.1}" r="3" fill="{colour}"/>"##, x(*n), y(r[i])).unwrap();
         }

@@ -35,7 +35,12 @@ impl Set {
         let n = self.files.len();
         format!(
             "{}: {} file(s), {} nodes, {} bytes; after the pass {} nodes, {} bytes (means); {same} of {n} results the same",
-            self.name, n, self.nodes, bytes / n, nodes / n, after / n
+            self.name,
+            n,
+            self.nodes,
+            bytes / n,
+            nodes / n,
+            after / n
         )
     }
 }

@@ -19,16 +19,21 @@ pub struct Mix {
     pub most_bytes: usize,
 }
 
-/// Of a hundred cases some 55 have scans only, 20 are chains of projections, 25 have Empties among their leaves; half ask
-/// for all fields.
+/// Of a hundred cases some 20 are chains of projections, one of them doubling its list; 25 have Empties among their leaves;
+/// 8 have broad tables; half ask for all fields.
 pub fn case(r: &mut Random, mix: Mix) -> Case {
     loop {
-        let tables = tables(r);
+        let broad = r.percent(8);
+        let tables = tables(r, broad);
         let empties = if r.percent(25) { 30 } else { 0 };
-        let chain = r.percent(20);
-        let depth = *r.pick(&[1, 2, 3, 4, 5, 6, 7, 9]);
+        let shape = r.below(100);
+        let depth = *r.pick(&[1, 2, 3, 4, 5, 6, 7, 9, 12, 16]);
         let mut maker = Maker { r, tables, empties, wide: mix.wide };
-        let (plan, _) = if chain { maker.chain() } else { maker.plan(depth, false) };
+        let (plan, _) = match shape {
+            0 => maker.doubling(),
+            1..20 => maker.chain(),
+            _ => maker.plan(depth, false),
+        };
         let tables = maker.tables;
         let file = File { tables, plan };
         let bytes = write(&file);

@@ -15,20 +15,37 @@ pub struct Maker<'a> {
 /// A plan with its fields.
 type Made = (Plan, Vec<Pair>);
 
-pub fn tables(r: &mut Random) -> Vec<Vec<u16>> {
+/// A catalogue. Broad tables have 30 to 64 columns, so that requests reach past 64 fields.
+pub fn tables(r: &mut Random, broad: bool) -> Vec<Vec<u16>> {
     (0..r.between(1, 4))
         .map(|_| {
-            let mut names: Vec<u16> = (1..=8).collect();
+            let mut names: Vec<u16> = if broad { (1..=90).collect() } else { (1..=8).collect() };
             r.shuffle(&mut names);
-            names.truncate(*r.pick(&[0, 1, 2, 3, 3, 4, 4, 5, 6]));
+            let few = *r.pick(&[0, 1, 2, 3, 3, 4, 4, 5, 6]);
+            names.truncate(if broad { r.between(30, 64) } else { few });
             names
         })
         .collect()
 }
 
 const KINDS: [&str; 17] = [
-    "projection", "projection", "projection", "projection", "filter", "sort", "limit", "limit", "aggregate", "window",
-    "window", "alias", "alias", "union", "distinct", "join", "join",
+    "projection",
+    "projection",
+    "projection",
+    "projection",
+    "filter",
+    "sort",
+    "limit",
+    "limit",
+    "aggregate",
+    "window",
+    "window",
+    "alias",
+    "alias",
+    "union",
+    "distinct",
+    "join",
+    "join",
 ];
 
 impl Maker<'_> {
@@ -122,7 +139,8 @@ impl Maker<'_> {
             Plan::Projection(list, _) if self.r.percent(20) && uses_only(list, &fields) => Some(list.clone()),
             _ => None,
         };
-        let n = *self.r.pick(&[0, 1, 1, 2, 2, 3, 4]);
+        let few = *self.r.pick(&[0, 1, 1, 2, 2, 3, 4]);
+        let n = if fields.len() > 20 && self.r.percent(60) { self.r.between(10, fields.len()) } else { few };
         let list = again.unwrap_or_else(|| items(self.r, &fields, n));
         let shown = list.iter().map(|i| i.pair).collect();
         (Plan::Projection(list, Box::new(child)), shown)
@@ -135,6 +153,17 @@ impl Maker<'_> {
             made = self.projection(made.0, made.1);
         }
         made
+    }
+
+    /// [y + y as y] over and over: under a mask that pushes sums, each merge step doubles the list.
+    pub fn doubling(&mut self) -> Made {
+        let y = Expr::Column((0, 8));
+        let mut plan = Plan::Projection(vec![Item::alias((0, 8), Expr::Literal(1))], Box::new(self.leaf().0));
+        for i in 0..self.r.between(8, 13) {
+            let sum = Expr::Binary(5 + (i % 2) as u8, Box::new(y.clone()), Box::new(y.clone()));
+            plan = Plan::Projection(vec![Item::alias((0, 8), sum)], Box::new(plan));
+        }
+        (plan, vec![(0, 8)])
     }
 
     fn union(&mut self, depth: usize, under: bool) -> Made {

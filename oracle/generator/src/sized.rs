@@ -30,8 +30,7 @@ fn five() -> Plan {
 /// One side of the join: an alias over a projection over a filter over a scan.
 fn side(q: u16, table: u8, names: [u16; 2]) -> Box<Plan> {
     let filter = Plan::Filter(equals(col(q, names[0]), 3), scan(table, q));
-    let items =
-        vec![Item::alias((0, 20 + q), plus_one(col(q, names[0]))), Item::alias((0, 30 + q), col(q, names[1]))];
+    let items = vec![Item::alias((0, 20 + q), plus_one(col(q, names[0]))), Item::alias((0, 30 + q), col(q, names[1]))];
     Box::new(Plan::SubqueryAlias(q + 40, Box::new(Plan::Projection(items, Box::new(filter)))))
 }
 
@@ -61,10 +60,7 @@ fn twenty() -> Plan {
     let measure = |pair, function| Measure { pair, function, argument: Some(col(0, 61)) };
     let measures = vec![measure((0, 80), 2), measure((0, 81), 3)];
     let aggregate = Plan::Aggregate(vec![Item::column((0, 60))], measures, Box::new(union));
-    let shown = vec![
-        Item::alias((0, 70), binary(6, col(0, 60), Expr::Literal(2))),
-        Item::alias((0, 71), col(0, 80)),
-    ];
+    let shown = vec![Item::alias((0, 70), binary(6, col(0, 60), Expr::Literal(2))), Item::alias((0, 71), col(0, 80))];
     Plan::Projection(shown, Box::new(aggregate))
 }
 
@@ -94,7 +90,7 @@ pub fn random_of(n: usize, count: usize, seed: u64) -> Vec<Vec<u8>> {
     let mut r = Random::new(seed);
     let mut out = vec![];
     while out.len() < count {
-        let tables = tables(&mut r);
+        let tables = tables(&mut r, false);
         if tables.iter().any(Vec::is_empty) {
             continue;
         }

@@ -14,9 +14,7 @@ pub fn clash(fields: &[Pair]) -> bool {
 /// A node's fields from its inputs' fields.
 fn shown(plan: &Plan, tables: &[Vec<u16>], inputs: &[Vec<Pair>]) -> Vec<Pair> {
     match plan {
-        Plan::Filter(..) | Plan::Sort(..) | Plan::Limit(..) | Plan::Distinct(_) | Plan::Union(..) => {
-            inputs[0].clone()
-        }
+        Plan::Filter(..) | Plan::Sort(..) | Plan::Limit(..) | Plan::Distinct(_) | Plan::Union(..) => inputs[0].clone(),
         Plan::Projection(items, _) => items.iter().map(|i| i.pair).collect(),
         Plan::Aggregate(groups, measures, _) => {
             groups.iter().map(|i| i.pair).chain(measures.iter().map(|m| m.pair)).collect()
@@ -57,9 +55,7 @@ fn node(plan: &Plan, tables: &[Vec<u16>], next: &mut u64) -> Read<Vec<Pair>> {
         inputs.push(node(child, tables, next)?);
     }
     let refuse = |code| Err(Fault { code, place });
-    let lacks = |columns: Vec<Pair>, there: &[&[Pair]]| {
-        columns.iter().any(|c| !there.iter().any(|f| f.contains(c)))
-    };
+    let lacks = |columns: Vec<Pair>, there: &[&[Pair]]| columns.iter().any(|c| !there.iter().any(|f| f.contains(c)));
     let unknown = match plan {
         Plan::Join(join, ..) => {
             lacks(columns_of(join.on.iter().map(|p| &p.0)), &[&inputs[0]])

@@ -5,8 +5,7 @@ use std::panic::catch_unwind;
 /// The result of the published pass in crate mode, or its words.
 pub fn texts(case: &Case) -> Result<Vec<u8>, String> {
     rig::set_mask(case.mask);
-    let request: Option<Vec<usize>> =
-        case.request.as_ref().map(|r| r.iter().map(|i| *i as usize).collect());
+    let request: Option<Vec<usize>> = case.request.as_ref().map(|r| r.iter().map(|i| *i as usize).collect());
     catch_unwind(|| rig::run(&case.file, request.as_deref())).unwrap_or_else(|_| Err("panic".into()))
 }
 

@@ -36,7 +36,7 @@ fn damage(r: &mut Random, case: &mut Case) {
 
 fn run(n: usize, seed: u64) -> bool {
     let mut r = Random::new(seed);
-    let mix = Mix { wide: true, most_nodes: 80, most_bytes: 4000 };
+    let mix = Mix { wide: true, most_nodes: 256, most_bytes: 12000 };
     let mut library = Library::default();
     let mut codes = [0; 14];
     for _ in 0..n {

@@ -2,7 +2,7 @@
 //! compared byte by byte. Exit status 1 if a difference is not explained.
 use compare::{Library, Verdict, shrink, verdict};
 use generator::{Case, Mix, Random, case, hex, line};
-use model::{Plan, read};
+use model::{Plan, fields, nodes_in, read};
 use simmerroof::Mode;
 use std::collections::BTreeMap;
 
@@ -12,6 +12,8 @@ struct Counts {
     changed: usize,
     asking: usize,
     largest: usize,
+    most_nodes: usize,
+    broadest: usize,
     kinds: BTreeMap<&'static str, usize>,
     joins: [usize; 8],
     stale: Vec<Case>,
@@ -33,12 +35,15 @@ fn smallest(cases: &[Case]) -> &Case {
 
 fn run(n: usize, seed: u64, wide: bool) -> bool {
     let mut r = Random::new(seed);
-    let mix = Mix { wide, most_nodes: 80, most_bytes: 4000 };
+    let mix = Mix { wide, most_nodes: 256, most_bytes: 12000 };
     let (mut library, mut c) = (Library::default(), Counts::default());
     for _ in 0..n {
         let case = case(&mut r, mix);
         let (texts, answer) = (tools::texts(&case), library.answer(Mode::Crate, &case));
-        count(&read(&case.file).expect("accepted").plan, &mut c);
+        let file = read(&case.file).expect("accepted");
+        count(&file.plan, &mut c);
+        c.most_nodes = c.most_nodes.max(nodes_in(&file.plan));
+        c.broadest = c.broadest.max(fields(&file.plan, &file.tables).len());
         c.asking += case.request.is_some() as usize;
         c.largest = c.largest.max(case.file.len());
         c.changed += (texts.as_ref() != Ok(&case.file)) as usize;
@@ -50,7 +55,8 @@ fn run(n: usize, seed: u64, wide: bool) -> bool {
         }
     }
     println!("{n} plans, seed {seed}{}: {} equal, {} differ", if wide { ", wide" } else { "" }, c.equal, n - c.equal);
-    println!("  asking for some fields only: {}; changed by the pass: {}; longest file: {} bytes", c.asking, c.changed, c.largest);
+    println!("  asking for some fields only: {}; changed by the pass: {}", c.asking, c.changed);
+    println!("  longest file {} bytes, most nodes {}, most fields of a root {}", c.largest, c.most_nodes, c.broadest);
     println!("  nodes: {}", c.kinds.iter().map(|(k, n)| format!("{k} {n}")).collect::<Vec<_>>().join(", "));
     println!("  joins by type 0 to 7: {:?}", c.joins);
     println!("  differ, a stale schema over an Empty leaf (docs/DIFFERENCES.md): {}", c.stale.len());

@@ -11,10 +11,7 @@ mod values;
 pub use errors::{DataFusionError, Result};
 pub use map::HashMap;
 pub use names::{Column, TableReference};
-pub use schema::{
-    DFSchema, DFSchemaRef, FunctionalDependencies, get_required_group_by_exprs_indices,
-    number_field,
-};
+pub use schema::{DFSchema, DFSchemaRef, FunctionalDependencies, get_required_group_by_exprs_indices, number_field};
 pub use values::{JoinType, ScalarValue};
 
 /// Named by a part of utils.rs that the pass never calls.

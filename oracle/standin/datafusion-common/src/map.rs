@@ -1,7 +1,7 @@
 //! The map that the merge counts uses in.
 
-/// [D5] The crate re-exports a faster map than std's; this one is std's table
-/// with a cheap hash (only the speed depends on it).
+/// [D5] The crate re-exports a faster map than std's; this one is std's table with a cheap hash. Only the speed depends on
+/// it.
 pub struct HashMap<K, V>(std::collections::HashMap<K, V, std::hash::BuildHasherDefault<Fx>>);
 impl<K, V> HashMap<K, V> {
     #[allow(clippy::new_without_default)]

@@ -29,8 +29,7 @@ impl DFSchema {
             functional_dependencies: FunctionalDependencies,
         }
     }
-    /// [D3] Refuses document 01's CLASH: two equal pairs, or one name both with
-    /// and without qualifier.
+    /// [D3] Refuses document 01's CLASH: two equal pairs, or one name both with and without qualifier.
     pub fn new_qualified(parts: Vec<(Option<TableReference>, FieldRef)>) -> Result<Self> {
         let (field_qualifiers, fields): (Vec<_>, Fields) = parts.into_iter().unzip();
         let s = Self {
@@ -71,12 +70,10 @@ impl DFSchema {
     }
     /// [D4] Document 01: "A column is found by its exact pair."
     pub fn maybe_index_of_column(&self, col: &Column) -> Option<usize> {
-        self.iter()
-            .position(|(q, f)| f.name() == &col.name && q == col.relation.as_ref())
+        self.iter().position(|(q, f)| f.name() == &col.name && q == col.relation.as_ref())
     }
     pub fn index_of_column(&self, col: &Column) -> Result<usize> {
-        self.maybe_index_of_column(col)
-            .ok_or_else(|| DataFusionError::SchemaError(format!("no field {col}")))
+        self.maybe_index_of_column(col).ok_or_else(|| DataFusionError::SchemaError(format!("no field {col}")))
     }
     pub fn functional_dependencies(&self) -> &FunctionalDependencies {
         &self.functional_dependencies
@@ -94,7 +91,7 @@ pub fn number_field(name: impl Into<String>) -> FieldRef {
     Arc::new(Field::new(name, DataType::Int64, true))
 }
 
-/// Never called: [D2] makes the text's own short-circuit apply.
+/// Never called: under [D2] the texts' own short cut applies.
 pub fn get_required_group_by_exprs_indices(_: &DFSchema, _: &[String]) -> Option<Vec<usize>> {
     unreachable!("no functional dependencies in the rig")
 }

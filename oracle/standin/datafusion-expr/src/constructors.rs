@@ -2,9 +2,7 @@
 use crate::Expr;
 use crate::nodes::*;
 use datafusion_common::tree_node::{TreeNode, TreeNodeRecursion};
-use datafusion_common::{
-    DFSchema, DFSchemaRef, DataFusionError, JoinType, Result, TableReference, number_field,
-};
+use datafusion_common::{DFSchema, DFSchemaRef, DataFusionError, JoinType, Result, TableReference, number_field};
 use std::sync::Arc;
 
 /// [D13] Every column of an expression must be found in the input.
@@ -48,11 +46,7 @@ impl Projection {
         let schema = Arc::new(DFSchema::new_qualified(fields)?);
         Self::try_new_with_schema(expr, input, schema)
     }
-    pub fn try_new_with_schema(
-        expr: Vec<Expr>,
-        input: Arc<LogicalPlan>,
-        schema: DFSchemaRef,
-    ) -> Result<Self> {
+    pub fn try_new_with_schema(expr: Vec<Expr>, input: Arc<LogicalPlan>, schema: DFSchemaRef) -> Result<Self> {
         if expr.len() != schema.fields().len() {
             return Err(DataFusionError::Plan("projection width".into()));
         }
@@ -61,17 +55,13 @@ impl Projection {
 }
 
 impl Aggregate {
-    pub fn try_new(
-        input: Arc<LogicalPlan>,
-        group_expr: Vec<Expr>,
-        aggr_expr: Vec<Expr>,
-    ) -> Result<Self> {
+    pub fn try_new(input: Arc<LogicalPlan>, group_expr: Vec<Expr>, aggr_expr: Vec<Expr>) -> Result<Self> {
         let mut fields = Vec::with_capacity(group_expr.len() + aggr_expr.len());
         fields_of(group_expr.iter().chain(&aggr_expr), input.schema(), &mut fields)?;
         let schema = Arc::new(DFSchema::new_qualified(fields)?);
         Ok(Self { input, group_expr, aggr_expr, schema })
     }
-    /// No grouping sets.
+    /// [D21] No grouping sets: each group is a field.
     pub fn group_expr_len(&self) -> Result<usize> {
         Ok(self.group_expr.len())
     }
@@ -95,12 +85,7 @@ impl Filter {
 
 impl SubqueryAlias {
     pub fn try_new(input: Arc<LogicalPlan>, alias: TableReference) -> Result<Self> {
-        let fields = input
-            .schema()
-            .fields()
-            .iter()
-            .map(|f| (Some(alias.clone()), Arc::clone(f)))
-            .collect();
+        let fields = input.schema().fields().iter().map(|f| (Some(alias.clone()), Arc::clone(f))).collect();
         let schema = Arc::new(DFSchema::new_qualified(fields)?);
         Ok(Self { input, alias, schema })
     }
@@ -117,9 +102,7 @@ impl Union {
     }
 }
 
-fn owned(
-    s: &DFSchema,
-) -> impl Iterator<Item = (Option<TableReference>, arrow::datatypes::FieldRef)> {
+fn owned(s: &DFSchema) -> impl Iterator<Item = (Option<TableReference>, arrow::datatypes::FieldRef)> {
     s.iter().map(|(q, f)| (q.cloned(), Arc::clone(f)))
 }
 
@@ -134,9 +117,7 @@ impl Join {
         use JoinType::*;
         let (l, r) = (left.schema(), right.schema());
         let schema = match join_type {
-            Inner | Left | Right | Full => {
-                Arc::new(DFSchema::new_qualified(owned(l).chain(owned(r)).collect())?)
-            }
+            Inner | Left | Right | Full => Arc::new(DFSchema::new_qualified(owned(l).chain(owned(r)).collect())?),
             LeftSemi | LeftAnti => Arc::clone(l),
             RightSemi | RightAnti => Arc::clone(r),
             LeftMark | RightMark => unreachable!("no mark joins in the rig"),

@@ -7,6 +7,7 @@ use datafusion_common::{Column, HashMap, ScalarValue, TableReference};
 use std::collections::HashSet;
 use std::sync::atomic::{AtomicU16, Ordering};
 
+/// [D24] Two expressions are equal if they are built alike (the merge's equal-lists step asks this).
 #[derive(Debug, Clone, PartialEq, Eq, Hash)]
 pub enum Expr {
     Alias(Alias),

@@ -2,9 +2,7 @@
 use crate::Expr;
 use crate::expr::{Alias, BinaryExpr};
 use datafusion_common::Result;
-use datafusion_common::tree_node::{
-    Transformed, TreeNode, TreeNodeContainer, TreeNodeRecursion,
-};
+use datafusion_common::tree_node::{Transformed, TreeNode, TreeNodeContainer, TreeNodeRecursion};
 
 impl<'a> TreeNodeContainer<'a, Self> for Expr {
     fn map_elements<F>(self, mut f: F) -> Result<Transformed<Self>>
@@ -51,9 +49,9 @@ impl TreeNode for Expr {
         F: FnMut(Self) -> Result<Transformed<Self>>,
     {
         Ok(match self {
-            Expr::Alias(Alias { expr, relation, name, metadata }) => expr
-                .map_elements(f)?
-                .update_data(|expr| Expr::Alias(Alias { expr, relation, name, metadata })),
+            Expr::Alias(Alias { expr, relation, name, metadata }) => {
+                expr.map_elements(f)?.update_data(|expr| Expr::Alias(Alias { expr, relation, name, metadata }))
+            }
             Expr::Not(e) => e.map_elements(f)?.update_data(Expr::Not),
             Expr::IsNull(e) => e.map_elements(f)?.update_data(Expr::IsNull),
             Expr::BinaryExpr(BinaryExpr { left, op, right }) => {

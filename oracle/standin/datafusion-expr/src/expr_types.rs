@@ -4,6 +4,7 @@ use crate::nodes::Subquery;
 use datafusion_common::TableReference;
 use std::fmt;
 
+/// [D23] Aliases and literals carry no metadata.
 #[derive(Debug, Clone, PartialEq, Eq, Hash)]
 pub struct FieldMetadata;
 impl FieldMetadata {
@@ -31,8 +32,7 @@ pub enum Operator {
     Or,
 }
 impl Operator {
-    pub const ALL: [Operator; 7] =
-        [Self::Plus, Self::Minus, Self::Multiply, Self::Eq, Self::Lt, Self::And, Self::Or];
+    pub const ALL: [Operator; 7] = [Self::Plus, Self::Minus, Self::Multiply, Self::Eq, Self::Lt, Self::And, Self::Or];
 }
 impl fmt::Display for Operator {
     fn fmt(&self, f: &mut fmt::Formatter<'_>) -> fmt::Result {

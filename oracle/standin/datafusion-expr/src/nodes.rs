@@ -22,7 +22,7 @@ pub enum LogicalPlan {
     Join(Join),
     TableScan(TableScan),
     EmptyRelation(EmptyRelation),
-    /// only as a root, to ask for other fields than all (the rig's `Asking`)
+    /// [D20] only as a root, to ask for other fields than all (the rig's `Asking`)
     Extension(Extension),
     // never built, but named by the texts' matches:
     Unnest(Unnest),
@@ -128,7 +128,7 @@ pub trait UserDefinedLogicalNode: fmt::Debug {
     fn inputs(&self) -> Vec<&LogicalPlan>;
     fn with_input(&self, input: LogicalPlan) -> Arc<dyn UserDefinedLogicalNode>;
 }
-/// A node with one input, the same fields and no expressions.
+/// [D20] A node with one input, the same fields and no expressions.
 #[derive(Debug, Clone)]
 pub struct Extension {
     pub node: Arc<dyn UserDefinedLogicalNode>,

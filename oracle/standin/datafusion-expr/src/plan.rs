@@ -44,7 +44,7 @@ impl LogicalPlan {
         }
     }
 
-    /// A node's own expressions. Only the kinds that the texts ask about (through `with_plan_exprs`).
+    /// [D22] A node's own expressions, as document 01's table of nodes has them. Only the kinds that the texts ask about (through `with_plan_exprs`).
     pub fn apply_expressions<F>(&self, mut f: F) -> Result<TreeNodeRecursion>
     where
         F: FnMut(&Expr) -> Result<TreeNodeRecursion>,
@@ -90,13 +90,9 @@ impl LogicalPlan {
     pub fn recompute_schema(self) -> Result<Self> {
         Ok(match self {
             Self::Filter(n) => Self::Filter(Filter::try_new(n.predicate, n.input)?),
-            Self::SubqueryAlias(n) => {
-                Self::SubqueryAlias(SubqueryAlias::try_new(n.input, n.alias)?)
-            }
+            Self::SubqueryAlias(n) => Self::SubqueryAlias(SubqueryAlias::try_new(n.input, n.alias)?),
             Self::Union(n) => Self::Union(Union::try_new(n.inputs)?),
-            Self::Join(n) => {
-                Self::Join(Join::try_new(n.left, n.right, n.on, n.filter, n.join_type)?)
-            }
+            Self::Join(n) => Self::Join(Join::try_new(n.left, n.right, n.on, n.filter, n.join_type)?),
             n @ (Self::Sort(_) | Self::Limit(_) | Self::Distinct(_) | Self::Extension(_)) => n,
             _ => unreachable!("the texts do not ask this node kind"),
         })

@@ -10,16 +10,19 @@ fn main() {
     let (n, seed) = (words.next().expect("N"), words.next().expect("SEED"));
     tools::on_deep_stack(move || {
         let mut r = Random::new(seed);
-        let mix = Mix { wide: false, most_nodes: 24, most_bytes: 360 };
+        let small = Mix { wide: false, most_nodes: 24, most_bytes: 360 };
+        let large = Mix { wide: false, most_nodes: 80, most_bytes: 1400 };
         let mut written = 0;
         while written < n {
+            // every twentieth is larger
+            let mix = if written % 20 == 19 { large } else { small };
             let case = case(&mut r, mix);
             let Ok(result) = tools::texts(&case) else {
                 panic!("the texts refuse {}", line(&case, 0, 0));
             };
             let request = case.request.as_deref();
             let here = model::answer(0, case.mask, &case.file, request, usize::MAX);
-            if here.is_err() || here != model::answer_stale(case.mask, &case.file, request) || result.len() > 400 {
+            if here.is_err() || here != model::answer_stale(case.mask, &case.file, request) || result.len() > 1400 {
                 continue;
             }
             let room = result.len() + *r.pick(&[0, 1, 100]);
