@@ -1,0 +1,38 @@
+//! The tables.
+use crate::forms::NAMES;
+use crate::sets::Set;
+
+fn head(title: &str) {
+    println!("\n{title}");
+    print!("{:18}", "");
+    NAMES.iter().for_each(|n| print!("{n:>23}"));
+    println!("{:>12}{:>12}{:>12}", "lent/pass", "lent/codec", "plain/codec");
+}
+
+fn row(set: &Set, cells: [Option<f64>; 4]) {
+    print!("{:18}", set.name);
+    cells.iter().for_each(|c| print!("{:>23}", c.map_or("-".into(), |v| format!("{v:.0}"))));
+    for (a, b) in [(2, 0), (2, 1), (3, 1)] {
+        let ratio = cells[a].zip(cells[b]).map(|(x, y)| format!("{:.2}", x / y));
+        print!("{:>12}", ratio.unwrap_or("-".into()));
+    }
+    println!();
+}
+
+pub fn times(sets: &[Set], rows: &[[f64; 4]]) {
+    head("Nanoseconds a plan, best of alternating runs");
+    sets.iter().zip(rows).for_each(|(s, r)| row(s, r.map(Some)));
+}
+
+pub fn instructions(sets: &[Set], rows: &[[Option<f64>; 4]]) {
+    head("Instructions a plan, by callgrind (- where valgrind is not there)");
+    sets.iter().zip(rows).for_each(|(s, r)| row(s, *r));
+    println!(
+        "\nCrate mode, mask 0, all fields; all built for release. No file is opened: plans and results are in memory.
+Rust, pass alone: from a plan in memory to a plan in memory; reading, writing and dropping the result do not count.
+Rust, with file codec: the oracle's own reading and writing count, and the dropping of both plans.
+library, lent form: reading and writing count; the work area is lent and nobody clears it between calls.
+library, plain form: reading and writing count, and so does making and clearing the work area in each call.
+The output buffer is made once for all calls and nobody clears it."
+    );
+}

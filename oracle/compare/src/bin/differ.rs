@@ -1,0 +1,96 @@
+//! differ N SEED [wide]: N random accepted plans through the unchanged texts and through the library, crate mode, results
+//! compared byte by byte. Exit status 1 if a difference is not explained.
+use compare::{Library, Verdict, shrink, verdict};
+use generator::{Case, Mix, Random, case, hex, line};
+use model::{Plan, fields, nodes_in, read};
+use simmerroof::Mode;
+use std::collections::BTreeMap;
+
+#[derive(Default)]
+struct Counts {
+    equal: usize,
+    changed: usize,
+    asking: usize,
+    largest: usize,
+    most_nodes: usize,
+    broadest: usize,
+    kinds: BTreeMap<&'static str, usize>,
+    joins: [usize; 8],
+    stale: Vec<Case>,
+    limit: usize,
+    unexplained: Vec<Case>,
+}
+
+fn count(plan: &Plan, c: &mut Counts) {
+    *c.kinds.entry(plan.kind()).or_default() += 1;
+    if let Plan::Join(join, ..) = plan {
+        c.joins[join.kind as usize] += 1;
+    }
+    plan.children().into_iter().for_each(|p| count(p, c));
+}
+
+fn smallest(cases: &[Case]) -> &Case {
+    cases.iter().min_by_key(|c| c.file.len()).expect("one at least")
+}
+
+fn run(n: usize, seed: u64, wide: bool) -> bool {
+    let mut r = Random::new(seed);
+    let mix = Mix { wide, most_nodes: 256, most_bytes: 12000 };
+    let (mut library, mut c) = (Library::default(), Counts::default());
+    for _ in 0..n {
+        let case = case(&mut r, mix);
+        let (texts, answer) = (tools::texts(&case), library.answer(Mode::Crate, &case));
+        let file = read(&case.file).expect("accepted");
+        count(&file.plan, &mut c);
+        c.most_nodes = c.most_nodes.max(nodes_in(&file.plan));
+        c.broadest = c.broadest.max(fields(&file.plan, &file.tables).len());
+        c.asking += case.request.is_some() as usize;
+        c.largest = c.largest.max(case.file.len());
+        c.changed += (texts.as_ref() != Ok(&case.file)) as usize;
+        match verdict(&case, &texts, &answer) {
+            Verdict::Equal => c.equal += 1,
+            Verdict::Stale => c.stale.push(case),
+            Verdict::Limit => c.limit += 1,
+            Verdict::Unexplained => c.unexplained.push(case),
+        }
+    }
+    println!("{n} plans, seed {seed}{}: {} equal, {} differ", if wide { ", wide" } else { "" }, c.equal, n - c.equal);
+    println!("  asking for some fields only: {}; changed by the pass: {}", c.asking, c.changed);
+    println!("  longest file {} bytes, most nodes {}, most fields of a root {}", c.largest, c.most_nodes, c.broadest);
+    println!("  nodes: {}", c.kinds.iter().map(|(k, n)| format!("{k} {n}")).collect::<Vec<_>>().join(", "));
+    println!("  joins by type 0 to 7: {:?}", c.joins);
+    println!("  differ, a stale schema over an Empty leaf (docs/DIFFERENCES.md): {}", c.stale.len());
+    println!("  differ, over document 01's limits: {}", c.limit);
+    println!("  differ, unexplained: {}", c.unexplained.len());
+    let mut of_kind = |wanted: Verdict, cases: &[Case]| {
+        let mut same = |x: &Case| verdict(x, &tools::texts(x), &library.answer(Mode::Crate, x)) == wanted;
+        let least = shrink(smallest(cases), &mut same);
+        println!("smallest {wanted:?}: {}", line(&least, 0, 65536));
+        match tools::texts(&least) {
+            Ok(b) => println!("  texts    {}", hex(&b)),
+            Err(words) => println!("  texts    refuse: {words}"),
+        }
+        match library.answer(Mode::Crate, &least) {
+            Ok(b) => println!("  library  {}", hex(&b)),
+            Err(refusal) => println!("  library  refuses: code {}, {refusal}", refusal.kind.code()),
+        }
+    };
+    if !c.stale.is_empty() {
+        of_kind(Verdict::Stale, &c.stale);
+    }
+    if !c.unexplained.is_empty() {
+        of_kind(Verdict::Unexplained, &c.unexplained);
+    }
+    c.unexplained.is_empty()
+}
+
+fn main() {
+    let words: Vec<String> = std::env::args().skip(1).collect();
+    let number = |i: usize| words.get(i).and_then(|w| w.parse::<u64>().ok()).expect("differ N SEED [wide]");
+    let (n, seed) = (number(0) as usize, number(1));
+    let wide = words.get(2).is_some_and(|w| w == "wide");
+    std::panic::set_hook(Box::new(|p| eprintln!("{p}")));
+    if !tools::on_deep_stack(move || run(n, seed, wide)) {
+        std::process::exit(1);
+    }
+}

@@ -1,0 +1,83 @@
+//! A smaller case of the same kind.
+use generator::Case;
+use model::{File, Plan, accept, read, write};
+
+/// Puts inputs in the place of their nodes, asks for all fields or sets the mask to 0, as long as `same` holds.
+pub fn shrink(case: &Case, same: &mut dyn FnMut(&Case) -> bool) -> Case {
+    let mut best = case.clone();
+    while let Some(smaller) = candidates(&best).into_iter().find(|c| same(c)) {
+        best = smaller;
+    }
+    best
+}
+
+fn candidates(case: &Case) -> Vec<Case> {
+    let mut out = vec![];
+    if case.request.is_some() {
+        out.push(Case { request: None, ..case.clone() });
+    }
+    if case.mask != 0 {
+        out.push(Case { mask: 0, ..case.clone() });
+    }
+    let Ok(file) = read(&case.file) else {
+        return out;
+    };
+    for plan in smaller(&file.plan) {
+        let Ok(fields) = accept(&plan, &file.tables) else {
+            continue;
+        };
+        let request = case.request.as_ref();
+        let request = request.map(|r| r.iter().copied().filter(|i| (*i as usize) < fields.len()).collect());
+        let file = write(&File { tables: file.tables.clone(), plan });
+        out.push(Case { mask: case.mask, request, file });
+    }
+    out
+}
+
+/// Every plan with one node replaced by one of its inputs, or one entry of its list left out.
+fn smaller(plan: &Plan) -> Vec<Plan> {
+    let mut out: Vec<Plan> = plan.children().into_iter().cloned().collect();
+    match plan {
+        Plan::Projection(items, c) => {
+            out.extend(less(items).map(|l| Plan::Projection(l, c.clone())));
+            out.extend(inside(c, |c| Plan::Projection(items.clone(), c)));
+        }
+        Plan::Filter(e, c) => out.extend(inside(c, |c| Plan::Filter(e.clone(), c))),
+        Plan::Sort(k, c) => {
+            out.extend(less(k).filter(|l| !l.is_empty()).map(|l| Plan::Sort(l, c.clone())));
+            out.extend(inside(c, |c| Plan::Sort(k.clone(), c)));
+        }
+        Plan::Limit(s, f, c) => out.extend(inside(c, |c| Plan::Limit(*s, *f, c))),
+        Plan::Aggregate(g, m, c) => {
+            if g.len() + m.len() > 1 {
+                out.extend(less(g).map(|l| Plan::Aggregate(l, m.clone(), c.clone())));
+                out.extend(less(m).map(|l| Plan::Aggregate(g.clone(), l, c.clone())));
+            }
+            out.extend(inside(c, |c| Plan::Aggregate(g.clone(), m.clone(), c)));
+        }
+        Plan::Window(w, c) => {
+            out.extend(less(w).filter(|l| !l.is_empty()).map(|l| Plan::Window(l, c.clone())));
+            out.extend(inside(c, |c| Plan::Window(w.clone(), c)));
+        }
+        Plan::SubqueryAlias(q, c) => out.extend(inside(c, |c| Plan::SubqueryAlias(*q, c))),
+        Plan::Distinct(c) => out.extend(inside(c, Plan::Distinct)),
+        Plan::Union(l, r) => {
+            out.extend(inside(l, |c| Plan::Union(c, r.clone())));
+            out.extend(inside(r, |c| Plan::Union(l.clone(), c)));
+        }
+        Plan::Join(j, l, r) => {
+            out.extend(inside(l, |c| Plan::Join(j.clone(), c, r.clone())));
+            out.extend(inside(r, |c| Plan::Join(j.clone(), l.clone(), c)));
+        }
+        Plan::Scan { .. } | Plan::Empty { .. } => {}
+    }
+    out
+}
+
+fn inside(child: &Plan, around: impl Fn(Box<Plan>) -> Plan) -> Vec<Plan> {
+    smaller(child).into_iter().map(|c| around(Box::new(c))).collect()
+}
+
+fn less<T: Clone>(list: &[T]) -> impl Iterator<Item = Vec<T>> {
+    (0..list.len()).map(|i| [&list[..i], &list[i + 1..]].concat())
+}

@@ -1,0 +1,225 @@
+//! Random plans. Beneath an Aggregate there is no Aggregate and no row-numbering Window, and a Union's inputs have the
+//! same pairs field by field: document 01's domain of equality. `wide` lifts both.
+use crate::exprs::*;
+use crate::random::Random;
+use model::*;
+
+pub struct Maker<'a> {
+    pub r: &'a mut Random,
+    pub tables: Vec<Vec<u16>>,
+    /// how many of a hundred leaves are Empties
+    pub empties: usize,
+    pub wide: bool,
+}
+
+/// A plan with its fields.
+type Made = (Plan, Vec<Pair>);
+
+/// A catalogue. Broad tables have 30 to 64 columns, so that requests reach past 64 fields.
+pub fn tables(r: &mut Random, broad: bool) -> Vec<Vec<u16>> {
+    (0..r.between(1, 4))
+        .map(|_| {
+            let mut names: Vec<u16> = if broad { (1..=90).collect() } else { (1..=8).collect() };
+            r.shuffle(&mut names);
+            let few = *r.pick(&[0, 1, 2, 3, 3, 4, 4, 5, 6]);
+            names.truncate(if broad { r.between(30, 64) } else { few });
+            names
+        })
+        .collect()
+}
+
+const KINDS: [&str; 17] = [
+    "projection",
+    "projection",
+    "projection",
+    "projection",
+    "filter",
+    "sort",
+    "limit",
+    "limit",
+    "aggregate",
+    "window",
+    "window",
+    "alias",
+    "alias",
+    "union",
+    "distinct",
+    "join",
+    "join",
+];
+
+impl Maker<'_> {
+    pub fn leaf(&mut self) -> Made {
+        if self.r.percent(self.empties) {
+            let mut fields = vec![];
+            for _ in 0..self.r.between(0, 3) {
+                fields.push(fresh(self.r, &fields));
+            }
+            return (Plan::Empty { one_row: self.r.percent(50), fields: fields.clone() }, fields);
+        }
+        let table = self.r.below(self.tables.len());
+        let n = self.tables[table].len();
+        let columns = self.r.percent(40).then(|| {
+            let mut list: Vec<u8> = self.r.subset(n).into_iter().map(|i| i as u8).collect();
+            self.r.shuffle(&mut list);
+            list
+        });
+        let plan = Plan::Scan { table: table as u8, qualifier: self.r.between(1, 3) as u16, columns };
+        let fields = fields(&plan, &self.tables);
+        (plan, fields)
+    }
+
+    /// `under`: beneath an Aggregate.
+    pub fn plan(&mut self, depth: usize, under: bool) -> Made {
+        if depth == 0 || self.r.percent(6) {
+            return self.leaf();
+        }
+        match *self.r.pick(&KINDS) {
+            "union" => self.union(depth, under),
+            "join" => self.join(depth, under),
+            "aggregate" if under && !self.wide => self.plan(depth - 1, under),
+            kind => {
+                let below = under || kind == "aggregate";
+                let input = self.plan(depth - 1, below);
+                self.unary(kind, input, under)
+            }
+        }
+    }
+
+    fn unary(&mut self, kind: &str, (child, fields): Made, under: bool) -> Made {
+        let r = &mut *self.r;
+        match kind {
+            "projection" => return self.projection(child, fields),
+            "filter" => (Plan::Filter(expr(r, &fields, 2), Box::new(child)), fields),
+            "sort" => (Plan::Sort(keys(r, &fields, 1), Box::new(child)), fields),
+            "limit" => {
+                let fetch = *r.pick(&[u32::MAX, 5, 0]);
+                (Plan::Limit(r.below(4) as u32, fetch, Box::new(child)), fields)
+            }
+            "aggregate" => {
+                let n = r.between(0, 2);
+                let groups = items(r, &fields, n);
+                let mut shown: Vec<Pair> = groups.iter().map(|i| i.pair).collect();
+                let mut measures = vec![];
+                for _ in 0..r.between(groups.is_empty() as usize, 3) {
+                    let (pair, function) = (fresh(r, &shown), r.below(5) as u8);
+                    shown.push(pair);
+                    let argument = (function != 0).then(|| expr(r, &fields, 1));
+                    measures.push(Measure { pair, function, argument });
+                }
+                (Plan::Aggregate(groups, measures, Box::new(child)), shown)
+            }
+            "window" => {
+                let (mut shown, mut calls) = (fields.clone(), vec![]);
+                for _ in 0..r.between(1, 2) {
+                    let pair = fresh(r, &shown);
+                    shown.push(pair);
+                    let function = r.between((under && !self.wide) as usize, 4) as u8;
+                    let partition = (0..r.between(0, 2)).map(|_| expr(r, &fields, 1)).collect();
+                    let order = keys(r, &fields, 0);
+                    let argument = (function != 0).then(|| expr(r, &fields, 1));
+                    calls.push(Call { pair, function, partition, order, argument });
+                }
+                (Plan::Window(calls, Box::new(child)), shown)
+            }
+            "alias" => {
+                let q = r.between(1, 5) as u16;
+                let shown: Vec<Pair> = fields.iter().map(|p| (q, p.1)).collect();
+                if clash(&shown) {
+                    return (child, fields);
+                }
+                (Plan::SubqueryAlias(q, Box::new(child)), shown)
+            }
+            _ => (Plan::Distinct(Box::new(child)), fields),
+        }
+    }
+
+    fn projection(&mut self, child: Plan, fields: Vec<Pair>) -> Made {
+        let again = match &child {
+            Plan::Projection(list, _) if self.r.percent(20) && uses_only(list, &fields) => Some(list.clone()),
+            _ => None,
+        };
+        let few = *self.r.pick(&[0, 1, 1, 2, 2, 3, 4]);
+        let n = if fields.len() > 20 && self.r.percent(60) { self.r.between(10, fields.len()) } else { few };
+        let list = again.unwrap_or_else(|| items(self.r, &fields, n));
+        let shown = list.iter().map(|i| i.pair).collect();
+        (Plan::Projection(list, Box::new(child)), shown)
+    }
+
+    /// Projections over a leaf, some of them equal to the one beneath.
+    pub fn chain(&mut self) -> Made {
+        let mut made = self.leaf();
+        for _ in 0..self.r.between(2, 8) {
+            made = self.projection(made.0, made.1);
+        }
+        made
+    }
+
+    /// [y + y as y] over and over: under a mask that pushes sums, each merge step doubles the list.
+    pub fn doubling(&mut self) -> Made {
+        let y = Expr::Column((0, 8));
+        let mut plan = Plan::Projection(vec![Item::alias((0, 8), Expr::Literal(1))], Box::new(self.leaf().0));
+        for i in 0..self.r.between(8, 13) {
+            let sum = Expr::Binary(5 + (i % 2) as u8, Box::new(y.clone()), Box::new(y.clone()));
+            plan = Plan::Projection(vec![Item::alias((0, 8), sum)], Box::new(plan));
+        }
+        (plan, vec![(0, 8)])
+    }
+
+    fn union(&mut self, depth: usize, under: bool) -> Made {
+        let (first, fields) = self.plan(depth - 1, under);
+        let second = if self.r.percent(30) {
+            first.clone()
+        } else {
+            let (input, below) = self.plan(depth.saturating_sub(2), under);
+            let list = if self.wide && self.r.percent(30) {
+                let list = items(self.r, &below, fields.len());
+                if list.len() < fields.len() {
+                    return (first, fields);
+                }
+                list
+            } else {
+                fields.iter().map(|p| self.same_pair(*p, &below)).collect()
+            };
+            Plan::Projection(list, Box::new(input))
+        };
+        (Plan::Union(Box::new(first), Box::new(second)), fields)
+    }
+    fn same_pair(&mut self, p: Pair, below: &[Pair]) -> Item {
+        if below.contains(&p) && self.r.percent(70) {
+            return Item::column(p);
+        }
+        Item::alias(p, expr(self.r, below, 1))
+    }
+
+    fn join(&mut self, depth: usize, under: bool) -> Made {
+        let less = |r: &mut Random| depth.saturating_sub(1 + if depth > 3 { r.below(3) } else { 0 });
+        let (d, e) = (less(self.r), less(self.r));
+        let (left, lf) = self.plan(d, under);
+        let (mut right, mut rf) = self.plan(e, under);
+        if clash(&[&lf[..], &rf].concat()) {
+            let q = self.r.between(4, 11) as u16;
+            right = Plan::SubqueryAlias(q, Box::new(right));
+            rf = rf.iter().map(|p| (q, p.1)).collect();
+            if clash(&rf) || clash(&[&lf[..], &rf].concat()) {
+                return (left, lf);
+            }
+        }
+        let both = [&lf[..], &rf].concat();
+        let on = (0..self.r.between(0, 2)).map(|_| (expr(self.r, &lf, 1), expr(self.r, &rf, 1))).collect();
+        let condition = self.r.percent(50).then(|| expr(self.r, &both, 2));
+        let join = Join { kind: self.r.below(8) as u8, on, condition };
+        let shown = match join.sides() {
+            Sides::Both => both,
+            Sides::Left => lf,
+            Sides::Right => rf,
+        };
+        (Plan::Join(join, Box::new(left), Box::new(right)), shown)
+    }
+}
+
+fn uses_only(list: &[Item], fields: &[Pair]) -> bool {
+    let mut columns = vec![];
+    list.iter().for_each(|i| i.expr.columns(&mut columns));
+    columns.iter().all(|c| fields.contains(c))
+}

@@ -1,0 +1,105 @@
+//! Plans of a given size, for the bench.
+use crate::plans::{Maker, tables};
+use crate::random::Random;
+use model::*;
+
+fn col(q: u16, n: u16) -> Expr {
+    Expr::Column((q, n))
+}
+fn binary(tag: u8, l: Expr, r: Expr) -> Expr {
+    Expr::Binary(tag, Box::new(l), Box::new(r))
+}
+fn plus_one(e: Expr) -> Expr {
+    binary(5, e, Expr::Literal(1))
+}
+fn equals(e: Expr, v: i64) -> Expr {
+    binary(8, e, Expr::Literal(v))
+}
+fn scan(table: u8, qualifier: u16) -> Box<Plan> {
+    Box::new(Plan::Scan { table, qualifier, columns: None })
+}
+
+/// Five nodes: a sort over a projection over a filter over an aliased scan. Shows (0, 70) and (0, 71).
+fn five() -> Plan {
+    let filter = Plan::Filter(equals(col(41, 2), 3), Box::new(Plan::SubqueryAlias(41, scan(0, 1))));
+    let items = vec![Item::alias((0, 70), plus_one(col(41, 1))), Item::alias((0, 71), col(41, 2))];
+    let key = Key { flags: 0, expr: col(0, 70) };
+    Plan::Sort(vec![key], Box::new(Plan::Projection(items, Box::new(filter))))
+}
+
+/// One side of the join: an alias over a projection over a filter over a scan.
+fn side(q: u16, table: u8, names: [u16; 2]) -> Box<Plan> {
+    let filter = Plan::Filter(equals(col(q, names[0]), 3), scan(table, q));
+    let items = vec![Item::alias((0, 20 + q), plus_one(col(q, names[0]))), Item::alias((0, 30 + q), col(q, names[1]))];
+    Box::new(Plan::SubqueryAlias(q + 40, Box::new(Plan::Projection(items, Box::new(filter)))))
+}
+
+/// Twenty nodes: two sides joined, a window, a filter, a limit, a union with two projections that merge, an aggregate, a
+/// projection. Shows (0, 70) and (0, 71). The pass adds one projection and merges one away.
+fn twenty() -> Plan {
+    let on = vec![(col(41, 21), col(42, 22))];
+    let condition = Some(binary(9, col(41, 31), col(42, 32)));
+    let join = Plan::Join(Join { kind: 1, on, condition }, side(1, 0, [1, 2]), side(2, 1, [4, 5]));
+    let number = Call {
+        pair: (0, 50),
+        function: 0,
+        partition: vec![col(41, 21)],
+        order: vec![Key { flags: 0, expr: col(42, 32) }],
+        argument: None,
+    };
+    let total = Call { pair: (0, 51), function: 2, partition: vec![], order: vec![], argument: Some(col(41, 31)) };
+    let window = Plan::Window(vec![number, total], Box::new(join));
+    let first = Plan::Filter(binary(9, col(0, 50), Expr::Literal(4)), Box::new(window));
+    let left = vec![Item::alias((0, 60), col(41, 21)), Item::alias((0, 61), col(42, 32))];
+    let left = Plan::Projection(left, Box::new(Plan::Limit(0, 100, Box::new(first))));
+    let lower = vec![Item::alias((0, 62), plus_one(col(9, 1))), Item::column((9, 3))];
+    let lower = Plan::Projection(lower, Box::new(Plan::Filter(equals(col(9, 2), 1), scan(0, 9))));
+    let right = vec![Item::alias((0, 60), plus_one(col(0, 62))), Item::alias((0, 61), col(9, 3))];
+    let right = Plan::Projection(right, Box::new(lower));
+    let union = Plan::Union(Box::new(left), Box::new(right));
+    let measure = |pair, function| Measure { pair, function, argument: Some(col(0, 61)) };
+    let measures = vec![measure((0, 80), 2), measure((0, 81), 3)];
+    let aggregate = Plan::Aggregate(vec![Item::column((0, 60))], measures, Box::new(union));
+    let shown = vec![Item::alias((0, 70), binary(6, col(0, 60), Expr::Literal(2))), Item::alias((0, 71), col(0, 80))];
+    Plan::Projection(shown, Box::new(aggregate))
+}
+
+/// A plan of exactly n nodes (5 or more): a union of plans of twenty and five nodes, padded with sorts, filters and
+/// limits.
+pub fn sized(n: usize) -> Vec<u8> {
+    let block = |room: usize| if room >= 20 { twenty() } else { five() };
+    let mut plan = block(n);
+    while nodes_in(&plan) + 6 <= n {
+        let room = n - nodes_in(&plan) - 1;
+        plan = Plan::Union(Box::new(plan), Box::new(block(room)));
+    }
+    let mut turn = 0;
+    while nodes_in(&plan) < n {
+        plan = match turn % 3 {
+            0 => Plan::Sort(vec![Key { flags: 0, expr: col(0, 71) }], Box::new(plan)),
+            1 => Plan::Filter(equals(col(0, 70), 8), Box::new(plan)),
+            _ => Plan::Limit(1, 50, Box::new(plan)),
+        };
+        turn += 1;
+    }
+    write(&File { tables: vec![vec![1, 2, 3], vec![4, 5]], plan })
+}
+
+/// `count` random plans of exactly n nodes, scans only, at least one column in each table.
+pub fn random_of(n: usize, count: usize, seed: u64) -> Vec<Vec<u8>> {
+    let mut r = Random::new(seed);
+    let mut out = vec![];
+    while out.len() < count {
+        let tables = tables(&mut r, false);
+        if tables.iter().any(Vec::is_empty) {
+            continue;
+        }
+        let mut maker = Maker { r: &mut r, tables, empties: 0, wide: false };
+        let (plan, _) = maker.plan(9, false);
+        let tables = maker.tables;
+        if nodes_in(&plan) == n && accept(&plan, &tables).is_ok() {
+            out.push(write(&File { tables, plan }));
+        }
+    }
+    out
+}

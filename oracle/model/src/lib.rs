@@ -1,0 +1,19 @@
+//! Document 01 read a second time, in plain Rust: no contract, no proof, no claim to speed. It serves the generator, the
+//! test double and the naming of known differences. It is no evidence about the proved library and no part of it.
+mod accept;
+mod answer;
+mod exprs;
+mod merge;
+mod plan;
+mod read;
+mod read_nodes;
+mod rewrite;
+mod write;
+
+pub use accept::{accept, clash, fields};
+pub use answer::{Answer, answer, answer_stale};
+pub use plan::*;
+pub use read::{Fault, Reader};
+pub use read_nodes::read;
+pub use rewrite::rewrite;
+pub use write::{nodes_in, tags_in, write};

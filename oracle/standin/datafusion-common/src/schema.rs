@@ -1,0 +1,97 @@
+//! Field lists.
+use crate::{Column, DataFusionError, Result, TableReference};
+use arrow::datatypes::{DataType, Field, FieldRef, Fields, Schema};
+use std::collections::BTreeSet;
+use std::sync::Arc;
+
+/// [D2] Document 01: "Every input counts as having no functional dependencies."
+#[derive(Debug, Clone, Default, PartialEq, Eq)]
+pub struct FunctionalDependencies;
+impl FunctionalDependencies {
+    pub fn is_empty(&self) -> bool {
+        true
+    }
+}
+
+#[derive(Debug, Clone, PartialEq, Eq)]
+pub struct DFSchema {
+    inner: Arc<Schema>,
+    field_qualifiers: Vec<Option<TableReference>>,
+    functional_dependencies: FunctionalDependencies,
+}
+pub type DFSchemaRef = Arc<DFSchema>;
+
+impl DFSchema {
+    pub fn empty() -> Self {
+        Self {
+            inner: Arc::new(Schema { fields: vec![] }),
+            field_qualifiers: vec![],
+            functional_dependencies: FunctionalDependencies,
+        }
+    }
+    /// [D3] Refuses document 01's CLASH: two equal pairs, or one name both with and without qualifier.
+    pub fn new_qualified(parts: Vec<(Option<TableReference>, FieldRef)>) -> Result<Self> {
+        let (field_qualifiers, fields): (Vec<_>, Fields) = parts.into_iter().unzip();
+        let s = Self {
+            inner: Arc::new(Schema { fields }),
+            field_qualifiers,
+            functional_dependencies: FunctionalDependencies,
+        };
+        s.check_names()?;
+        Ok(s)
+    }
+    fn check_names(&self) -> Result<()> {
+        let mut with = BTreeSet::new();
+        let mut without = BTreeSet::new();
+        for (q, f) in self.iter() {
+            let fresh = match q {
+                Some(q) => with.insert((q, f.name())),
+                None => without.insert(f.name()),
+            };
+            if !fresh {
+                return Err(DataFusionError::SchemaError(format!("two fields {q:?} {}", f.name())));
+            }
+        }
+        for (_, name) in with {
+            if without.contains(name) {
+                return Err(DataFusionError::SchemaError(format!("ambiguous {name}")));
+            }
+        }
+        Ok(())
+    }
+    pub fn fields(&self) -> &Fields {
+        &self.inner.fields
+    }
+    pub fn iter(&self) -> impl Iterator<Item = (Option<&TableReference>, &FieldRef)> {
+        self.field_qualifiers.iter().map(Option::as_ref).zip(self.inner.fields.iter())
+    }
+    pub fn qualified_field(&self, i: usize) -> (Option<&TableReference>, &FieldRef) {
+        (self.field_qualifiers[i].as_ref(), &self.inner.fields[i])
+    }
+    /// [D4] Document 01: "A column is found by its exact pair."
+    pub fn maybe_index_of_column(&self, col: &Column) -> Option<usize> {
+        self.iter().position(|(q, f)| f.name() == &col.name && q == col.relation.as_ref())
+    }
+    pub fn index_of_column(&self, col: &Column) -> Result<usize> {
+        self.maybe_index_of_column(col).ok_or_else(|| DataFusionError::SchemaError(format!("no field {col}")))
+    }
+    pub fn functional_dependencies(&self) -> &FunctionalDependencies {
+        &self.functional_dependencies
+    }
+}
+impl TryFrom<Arc<Schema>> for DFSchema {
+    type Error = DataFusionError;
+    fn try_from(s: Arc<Schema>) -> Result<Self> {
+        Self::new_qualified(s.fields.iter().map(|f| (None, Arc::clone(f))).collect())
+    }
+}
+
+/// A field of the rig: always a number that may be missing.
+pub fn number_field(name: impl Into<String>) -> FieldRef {
+    Arc::new(Field::new(name, DataType::Int64, true))
+}
+
+/// Never called: under [D2] the texts' own short cut applies.
+pub fn get_required_group_by_exprs_indices(_: &DFSchema, _: &[String]) -> Option<Vec<usize>> {
+    unreachable!("no functional dependencies in the rig")
+}

@@ -1,0 +1,20 @@
+//! Links libpruner.a from the directory SIMMERROOF_LIB, or from ../target/staticlib, where `rt staticlib pruner` puts it.
+use std::env;
+use std::path::PathBuf;
+
+fn main() {
+    println!("cargo:rerun-if-env-changed=SIMMERROOF_LIB");
+    let dir = match env::var("SIMMERROOF_LIB") {
+        Ok(dir) => PathBuf::from(dir),
+        Err(_) => PathBuf::from(env::var("CARGO_MANIFEST_DIR").unwrap()).join("../target/staticlib"),
+    };
+    let archive = dir.join("libpruner.a");
+    assert!(
+        archive.is_file(),
+        "{} is not there: run `rt staticlib pruner`, or set SIMMERROOF_LIB to the directory of libpruner.a",
+        archive.display()
+    );
+    println!("cargo:rerun-if-changed={}", archive.display());
+    println!("cargo:rustc-link-search=native={}", dir.display());
+    println!("cargo:rustc-link-lib=static=pruner");
+}

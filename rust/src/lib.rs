@@ -1,0 +1,173 @@
+//! Column pruning for query plans, by a proved library.
+//!
+//! A plan file and a request go in; a plan file comes out whose scans read only the columns that are needed. In house
+//! mode no row and no value is lost: that is proved of the library. This crate only carries slices across.
+//!
+//! ```
+//! use simmerroof::{Mode, Pruner};
+//!
+//! // Projection[a] over a scan of (a, b, c)
+//! let file = b"CPL\x01\0\x01\x03\x01\0\x02\0\x03\0\x01\x01\0\x01\0\x01\0\x0b\0\x01\0\0";
+//! let mut out = [0; 64];
+//! let written = Pruner::new().prune_all(Mode::House, 0, file, &mut out)?;
+//! // a scan of column 0 alone
+//! assert_eq!(&out[..written], b"CPL\x01\0\x01\x03\x01\0\x02\0\x03\0\x0b\0\x01\0\x01\x01\0");
+//! # Ok::<(), simmerroof::Refusal>(())
+//! ```
+mod abi;
+mod refusal;
+
+pub use refusal::{Kind, Refusal};
+
+/// Which rules decide.
+#[derive(Debug, Clone, Copy, PartialEq, Eq, Hash)]
+pub enum Mode {
+    /// What the Rust crate gives. It folds two equal projections into one, which can change values.
+    Crate = 0,
+    /// Loses no row and no value.
+    House = 1,
+}
+
+fn result(answer: abi::Answer) -> Result<usize, Refusal> {
+    let [code, length, place] = answer;
+    match Kind::from_code(code) {
+        None => {
+            assert!(code == 0, "the library answered code {code}, which its contract rules out");
+            Ok(length as usize)
+        }
+        Some(kind) => Err(Refusal { kind, place: place as usize }),
+    }
+}
+
+/// Narrows the plan for the fields in `request`: indices of the root's fields, strictly increasing. Writes the result to
+/// the front of `out` and returns its length; what lies behind it stays. A refusal changes no byte of `out`.
+///
+/// The library keeps some half a megabyte of working arrays on the stack and clears them in every call. To prune many
+/// plans, or on a small stack, use a [`Pruner`].
+pub fn prune(mode: Mode, mask: u16, file: &[u8], request: &[u16], out: &mut [u8]) -> Result<usize, Refusal> {
+    let mut answer = [0; 3];
+    // SAFETY: pointers and lengths come from slices, so they are valid, aligned and not null; the two that are written
+    // are exclusive borrows and overlap nothing
+    unsafe {
+        abi::simmerroof_prune(
+            mode as u8,
+            mask,
+            file.as_ptr(),
+            file.len(),
+            request.as_ptr(),
+            request.len(),
+            out.as_mut_ptr(),
+            out.len(),
+            &mut answer,
+        );
+    }
+    result(answer)
+}
+
+/// As [`prune`], asking for every field of the root.
+pub fn prune_all(mode: Mode, mask: u16, file: &[u8], out: &mut [u8]) -> Result<usize, Refusal> {
+    let mut answer = [0; 3];
+    // SAFETY: as in `prune`
+    unsafe {
+        abi::simmerroof_prune_all(
+            mode as u8,
+            mask,
+            file.as_ptr(),
+            file.len(),
+            out.as_mut_ptr(),
+            out.len(),
+            &mut answer,
+        );
+    }
+    result(answer)
+}
+
+/// Holds the library's working arrays on the heap, made once and never cleared between calls.
+pub struct Pruner {
+    work: Box<abi::Work>,
+}
+
+impl Default for Pruner {
+    fn default() -> Self {
+        Self::new()
+    }
+}
+
+impl Pruner {
+    pub fn new() -> Self {
+        let words = vec![0u64; abi::WORK_WORDS].into_boxed_slice();
+        Pruner { work: words.try_into().expect("the length is WORK_WORDS") }
+    }
+
+    /// As the function [`prune`].
+    pub fn prune(
+        &mut self,
+        mode: Mode,
+        mask: u16,
+        file: &[u8],
+        request: &[u16],
+        out: &mut [u8],
+    ) -> Result<usize, Refusal> {
+        let mut answer = [0; 3];
+        // SAFETY: as in `prune`; the work area is an exclusive borrow of the size that the library asks for
+        unsafe {
+            abi::simmerroof_prune_in(
+                mode as u8,
+                mask,
+                file.as_ptr(),
+                file.len(),
+                request.as_ptr(),
+                request.len(),
+                out.as_mut_ptr(),
+                out.len(),
+                &mut *self.work,
+                &mut answer,
+            );
+        }
+        result(answer)
+    }
+
+    /// As the function [`prune_all`].
+    pub fn prune_all(&mut self, mode: Mode, mask: u16, file: &[u8], out: &mut [u8]) -> Result<usize, Refusal> {
+        let mut answer = [0; 3];
+        // SAFETY: as in `Pruner::prune`
+        unsafe {
+            abi::simmerroof_prune_all_in(
+                mode as u8,
+                mask,
+                file.as_ptr(),
+                file.len(),
+                out.as_mut_ptr(),
+                out.len(),
+                &mut *self.work,
+                &mut answer,
+            );
+        }
+        result(answer)
+    }
+
+    /// The result as a vector of just its length.
+    pub fn prune_to_vec(
+        &mut self,
+        mode: Mode,
+        mask: u16,
+        file: &[u8],
+        request: Option<&[u16]>,
+    ) -> Result<Vec<u8>, Refusal> {
+        let mut out = vec![0; file.len() + 256];
+        loop {
+            let answer = match request {
+                Some(request) => self.prune(mode, mask, file, request, &mut out),
+                None => self.prune_all(mode, mask, file, &mut out),
+            };
+            match answer {
+                Err(Refusal { kind: Kind::Room, place }) => out.resize(place, 0),
+                Err(refusal) => return Err(refusal),
+                Ok(length) => {
+                    out.truncate(length);
+                    return Ok(out);
+                }
+            }
+        }
+    }
+}
