@@ -1,0 +1,214 @@
+-- The shape of each kind of node is the part of the node that a record keeps, byte for byte. Assumes nothing.
+use mathlib.Core.Path.{_≡_, refl, sym, ap, ap₂, _∙_}
+use mathlib.Core.Bool.{Bool, true, false, cond}
+use mathlib.Core.List.{List, [], _∷_, _++_, append-nil}
+use mathlib.Core.Option.{none, some}
+use Prim.Native.Nat.{ℕ, zero, suc, _+_, _*_, _/_, _%_, _^_, _<_}
+use native.Mathlib.Omega.{arith}
+use borrow.Author.Tests.{eqb-true}
+use lib.Dec.{eqb}
+use lib.ListN.{length}
+use Rattle.cpl.specs.Bytes.{aggBytes, binaryBytes, bytes, columnsBytes, condBytes, countedBytes, fetchNumber, itemBytes, keyBytes, leafBytes, onBytes, pairBytes, unaryBytes, winBytes}
+use Rattle.cpl.specs.Codes.{bit, joinNumber}
+use Rattle.cpl.specs.Exprs.{aggTags, binaryTags, condExprs, exprTags, itemTags, keyTags, onTags, unaryTags, winTags}
+use Rattle.cpl.specs.Limits.{noFetch}
+use Rattle.cpl.specs.Read.{pick}
+use Rattle.cpl.specs.ReadPlan.{fetchOf}
+use Rattle.cpl.specs.Tests.{iota, sumOf}
+use Rattle.rules.specs.Mask.{select}
+use Rattle.arena.specs.Cells.{exprAt}
+use Rattle.arena.specs.Rows.{itemAt, itemsAt, pairAt}
+use Rattle.required_indices.specs.Set.{setMask}
+use Rattle.required_indices.specs.Request.{setOf}
+use Rattle.required_indices.specs.declared.RequiredIndices.{RequiredIndices}
+use Rattle.tree.specs.Node.{joinIs}
+use Rattle.tree.specs.Rows.{aggAt, aggsAt, columnsAt, keyAt, listAt, numberAt, onAt, one, winAt, winSize, winsAt}
+use Rattle.tree.specs.Tree.{Arrays, headOf, if?}
+use Rattle.tree.specs.declared.Node.{Node}
+use Rattle.tree.specs.declared.Node.the-variants.{Projection, Filter, Sort, Limit, Aggregate, Window, SubqueryAlias, Union, Distinct, Join, Scan, Empty}
+use Rattle.result.specs.Result.{unaryPart}
+use Rattle.writer_parts.specs.Lists.{chosenSum, takes}
+use Rattle.writer_parts.specs.declared.Part.the-variants
+use Rattle.writer_parts.proofs.Lists.{all-row-tags, counted-all-rows, counted-set, counted-set-rows, list-length, set-row-tags, set-tags}
+use Rattle.writer.specs.Shapes as Shapes
+use Rattle.writer.specs.Shapes.{keptBytes, keptTags, segBytes, segTags, shapeBytes, shapeOf, shapeTags, which}
+use Rattle.writer.proofs.Segments.{join-small}
+
+pub items-list : (s c : List ℕ) (f n : ℕ) → itemsAt s c f n ≡ listAt (itemAt s c) one f n
+unfolding itemsAt listAt
+items-list s c f zero = refl
+items-list s c f (suc n) = let e : suc f ≡ f + 1 = omega arith in ap (itemAt s c f ∷_) (items-list s c (suc f) n ∙ ap (λ (x : ℕ). listAt (itemAt s c) one x n) e)
+
+pub iota-list : (f n : ℕ) → iota f n ≡ listAt (λ i. i) one f n
+unfolding iota listAt
+iota-list f zero = refl
+iota-list f (suc n) = let e : suc f ≡ f + 1 = omega arith in ap (f ∷_) (iota-list (suc f) n ∙ ap (λ (x : ℕ). listAt (λ i. i) one x n) e)
+
+-- a set is within the list that it takes from
+abbrev pub NodeSet : (width set : ℕ) → Node → Type 0
+NodeSet w s (Projection f n) = Unit {0}
+NodeSet w s (Filter r) = Unit {0}
+NodeSet w s (Sort f n) = Unit {0}
+NodeSet w s (Limit k n) = Unit {0}
+NodeSet w s (Aggregate f g v) = s < 2 ^ v
+NodeSet w s (Window f n) = s < 2 ^ n
+NodeSet w s (SubqueryAlias q) = Unit {0}
+NodeSet w s (Union r) = Unit {0}
+NodeSet w s Distinct = Unit {0}
+NodeSet w s (Join j) = Unit {0}
+NodeSet w s (Scan x) = s < 2 ^ pick (x .given) (x .n) w
+NodeSet w s (Empty b f n) = Unit {0}
+
+-- a scan's qualifier is a 16-bit number
+abbrev pub Numbers : Node → Type 0
+Numbers (Projection f n) = Unit {0}
+Numbers (Filter r) = Unit {0}
+Numbers (Sort f n) = Unit {0}
+Numbers (Limit k n) = Unit {0}
+Numbers (Aggregate f g v) = Unit {0}
+Numbers (Window f n) = Unit {0}
+Numbers (SubqueryAlias q) = Unit {0}
+Numbers (Union r) = Unit {0}
+Numbers Distinct = Unit {0}
+Numbers (Join j) = Unit {0}
+Numbers (Scan x) = x .qualifier < 65536
+Numbers (Empty b f n) = Unit {0}
+
+fetch-number : (n : ℕ) → fetchNumber (fetchOf n) ≡ n
+unfolding fetchNumber fetchOf
+fetch-number n = by (eqb n noFetch) refl
+  where
+    by : (b : Bool) → eqb n noFetch ≡ b → fetchNumber (pick b none (some n)) ≡ n
+    by true e = sym (eqb-true n noFetch e)
+    by false e = refl
+
+-- a number below a tag
+after-tag : (k t x : ℕ) → t < 256 → bytes (suc k) (x * 256 + t) ≡ t ∷ bytes k x
+unfolding bytes
+after-tag k t x h =
+    let a : (x * 256 + t) % 256 ≡ t = omega arith in
+    let b : (x * 256 + t) / 256 ≡ x = omega arith in
+    rw (a, b)
+
+scan-number : (t q : ℕ) → q < 65536 → bytes 5 (4294967296 + q * 65536 + (t % 256) * 256 + 11) ≡ 11 ∷ (bytes 1 t ++ (bytes 2 q ++ (1 ∷ [])))
+unfolding bytes
+scan-number t q h =
+    let y : ℕ = t % 256 in
+    let l : y < 256 = omega arith in
+    let a : (4294967296 + q * 65536 + y * 256 + 11) % 256 ≡ 11 = omega arith in
+    let b : (4294967296 + q * 65536 + y * 256 + 11) / 256 ≡ 16777216 + q * 256 + y = omega arith in
+    let c : (16777216 + q * 256 + y) % 256 ≡ y = omega arith in
+    let d : (16777216 + q * 256 + y) / 256 ≡ 65536 + q = omega arith in
+    let e : (65536 + q) % 256 ≡ q % 256 = omega arith in
+    let f : (65536 + q) / 256 ≡ 256 + q / 256 = omega arith in
+    let g : (256 + q / 256) % 256 ≡ q / 256 % 256 = omega arith in
+    let i : (256 + q / 256) / 256 ≡ 1 = omega arith in
+    rw (a, b, c, d, e, f, g, i)
+
+module _ (a : Arrays) (r : RequiredIndices) where
+  -- the bytes of each kind: what its shape says is what the record keeps
+  module _ (w : ℕ) where
+    scan-columns : (b : Bool) (f n : ℕ) → setOf r < 2 ^ pick b n w →
+        segBytes (Shapes.columnSegment b f n w) (a .rows) (a .cells) r
+        ≡ countedBytes (bytes 1) (select (setMask (length (Shapes.scanColumns w (if? b (columnsAt (a .rows) f n)))) (setOf r)) (Shapes.scanColumns w (if? b (columnsAt (a .rows) f n))))
+    scan-columns true f n h =
+        let l = list-length (numberAt (a .rows)) one f n in
+        sym (ap (λ (x : ℕ). countedBytes (bytes 1) (select (setMask x (setOf r)) (columnsAt (a .rows) f n))) l
+        ∙ counted-set-rows (which false r) (bytes 1) (λ x. 0) (numberAt (a .rows)) f n refl h)
+    scan-columns false f n h =
+        let l = list-length (λ i. i) one 0 w in
+        sym (ap (λ (y : List ℕ). countedBytes (bytes 1) (select (setMask (length y) (setOf r)) y)) (iota-list 0 w)
+        ∙ ap (λ (x : ℕ). countedBytes (bytes 1) (select (setMask x (setOf r)) (listAt (λ i. i) one 0 w))) l
+        ∙ counted-set-rows (which false r) (bytes 1) (λ x. 0) (λ i. i) 0 w refl h)
+
+    cond-bytes : (b : Bool) (x : ℕ) → segBytes (Shapes.condSegment b x) (a .rows) (a .cells) r ≡ condBytes (if? b (exprAt (a .cells) x))
+    unfolding condBytes
+    cond-bytes true x = refl
+    cond-bytes false x = refl
+
+    bit-number : (b : Bool) → bytes 2 (bit b * 256 + 12) ≡ 12 ∷ bit b ∷ []
+    unfolding bytes bit
+    bit-number true = refl
+    bit-number false = refl
+
+    pub shape-bytes : (n : Node) → NodeSet w (setOf r) n → Numbers n → shapeBytes (shapeOf n w) (a .rows) (a .cells) r ≡ keptBytes w (setOf r) (headOf a n)
+    unfolding unaryBytes unaryPart binaryBytes leafBytes columnsBytes bytes
+    shape-bytes (Projection f n) h z =
+        ap (1 ∷_) (append-nil _ ∙ sym (ap (countedBytes itemBytes) (items-list (a .rows) (a .cells) f n) ∙ counted-all-rows (which true r) itemBytes itemTags (itemAt (a .rows) (a .cells)) f n refl))
+    shape-bytes (Filter x) h z = ap (2 ∷_) (append-nil _)
+    shape-bytes (Sort f n) h z = ap (3 ∷_) (append-nil _ ∙ sym (counted-all-rows (which true r) keyBytes keyTags (keyAt (a .rows) (a .cells)) f n refl))
+    shape-bytes (Limit s n) h z = ap₂ _++_ (after-tag 4 4 s (omega arith)) (append-nil _ ∙ ap (bytes 4) (sym (fetch-number n)))
+    shape-bytes (Aggregate f g v) h z =
+        let l = list-length (aggAt (a .rows) (a .cells)) one (f + g) v in
+        ap (5 ∷_)
+        (ap₂ _++_
+        (sym (ap (countedBytes itemBytes) (items-list (a .rows) (a .cells) f g) ∙ counted-all-rows (which true r) itemBytes itemTags (itemAt (a .rows) (a .cells)) f g refl))
+        (sym (ap (λ (x : ℕ). countedBytes aggBytes (select (setMask x (setOf r)) (aggsAt (a .rows) (a .cells) (f + g) v))) l
+        ∙ counted-set-rows (which false r) aggBytes aggTags (aggAt (a .rows) (a .cells)) (f + g) v refl h)))
+    shape-bytes (Window f n) h z =
+        let l = list-length (winAt (a .rows) (a .cells)) (winSize (a .rows)) f n in
+        ap (6 ∷_)
+        (append-nil _
+        ∙ sym (ap (λ (x : ℕ). countedBytes winBytes (select (setMask x (setOf r)) (winsAt (a .rows) (a .cells) f n))) l
+        ∙ counted-set (which false r) winBytes winTags (winAt (a .rows) (a .cells)) (winSize (a .rows)) f n refl h))
+    shape-bytes (SubqueryAlias q) h z = append-nil _ ∙ after-tag 2 7 q (omega arith)
+    shape-bytes (Union x) h z = refl
+    shape-bytes Distinct h z = refl
+    shape-bytes (Join j) h z =
+        let t : ℕ = joinNumber (joinIs (j .«join_type»)) in
+        let e : t % 256 ≡ t = omega (arith, join-small (j .«join_type»)) in
+        ap₂ _++_ (after-tag 1 10 t (omega arith) ∙ ap (λ (x : ℕ). 10 ∷ x ∷ []) e)
+        (ap₂ _++_ (sym (counted-all-rows (which true r) onBytes onTags (onAt (a .rows) (a .cells)) (j .first) (j .n) refl)) (cond-bytes (j .«has_filter») (j .filter)))
+    shape-bytes (Scan s) h z = ap₂ _++_ (scan-number (s .table) (s .qualifier) z) (append-nil _ ∙ scan-columns (s .given) (s .first) (s .n) h)
+    shape-bytes (Empty b f n) h z =
+        ap₂ _++_ (bit-number b) (append-nil _ ∙ sym (counted-all-rows (which true r) pairBytes (λ c. 0) (pairAt (a .rows)) f n refl))
+
+-- nothing is summed of things without tags
+sum-zero : (t : ℕ → Bool) (i n : ℕ) → chosenSum (λ j. 0) t i n ≡ 0
+unfolding chosenSum
+sum-zero t i zero = refl
+sum-zero t i (suc n) = by (t i) (sum-zero t (suc i) n)
+  where
+    by : (b : Bool) {x : ℕ} → x ≡ 0 → cond b 0 0 + x ≡ 0
+    by true e = omega arith
+    by false e = omega arith
+
+-- the tags likewise
+module _ (a : Arrays) (r : RequiredIndices) (w : ℕ) where
+  none-after : (x : ℕ) → x + 0 ≡ x
+  none-after x = omega arith
+
+  cond-tags : (b : Bool) (x : ℕ) → segTags (Shapes.condSegment b x) (a .rows) (a .cells) r ≡ sumOf exprTags (condExprs (if? b (exprAt (a .cells) x)))
+  unfolding condExprs sumOf
+  cond-tags true x = omega arith
+  cond-tags false x = refl
+
+  column-tags : (b : Bool) (f n : ℕ) → segTags (Shapes.columnSegment b f n w) (a .rows) (a .cells) r ≡ 0
+  column-tags true f n = sum-zero (takes (which false r)) 0 n
+  column-tags false f n = sum-zero (takes (which false r)) 0 w
+
+  pub shape-tags : (n : Node) → shapeTags (shapeOf n w) (a .rows) (a .cells) r ≡ keptTags w (setOf r) (headOf a n)
+  unfolding unaryTags unaryPart binaryTags
+  shape-tags (Projection f n) =
+      none-after _ ∙ sym (ap (sumOf itemTags) (items-list (a .rows) (a .cells) f n) ∙ all-row-tags (which true r) itemBytes itemTags (itemAt (a .rows) (a .cells)) f n refl)
+  shape-tags (Filter x) = none-after _
+  shape-tags (Sort f n) = none-after _ ∙ sym (all-row-tags (which true r) keyBytes keyTags (keyAt (a .rows) (a .cells)) f n refl)
+  shape-tags (Limit s n) = refl
+  shape-tags (Aggregate f g v) =
+      let l = list-length (aggAt (a .rows) (a .cells)) one (f + g) v in
+      ap₂ _+_
+      (sym (ap (sumOf itemTags) (items-list (a .rows) (a .cells) f g) ∙ all-row-tags (which true r) itemBytes itemTags (itemAt (a .rows) (a .cells)) f g refl))
+      (sym (ap (λ (x : ℕ). sumOf aggTags (select (setMask x (setOf r)) (aggsAt (a .rows) (a .cells) (f + g) v))) l
+      ∙ set-row-tags (which false r) aggBytes aggTags (aggAt (a .rows) (a .cells)) (f + g) v refl))
+  shape-tags (Window f n) =
+      let l = list-length (winAt (a .rows) (a .cells)) (winSize (a .rows)) f n in
+      none-after _
+      ∙ sym (ap (λ (x : ℕ). sumOf winTags (select (setMask x (setOf r)) (winsAt (a .rows) (a .cells) f n))) l
+      ∙ set-tags (which false r) winBytes winTags (winAt (a .rows) (a .cells)) (winSize (a .rows)) f n refl)
+  shape-tags (SubqueryAlias q) = refl
+  shape-tags (Union x) = refl
+  shape-tags Distinct = refl
+  shape-tags (Join j) =
+      ap₂ _+_ (sym (all-row-tags (which true r) onBytes onTags (onAt (a .rows) (a .cells)) (j .first) (j .n) refl)) (cond-tags (j .«has_filter») (j .filter))
+  shape-tags (Scan s) = none-after _ ∙ column-tags (s .given) (s .first) (s .n)
+  shape-tags (Empty b f n) = none-after _ ∙ sum-zero (takes (which true r)) 0 n

@@ -1,0 +1,28 @@
+-- `writer::empty_shape` meets its contract. Assumes nothing.
+use borrow.Author.Needs.{needs}
+use Rattle.cpl.specs.Codes.{bit}
+use Rattle.writer.proofs.empty_shape.Statement.{statement}
+use Rattle.writer.proofs.empty_shape.Tie as tie
+
+plain-requires : tie.Need-plain-requires
+plain-requires c κs = search needs
+
+returns : tie.Need-returns
+unfolding bit
+returns c =
+    let if1 = c .before .if1 in
+    let plain = c .plain in
+    rw (if1 .taken) (plain .ensures)
+
+plain-requires-2 : tie.Need-plain-requires-2
+plain-requires-2 c κs = search needs
+
+returns-2 : tie.Need-returns-2
+unfolding bit
+returns-2 c =
+    let if1 = c .before .if1 in
+    let plain2 = c .plain2 in
+    rw (if1 .left) (plain2 .ensures)
+
+pub empty-shape-spec : {M : Type 1} → statement M
+empty-shape-spec = tie.close (tie.spec plain-requires returns plain-requires-2 returns-2)

@@ -1,0 +1,118 @@
+-- `writer::segment_size` meets its contract. Assumes nothing.
+use borrow.Author.Needs.{needs}
+use native.Mathlib.Omega.{arith}
+use mathlib.Core.Path.{refl, sym}
+use Rattle.writer_parts.proofs.Over.{length-bytes}
+use Rattle.writer.proofs.segment_size.Statement.{statement}
+use Rattle.writer.proofs.segment_size.Tie as tie
+
+enum-told : tie.Need-enum-told
+enum-told c = search needs
+
+enum-known-segment : tie.Need-enum-known-segment
+enum-known-segment c = search needs
+
+counted-size-requires : tie.Need-counted-size-requires
+counted-size-requires c κs =
+    let segment = c .before .segment in
+    let pre = c .before .before .before .before .before .pre in
+    let p = rw (segment .given .1) at (pre .0) in
+    let q = rw (segment .given .1) at (pre .1) in
+    (p .0, q)
+
+enum-known-segment-2 : tie.Need-enum-known-segment-2
+enum-known-segment-2 c = search needs
+
+wins-size-requires : tie.Need-wins-size-requires
+wins-size-requires c κs =
+    let segment2 = c .before .segment2 in
+    let pre = c .before .before .before .before .before .pre in
+    let p = rw (segment2 .given .1) at (pre .0) in
+    let q = rw (segment2 .given .1) at (pre .1) in
+    (p .0, omega (arith, q))
+
+both-requires : tie.Need-both-requires
+both-requires c κs =
+    let segment2 = c .before .before .segment2 in
+    let pre = c .before .before .before .before .before .before .pre in
+    let wins-size = c .wins-size in
+    let p = rw (segment2 .given .1) at (pre .0) in
+    let q = rw (segment2 .given .1) at (pre .1) in
+    omega (arith, q, wins-size .ensures)
+
+enum-known-segment-3 : tie.Need-enum-known-segment-3
+enum-known-segment-3 c = search needs
+
+expr-size-requires : tie.Need-expr-size-requires
+expr-size-requires c κs =
+    let segment3 = c .before .segment3 in
+    let pre = c .before .before .before .before .before .pre in
+    let p = rw (segment3 .given .1) at (pre .0) in
+    let q = rw (segment3 .given .1) at (pre .1) in
+    (p, q)
+
+enum-known-segment-4 : tie.Need-enum-known-segment-4
+enum-known-segment-4 c = search needs
+
+expr-size-requires-2 : tie.Need-expr-size-requires-2
+expr-size-requires-2 c κs =
+    let segment4 = c .before .segment4 in
+    let pre = c .before .before .before .before .before .pre in
+    let p = rw (segment4 .given .1) at (pre .0) in
+    let q = rw (segment4 .given .1) at (pre .1) in
+    (p, omega (arith, q))
+
+both-requires-2 : tie.Need-both-requires-2
+both-requires-2 c κs =
+    let segment4 = c .before .before .segment4 in
+    let pre = c .before .before .before .before .before .before .pre in
+    let expr-size2 = c .expr-size2 in
+    let p = rw (segment4 .given .1) at (pre .0) in
+    let q = rw (segment4 .given .1) at (pre .1) in
+    omega (arith, q, expr-size2 .ensures)
+
+enum-told-2 : tie.Need-enum-told-2
+enum-told-2 c = search needs
+
+enum-told-3 : tie.Need-enum-told-3
+enum-told-3 c = search needs
+
+returns : tie.Need-returns
+returns c = search needs
+
+returns-2 : tie.Need-returns-2
+returns-2 c =
+    let segment = c .before .before .segment in
+    let counted-size = c .counted-size in
+    rw (segment .given .1) (counted-size .ensures)
+
+returns-3 : tie.Need-returns-3
+returns-3 c =
+    let segment2 = c .before .before .before .segment2 in
+    let both = c .both in
+    let wins-size = c .before .wins-size in
+    rw (segment2 .given .1) (omega (arith, both .ensures, wins-size .ensures))
+
+returns-4 : tie.Need-returns-4
+returns-4 c =
+    let segment3 = c .before .before .segment3 in
+    let expr-size = c .expr-size in
+    rw (segment3 .given .1) (expr-size .ensures)
+
+returns-5 : tie.Need-returns-5
+returns-5 c =
+    let segment4 = c .before .before .before .segment4 in
+    let both2 = c .both2 in
+    let expr-size2 = c .before .expr-size2 in
+    rw (segment4 .given .1) (omega (arith, both2 .ensures, expr-size2 .ensures))
+
+returns-6 : tie.Need-returns-6
+returns-6 c = search needs
+
+returns-7 : tie.Need-returns-7
+returns-7 c =
+    let enum-told3 = c .enum-told3 in
+    rw (enum-told3 .given .1) (record { bytes-are = sym (length-bytes 4 _); tags-are = refl })
+
+pub segment-size-spec : {M : Type 1} → statement M
+segment-size-spec = tie.close (tie.spec enum-told enum-known-segment counted-size-requires enum-known-segment-2 wins-size-requires both-requires enum-known-segment-3 expr-size-requires enum-known-segment-4 expr-size-requires-2 both-requires-2 enum-told-2 enum-told-3 returns returns-2 returns-3 returns-4 returns-5 returns-6 returns-7)

@@ -1,0 +1,314 @@
+//! writer: the rewritten plan, counted and then written. A node's head is written first; each input is lent the rest of the buffer.
+use required_indices::RequiredIndices;
+use tree::JoinNode;
+use tree::JoinType;
+use tree::Node;
+use tree::ScanNode;
+use writer_parts::Part;
+use writer_parts::Size;
+use writer_parts::Which;
+ghost use mathlib.Core.Bool.{true};
+ghost use mathlib.Core.Path.{_≡_};
+ghost use Prim.Native.Nat.{_+_, _^_, _<_, _≤_};
+ghost use lib.ListN.{length};
+ghost use Rattle.cpl.specs.Codes.{joinNumber};
+ghost use Rattle.tree.specs.Node.{joinIs};
+ghost use Rattle.writer_parts.specs.Wrote.{Countable, Counts, Wrote};
+ghost use Rattle.writer.specs.Shapes.{emptyShape, headShape, joinShape, scanShape, segBytes, SegOk, segTags, shapeBytes, shapeOf, ShapeOk, shapeTags, Sums};
+
+/// A part of a node's head that is no number of a known width: a list with its count byte, all of it or at the set; windows at the set;
+/// an expression; a condition that is there, or not; a number of four bytes.
+pub enum Segment {
+    Nothing,
+    List {
+        part: Part,
+        first: usize,
+        n: usize,
+        all: bool,
+    },
+    Wins {
+        first: usize,
+        n: usize,
+    },
+    Expr(usize),
+    Present(usize),
+    Absent,
+    Word(u64),
+}
+
+/// A node's head: the k lowest bytes of x, and two segments.
+pub struct Shape {
+    pub k: usize,
+    pub x: u64,
+    pub first: Segment,
+    pub second: Segment,
+}
+
+fn join_number(t: JoinType) -> u64
+    ensures { λ r. ⌜ r ≡ joinNumber (joinIs t) ⌝ }
+{
+    match t {
+        JoinType::Inner => 0,
+        JoinType::Left => 1,
+        JoinType::Right => 2,
+        JoinType::Full => 3,
+        JoinType::LeftSemi => 4,
+        JoinType::LeftAnti => 5,
+        JoinType::RightSemi => 6,
+        JoinType::RightAnti => 7,
+    }
+}
+
+fn wide(x: u32) -> u64
+    ensures { λ r. ⌜ r ≡ x ⌝ }
+{
+    x as u64
+}
+
+fn wide16(x: u16) -> u64
+    ensures { λ r. ⌜ r ≡ x ⌝ }
+{
+    x as u64
+}
+
+// A head that is a tag alone, or a tag and a number: k bytes.
+fn plain(k: usize, x: u64, first: Segment) -> Shape
+    ensures { λ r. ⌜ r ≡ headShape k x first Segment.Nothing ⌝ }
+{
+    Shape {
+        k,
+        x,
+        first,
+        second: Segment::Nothing,
+    }
+}
+
+// A Join: its type, its pairs, its condition.
+fn join_shape(j: JoinNode) -> Shape
+    ensures { λ r. ⌜ r ≡ joinShape j ⌝ }
+{
+    let first = Segment::List {
+        part: Part::On,
+        first: j.first,
+        n: j.n,
+        all: true,
+    };
+    let kind = j.join_type;
+    let x = join_number(kind) * 256 + 10;
+    if j.has_filter {
+        return Shape {
+            k: 2,
+            x,
+            first,
+            second: Segment::Present(j.filter),
+        };
+    }
+    Shape {
+        k: 2,
+        x,
+        first,
+        second: Segment::Absent,
+    }
+}
+
+// A Scan: its table, its qualifier, those of its columns that the set has.
+fn scan_shape(s: ScanNode, width: usize) -> Shape
+    ensures { λ r. ⌜ r ≡ scanShape s width ⌝ }
+{
+    let x = 4294967296 + wide16(s.qualifier) * 65536 + ((s.table % 256) as u64) * 256 + 11;
+    if s.given {
+        return plain(
+            5,
+            x,
+            Segment::List {
+                part: Part::Column,
+                first: s.first,
+                n: s.n,
+                all: false,
+            },
+        );
+    }
+    plain(
+        5,
+        x,
+        Segment::List {
+            part: Part::Index,
+            first: 0,
+            n: width,
+            all: false,
+        },
+    )
+}
+
+// An Empty: whether it has a row, its fields.
+fn empty_shape(one_row: bool, first: usize, n: usize) -> Shape
+    ensures { λ r. ⌜ r ≡ emptyShape «one_row» first n ⌝ }
+{
+    let list = Segment::List {
+        part: Part::Pair,
+        first,
+        n,
+        all: true,
+    };
+    if one_row {
+        return plain(2, 268, list);
+    }
+    plain(2, 12, list)
+}
+
+/// A node's head, of which the set's part of its list is kept. A scan that names no columns has `width` of them. Kinds are told apart here
+/// and nowhere else.
+pub fn shape_of(node: Node, width: usize) -> Shape
+    requires { ⌜ Sums node ⌝ }
+    ensures { λ r. ⌜ r ≡ shapeOf node width ⌝ }
+{
+    match node {
+        Node::Projection { first, n } => plain(1, 1, all_of(Part::Item, first, n)),
+        Node::Filter { root } => plain(1, 2, Segment::Expr(root)),
+        Node::Sort { first, n } => plain(1, 3, all_of(Part::Key, first, n)),
+        Node::Limit { skip, fetch } => plain(5, wide(skip) * 256 + 4, Segment::Word(wide(fetch))),
+        Node::Aggregate {
+            first,
+            groups,
+            aggregates,
+        } => Shape {
+            k: 1,
+            x: 5,
+            first: all_of(Part::Item, first, groups),
+            second: Segment::List {
+                part: Part::Agg,
+                first: first + groups,
+                n: aggregates,
+                all: false,
+            },
+        },
+        Node::Window { first, n } => plain(1, 6, Segment::Wins { first, n }),
+        Node::SubqueryAlias { qualifier } => {
+            plain(3, wide16(qualifier) * 256 + 7, Segment::Nothing)
+        }
+        Node::Union { right: _ } => plain(1, 8, Segment::Nothing),
+        Node::Distinct => plain(1, 9, Segment::Nothing),
+        Node::Join(j) => join_shape(j),
+        Node::Scan(s) => scan_shape(s, width),
+        Node::Empty { one_row, first, n } => empty_shape(one_row, first, n),
+    }
+}
+
+// All rows of a list.
+fn all_of(part: Part, first: usize, n: usize) -> Segment
+    ensures { λ r. ⌜ r ≡ Segment.List part first n true ⌝ }
+{
+    Segment::List {
+        part,
+        first,
+        n,
+        all: true,
+    }
+}
+
+/// A segment of a head.
+pub fn write_segment(
+    segment: Segment,
+    rows: &[u16],
+    cells: &[u64],
+    set: RequiredIndices,
+    out: &mut [u8],
+) -> usize
+    requires { ⌜ SegOk segment (now rows) (now cells) set ⌝ }
+    requires { ⌜ length (segBytes segment (now rows) (now cells) set) ≤ length (now out) ⌝ }
+    ensures { λ r. ⌜ Wrote (segBytes segment (now (rows .entry)) (now (cells .entry)) set) (now (out .entry)) r (now (out .exit)) ⌝ }
+{
+    match segment {
+        Segment::Nothing => 0,
+        Segment::List {
+            part,
+            first,
+            n,
+            all,
+        } => writer_parts::write_counted(part, rows, cells, first, n, Which { all, set }, out),
+        Segment::Wins { first, n } => {
+            let a = writer_parts::put_at(out, 0, 1, set.len() as u64);
+            let m = writer_parts::write_wins(
+                rows,
+                cells,
+                first,
+                n,
+                Which { all: false, set },
+                &mut out[a..],
+            );
+            a + m
+        }
+        Segment::Expr(root) => writer_parts::write_expr(cells, root, out),
+        Segment::Present(root) => {
+            let a = writer_parts::put_at(out, 0, 1, 1);
+            let m = writer_parts::write_expr(cells, root, &mut out[a..]);
+            a + m
+        }
+        Segment::Absent => writer_parts::put_at(out, 0, 1, 0),
+        Segment::Word(x) => writer_parts::put_at(out, 0, 4, x),
+    }
+}
+
+pub fn segment_size(segment: Segment, rows: &[u16], cells: &[u64], set: RequiredIndices) -> Size
+    requires { ⌜ SegOk segment (now rows) (now cells) set ⌝ }
+    requires { ⌜ Countable (length (segBytes segment (now rows) (now cells) set)) (segTags segment (now rows) (now cells) set) ⌝ }
+    ensures { λ r. ⌜ Counts (length (segBytes segment (now (rows .entry)) (now (cells .entry)) set)) (segTags segment (now (rows .entry)) (now (cells .entry)) set) r ⌝ }
+{
+    let one = Size { bytes: 1, tags: 0 };
+    match segment {
+        Segment::Nothing => Size { bytes: 0, tags: 0 },
+        Segment::List {
+            part,
+            first,
+            n,
+            all,
+        } => writer_parts::counted_size(part, rows, cells, first, n, Which { all, set }),
+        Segment::Wins { first, n } => writer_parts::both(
+            one,
+            writer_parts::wins_size(rows, cells, first, n, Which { all: false, set }),
+        ),
+        Segment::Expr(root) => writer_parts::expr_size(cells, root),
+        Segment::Present(root) => writer_parts::both(one, writer_parts::expr_size(cells, root)),
+        Segment::Absent => one,
+        Segment::Word(_) => Size { bytes: 4, tags: 0 },
+    }
+}
+
+/// A head: its number, its two segments.
+pub fn write_shape(
+    shape: Shape,
+    rows: &[u16],
+    cells: &[u64],
+    set: RequiredIndices,
+    out: &mut [u8],
+) -> usize
+    requires { ⌜ ShapeOk shape (now rows) (now cells) set ⌝ }
+    requires { ⌜ length (shapeBytes shape (now rows) (now cells) set) ≤ length (now out) ⌝ }
+    ensures { λ r. ⌜ Wrote (shapeBytes shape (now (rows .entry)) (now (cells .entry)) set) (now (out .entry)) r (now (out .exit)) ⌝ }
+{
+    let first = shape.first;
+    let second = shape.second;
+    let a = writer_parts::put_at(out, 0, shape.k, shape.x);
+    let m = write_segment(first, rows, cells, set, &mut out[a..]);
+    let b = a + m;
+    let n = write_segment(second, rows, cells, set, &mut out[b..]);
+    b + n
+}
+
+pub fn shape_size(shape: Shape, rows: &[u16], cells: &[u64], set: RequiredIndices) -> Size
+    requires { ⌜ ShapeOk shape (now rows) (now cells) set ⌝ }
+    requires { ⌜ Countable (length (shapeBytes shape (now rows) (now cells) set)) (shapeTags shape (now rows) (now cells) set) ⌝ }
+    ensures { λ r. ⌜ Counts (length (shapeBytes shape (now (rows .entry)) (now (cells .entry)) set)) (shapeTags shape (now (rows .entry)) (now (cells .entry)) set) r ⌝ }
+{
+    let first = shape.first;
+    let second = shape.second;
+    let a = segment_size(first, rows, cells, set);
+    let b = segment_size(second, rows, cells, set);
+    writer_parts::both(
+        Size {
+            bytes: shape.k,
+            tags: 0,
+        },
+        writer_parts::both(a, b),
+    )
+}

@@ -1,0 +1,542 @@
+//! Writing the parts of a node: each writer fills the start of the buffer that it is lent, and lends the rest on. What is written is
+//! counted first, its bytes and its expression tags.
+use arena::View;
+use required_indices::RequiredIndices;
+ghost use mathlib.Core.Bool.{cond, true};
+ghost use mathlib.Core.List.{[], _∷_};
+ghost use mathlib.Core.Path.{_≡_};
+ghost use Prim.Native.Nat.{_+_, _^_, _<_, _≤_};
+ghost use lib.ListN.{length};
+ghost use Rattle.cpl.specs.Bytes.{aggBytes, bytes, callBytes, exprBytes, itemBytes, keyBytes, onBytes, pairBytes, winBytes};
+ghost use Rattle.cpl.specs.Exprs.{aggTags, callExprs, exprTags, itemTags, keyTags, onTags, winTags};
+ghost use Rattle.cpl.specs.Plan.{pair};
+ghost use Rattle.cpl.specs.Tests.{sumOf};
+ghost use Rattle.arena.specs.Cells.{exprAt, Wf};
+ghost use Rattle.arena.specs.Rows.{itemAt, RowOk};
+ghost use Rattle.tree.specs.Rows.{aggAt, AggOk, callOf, keyAt, KeyOk, onAt, OnOk, winAt};
+ghost use Rattle.writer_parts.specs.Wrote.{Countable, Counts, Laid, Wrote};
+ghost use Rattle.writer_parts.specs.Parts.{partBytes, PartOk, partTags};
+ghost use Rattle.writer_parts.specs.Lists.{countedList, listBytes, listTags, PartsOk, takenCount, takes, WinFits, winsBytes, WinsOk, winsTags};
+
+/// How many bytes, and how many expression tags.
+pub struct Size {
+    pub bytes: usize,
+    pub tags: usize,
+}
+
+/// What a row holds: a row of four numbers, or a field, or only its own number.
+pub enum Part {
+    Item,
+    Key,
+    Agg,
+    Expr,
+    On,
+    Pair,
+    Column,
+    Index,
+    Field,
+}
+
+/// Which things of a list are taken: all, or those of a set.
+pub struct Which {
+    pub all: bool,
+    pub set: RequiredIndices,
+}
+
+// Two sizes together.
+pub fn both(a: Size, b: Size) -> Size
+    requires { ⌜ (a .bytes + b .bytes < 2 ^ 64) × (a .tags + b .tags < 2 ^ 64) ⌝ }
+    ensures { λ r. ⌜ Counts (a .bytes + b .bytes) (a .tags + b .tags) r ⌝ }
+{
+    Size {
+        bytes: a.bytes + b.bytes,
+        tags: a.tags + b.tags,
+    }
+}
+
+fn wide(x: u16) -> u64
+    ensures { λ r. ⌜ r ≡ x ⌝ }
+{
+    x as u64
+}
+
+/// The k lowest bytes of x, the lowest first, at the start of out.
+pub fn put(out: &mut [u8], k: usize, x: u64)
+    requires { ⌜ k ≤ length (now out) ⌝ }
+    ensures { λ _. ⌜ Wrote (bytes k x) (now (out .entry)) k (now (out .exit)) ⌝ }
+{
+    if k > 0 {
+        out[0] = (x % 256) as u8;
+        put(&mut out[1..], k - 1, x / 256);
+    }
+}
+
+/// The k lowest bytes of x from `at` on; the place after them.
+pub fn put_at(out: &mut [u8], at: usize, k: usize, x: u64) -> usize
+    requires { ⌜ at + k ≤ length (now out) ⌝ }
+    ensures { λ r. ⌜ Laid at (bytes k x) k (now (out .entry)) r (now (out .exit)) ⌝ }
+{
+    put(&mut out[at..], k, x);
+    at + k
+}
+
+/// The bytes of a pair from `at` on; the place after them.
+pub fn put_pair(out: &mut [u8], at: usize, q: u16, n: u16) -> usize
+    requires { ⌜ at + 4 ≤ length (now out) ⌝ }
+    ensures { λ r. ⌜ Laid at (pairBytes (pair q n)) 4 (now (out .entry)) r (now (out .exit)) ⌝ }
+{
+    put_at(out, at, 4, wide(q) + wide(n) * 65536)
+}
+
+/// The bytes of the expression of node i at the start of out, in prefix order; their number.
+pub fn write_expr(cells: &[u64], i: usize, out: &mut [u8]) -> usize
+    requires { ⌜ Wf (now cells) (i + 1) ⌝ }
+    requires { ⌜ length (exprBytes (exprAt (now cells) i)) ≤ length (now out) ⌝ }
+    ensures { λ r. ⌜ Wrote (exprBytes (exprAt (now (cells .entry)) i)) (now (out .entry)) r (now (out .exit)) ⌝ }
+{
+    let v = arena::node_at(cells, i);
+    match v {
+        View::Col(q, n) => {
+            let a = put_at(out, 0, 1, 0);
+            put_pair(out, a, q, n)
+        }
+        View::Lit(x) => {
+            let a = put_at(out, 0, 1, 1);
+            put_at(out, a, 8, x)
+        }
+        View::Miss => put_at(out, 0, 1, 2),
+        View::One(t, x) => {
+            let a = put_at(out, 0, 1, t);
+            let n = write_expr(cells, x, &mut out[a..]);
+            a + n
+        }
+        View::Two(t, x, y) => {
+            let a = put_at(out, 0, 1, t);
+            let m = write_expr(cells, x, &mut out[a..]);
+            let b = a + m;
+            let n = write_expr(cells, y, &mut out[b..]);
+            b + n
+        }
+    }
+}
+
+/// What the expression of node i takes.
+pub fn expr_size(cells: &[u64], i: usize) -> Size
+    requires { ⌜ Wf (now cells) (i + 1) ⌝ }
+    requires { ⌜ Countable (length (exprBytes (exprAt (now cells) i))) (exprTags (exprAt (now cells) i)) ⌝ }
+    ensures { λ r. ⌜ Counts (length (exprBytes (exprAt (now (cells .entry)) i))) (exprTags (exprAt (now (cells .entry)) i)) r ⌝ }
+{
+    let v = arena::node_at(cells, i);
+    match v {
+        View::Col(_, _) => Size { bytes: 5, tags: 1 },
+        View::Lit(_) => Size { bytes: 9, tags: 1 },
+        View::Miss => Size { bytes: 1, tags: 1 },
+        View::One(_, x) => both(Size { bytes: 1, tags: 1 }, expr_size(cells, x)),
+        View::Two(_, x, y) => {
+            let a = expr_size(cells, x);
+            let b = both(a, expr_size(cells, y));
+            both(Size { bytes: 1, tags: 1 }, b)
+        }
+    }
+}
+
+/// An item: a bare column, or a pair with its expression.
+pub fn write_item(rows: &[u16], cells: &[u64], i: usize, out: &mut [u8]) -> usize
+    requires { ⌜ RowOk (now rows) (now cells) i ⌝ }
+    requires { ⌜ length (itemBytes (itemAt (now rows) (now cells) i)) ≤ length (now out) ⌝ }
+    ensures { λ r. ⌜ Wrote (itemBytes (itemAt (now (rows .entry)) (now (cells .entry)) i)) (now (out .entry)) r (now (out .exit)) ⌝ }
+{
+    let row = arena::row_at(rows, i);
+    if row.mark == 0 {
+        let a = put_at(out, 0, 1, 0);
+        return put_pair(out, a, row.qualifier, row.name);
+    }
+    let a = put_at(out, 0, 1, 12);
+    let b = put_pair(out, a, row.qualifier, row.name);
+    let m = write_expr(cells, row.root, &mut out[b..]);
+    b + m
+}
+
+pub fn item_size(rows: &[u16], cells: &[u64], i: usize) -> Size
+    requires { ⌜ RowOk (now rows) (now cells) i ⌝ }
+    requires { ⌜ Countable (length (itemBytes (itemAt (now rows) (now cells) i))) (itemTags (itemAt (now rows) (now cells) i)) ⌝ }
+    ensures { λ r. ⌜ Counts (length (itemBytes (itemAt (now (rows .entry)) (now (cells .entry)) i))) (itemTags (itemAt (now (rows .entry)) (now (cells .entry)) i)) r ⌝ }
+{
+    let row = arena::row_at(rows, i);
+    if row.mark == 0 {
+        return Size { bytes: 5, tags: 1 };
+    }
+    both(Size { bytes: 5, tags: 1 }, expr_size(cells, row.root))
+}
+
+/// A key: its flags, its expression.
+pub fn write_key(rows: &[u16], cells: &[u64], i: usize, out: &mut [u8]) -> usize
+    requires { ⌜ KeyOk (now rows) (now cells) i ⌝ }
+    requires { ⌜ length (keyBytes (keyAt (now rows) (now cells) i)) ≤ length (now out) ⌝ }
+    ensures { λ r. ⌜ Wrote (keyBytes (keyAt (now (rows .entry)) (now (cells .entry)) i)) (now (out .entry)) r (now (out .exit)) ⌝ }
+{
+    let row = tree::key_at(rows, i);
+    let a = put_at(out, 0, 1, wide(row.flags));
+    let m = write_expr(cells, row.root, &mut out[a..]);
+    a + m
+}
+
+pub fn key_size(rows: &[u16], cells: &[u64], i: usize) -> Size
+    requires { ⌜ KeyOk (now rows) (now cells) i ⌝ }
+    requires { ⌜ Countable (length (keyBytes (keyAt (now rows) (now cells) i))) (keyTags (keyAt (now rows) (now cells) i)) ⌝ }
+    ensures { λ r. ⌜ Counts (length (keyBytes (keyAt (now (rows .entry)) (now (cells .entry)) i))) (keyTags (keyAt (now (rows .entry)) (now (cells .entry)) i)) r ⌝ }
+{
+    let row = tree::key_at(rows, i);
+    both(Size { bytes: 1, tags: 0 }, expr_size(cells, row.root))
+}
+
+/// What stands at the end of a function's entry: its expression, where its number is not 0.
+pub fn write_call(cells: &[u64], f: u16, root: usize, out: &mut [u8]) -> usize
+    requires { ⌜ (0 < f → Wf (now cells) (root + 1)) ⌝ }
+    requires { ⌜ length (callBytes (callOf f (exprAt (now cells) root))) ≤ length (now out) ⌝ }
+    ensures { λ r. ⌜ Wrote (callBytes (callOf f (exprAt (now (cells .entry)) root))) (now (out .entry)) r (now (out .exit)) ⌝ }
+{
+    if f == 0 {
+        return 0;
+    }
+    write_expr(cells, root, out)
+}
+
+pub fn call_size(cells: &[u64], f: u16, root: usize) -> Size
+    requires { ⌜ (0 < f → Wf (now cells) (root + 1)) ⌝ }
+    requires { ⌜ Countable (length (callBytes (callOf f (exprAt (now cells) root)))) (sumOf exprTags (callExprs (callOf f (exprAt (now cells) root)))) ⌝ }
+    ensures { λ r. ⌜ Counts (length (callBytes (callOf f (exprAt (now (cells .entry)) root)))) (sumOf exprTags (callExprs (callOf f (exprAt (now (cells .entry)) root)))) r ⌝ }
+{
+    if f == 0 {
+        return Size { bytes: 0, tags: 0 };
+    }
+    expr_size(cells, root)
+}
+
+/// An aggregate: its pair, its function's number, its expression.
+pub fn write_agg(rows: &[u16], cells: &[u64], i: usize, out: &mut [u8]) -> usize
+    requires { ⌜ AggOk (now rows) (now cells) i ⌝ }
+    requires { ⌜ length (aggBytes (aggAt (now rows) (now cells) i)) ≤ length (now out) ⌝ }
+    ensures { λ r. ⌜ Wrote (aggBytes (aggAt (now (rows .entry)) (now (cells .entry)) i)) (now (out .entry)) r (now (out .exit)) ⌝ }
+{
+    let row = tree::agg_at(rows, i);
+    let a = put_pair(out, 0, row.qualifier, row.name);
+    let b = put_at(out, a, 1, wide(row.function));
+    let m = write_call(cells, row.function, row.root, &mut out[b..]);
+    b + m
+}
+
+pub fn agg_size(rows: &[u16], cells: &[u64], i: usize) -> Size
+    requires { ⌜ AggOk (now rows) (now cells) i ⌝ }
+    requires { ⌜ Countable (length (aggBytes (aggAt (now rows) (now cells) i))) (aggTags (aggAt (now rows) (now cells) i)) ⌝ }
+    ensures { λ r. ⌜ Counts (length (aggBytes (aggAt (now (rows .entry)) (now (cells .entry)) i))) (aggTags (aggAt (now (rows .entry)) (now (cells .entry)) i)) r ⌝ }
+{
+    let row = tree::agg_at(rows, i);
+    both(
+        Size { bytes: 5, tags: 0 },
+        call_size(cells, row.function, row.root),
+    )
+}
+
+/// The two expressions of a pair of a join.
+pub fn write_on(rows: &[u16], cells: &[u64], i: usize, out: &mut [u8]) -> usize
+    requires { ⌜ OnOk (now rows) (now cells) i ⌝ }
+    requires { ⌜ length (onBytes (onAt (now rows) (now cells) i)) ≤ length (now out) ⌝ }
+    ensures { λ r. ⌜ Wrote (onBytes (onAt (now (rows .entry)) (now (cells .entry)) i)) (now (out .entry)) r (now (out .exit)) ⌝ }
+{
+    let row = tree::on_at(rows, i);
+    let a = write_expr(cells, row.left, out);
+    let m = write_expr(cells, row.right, &mut out[a..]);
+    a + m
+}
+
+pub fn on_size(rows: &[u16], cells: &[u64], i: usize) -> Size
+    requires { ⌜ OnOk (now rows) (now cells) i ⌝ }
+    requires { ⌜ Countable (length (onBytes (onAt (now rows) (now cells) i))) (onTags (onAt (now rows) (now cells) i)) ⌝ }
+    ensures { λ r. ⌜ Counts (length (onBytes (onAt (now (rows .entry)) (now (cells .entry)) i))) (onTags (onAt (now (rows .entry)) (now (cells .entry)) i)) r ⌝ }
+{
+    let row = tree::on_at(rows, i);
+    let a = expr_size(cells, row.left);
+    both(a, expr_size(cells, row.right))
+}
+
+/// A row by what it holds.
+pub fn write_part(part: Part, rows: &[u16], cells: &[u64], i: usize, out: &mut [u8]) -> usize
+    requires { ⌜ PartOk part (now rows) (now cells) i ⌝ }
+    requires { ⌜ length (partBytes part (now rows) (now cells) i) ≤ length (now out) ⌝ }
+    ensures { λ r. ⌜ Wrote (partBytes part (now (rows .entry)) (now (cells .entry)) i) (now (out .entry)) r (now (out .exit)) ⌝ }
+{
+    match part {
+        Part::Item => write_item(rows, cells, i, out),
+        Part::Key => write_key(rows, cells, i, out),
+        Part::Agg => write_agg(rows, cells, i, out),
+        Part::Expr => {
+            let row = arena::row_at(rows, i);
+            write_expr(cells, row.root, out)
+        }
+        Part::On => write_on(rows, cells, i, out),
+        Part::Pair => {
+            let row = tree::pair_at(rows, i);
+            put_pair(out, 0, row.qualifier, row.name)
+        }
+        Part::Column => put_at(out, 0, 1, tree::column_at(rows, i) as u64),
+        Part::Index => put_at(out, 0, 1, i as u64),
+        Part::Field => {
+            let f = lookup::field_at(rows, i);
+            let a = put_at(out, 0, 1, 0);
+            put_pair(out, a, f.qualifier, f.name)
+        }
+    }
+}
+
+pub fn part_size(part: Part, rows: &[u16], cells: &[u64], i: usize) -> Size
+    requires { ⌜ PartOk part (now rows) (now cells) i ⌝ }
+    requires { ⌜ Countable (length (partBytes part (now rows) (now cells) i)) (partTags part (now rows) (now cells) i) ⌝ }
+    ensures { λ r. ⌜ Counts (length (partBytes part (now (rows .entry)) (now (cells .entry)) i)) (partTags part (now (rows .entry)) (now (cells .entry)) i) r ⌝ }
+{
+    match part {
+        Part::Item => item_size(rows, cells, i),
+        Part::Key => key_size(rows, cells, i),
+        Part::Agg => agg_size(rows, cells, i),
+        Part::Expr => {
+            let row = arena::row_at(rows, i);
+            expr_size(cells, row.root)
+        }
+        Part::On => on_size(rows, cells, i),
+        Part::Pair => Size { bytes: 4, tags: 0 },
+        Part::Column => Size { bytes: 1, tags: 0 },
+        Part::Index => Size { bytes: 1, tags: 0 },
+        Part::Field => Size { bytes: 5, tags: 1 },
+    }
+}
+
+/// Is thing i taken?
+pub fn is_taken(which: Which, i: usize) -> bool
+    ensures { λ r. ⌜ r ≡ takes which i ⌝ }
+{
+    let set = which.set;
+    if which.all { true } else { set.contains(i) }
+}
+
+// A row where it is taken, and nothing where it is not.
+fn write_if(yes: bool, part: Part, rows: &[u16], cells: &[u64], i: usize, out: &mut [u8]) -> usize
+    requires { ⌜ PartOk part (now rows) (now cells) i ⌝ }
+    requires { ⌜ length (cond yes (partBytes part (now rows) (now cells) i) []) ≤ length (now out) ⌝ }
+    ensures { λ r. ⌜ Wrote (cond yes (partBytes part (now (rows .entry)) (now (cells .entry)) i) []) (now (out .entry)) r (now (out .exit)) ⌝ }
+{
+    if yes {
+        return write_part(part, rows, cells, i, out);
+    }
+    0
+}
+
+fn size_if(yes: bool, part: Part, rows: &[u16], cells: &[u64], i: usize) -> Size
+    requires { ⌜ PartOk part (now rows) (now cells) i ⌝ }
+    requires { ⌜ Countable (cond yes (length (partBytes part (now rows) (now cells) i)) 0) (cond yes (partTags part (now rows) (now cells) i) 0) ⌝ }
+    ensures { λ r. ⌜ Counts (cond yes (length (partBytes part (now (rows .entry)) (now (cells .entry)) i)) 0) (cond yes (partTags part (now (rows .entry)) (now (cells .entry)) i) 0) r ⌝ }
+{
+    if yes {
+        return part_size(part, rows, cells, i);
+    }
+    Size { bytes: 0, tags: 0 }
+}
+
+/// Of n rows from `first` on those that are taken.
+pub fn write_list(
+    part: Part,
+    rows: &[u16],
+    cells: &[u64],
+    first: usize,
+    n: usize,
+    which: Which,
+    out: &mut [u8],
+) -> usize
+    requires { ⌜ PartsOk part (now rows) (now cells) first n ⌝ }
+    requires { ⌜ length (listBytes part (now rows) (now cells) first n which) ≤ length (now out) ⌝ }
+    ensures { λ r. ⌜ Wrote (listBytes part (now (rows .entry)) (now (cells .entry)) first n which) (now (out .entry)) r (now (out .exit)) ⌝ }
+{
+    let mut at = 0;
+    let mut i = 0;
+    while i < n {
+        let yes = is_taken(which, i);
+        let m = write_if(yes, part, rows, cells, first + i, &mut out[at..]);
+        at += m;
+        i += 1;
+    }
+    at
+}
+
+pub fn list_size(
+    part: Part,
+    rows: &[u16],
+    cells: &[u64],
+    first: usize,
+    n: usize,
+    which: Which,
+) -> Size
+    requires { ⌜ PartsOk part (now rows) (now cells) first n ⌝ }
+    requires { ⌜ Countable (length (listBytes part (now rows) (now cells) first n which)) (listTags part (now rows) (now cells) first n which) ⌝ }
+    ensures { λ r. ⌜ Counts (length (listBytes part (now (rows .entry)) (now (cells .entry)) first n which)) (listTags part (now (rows .entry)) (now (cells .entry)) first n which) r ⌝ }
+{
+    let mut sum = Size { bytes: 0, tags: 0 };
+    let mut i = 0;
+    while i < n {
+        let yes = is_taken(which, i);
+        sum = both(sum, size_if(yes, part, rows, cells, first + i));
+        i += 1;
+    }
+    sum
+}
+
+/// Every thing of a list.
+pub fn everything() -> Which
+    ensures { λ r. ⌜ r .all ≡ true ⌝ }
+{
+    Which {
+        all: true,
+        set: RequiredIndices::new(),
+    }
+}
+
+// How many of n things are taken: of a set, as many as it has.
+fn taken_count(n: usize, which: Which) -> usize
+    ensures { λ r. ⌜ r ≡ takenCount which n ⌝ }
+{
+    let set = which.set;
+    if which.all { n } else { set.len() }
+}
+
+/// The count byte of a list, and those of its rows that are taken.
+pub fn write_counted(
+    part: Part,
+    rows: &[u16],
+    cells: &[u64],
+    first: usize,
+    n: usize,
+    which: Which,
+    out: &mut [u8],
+) -> usize
+    requires { ⌜ PartsOk part (now rows) (now cells) first n ⌝ }
+    requires { ⌜ takenCount which n < 256 ⌝ }
+    requires { ⌜ length (countedList part (now rows) (now cells) first n which) ≤ length (now out) ⌝ }
+    ensures { λ r. ⌜ Wrote (countedList part (now (rows .entry)) (now (cells .entry)) first n which) (now (out .entry)) r (now (out .exit)) ⌝ }
+{
+    let a = put_at(out, 0, 1, taken_count(n, which) as u64);
+    let m = write_list(part, rows, cells, first, n, which, &mut out[a..]);
+    a + m
+}
+
+pub fn counted_size(
+    part: Part,
+    rows: &[u16],
+    cells: &[u64],
+    first: usize,
+    n: usize,
+    which: Which,
+) -> Size
+    requires { ⌜ PartsOk part (now rows) (now cells) first n ⌝ }
+    requires { ⌜ Countable (length (countedList part (now rows) (now cells) first n which)) (listTags part (now rows) (now cells) first n which) ⌝ }
+    ensures { λ r. ⌜ Counts (length (countedList part (now (rows .entry)) (now (cells .entry)) first n which)) (listTags part (now (rows .entry)) (now (cells .entry)) first n which) r ⌝ }
+{
+    both(
+        Size { bytes: 1, tags: 0 },
+        list_size(part, rows, cells, first, n, which),
+    )
+}
+
+/// The window from row i on: its pair, its function's number, its parts, its keys, its expression.
+pub fn write_win(rows: &[u16], cells: &[u64], i: usize, out: &mut [u8]) -> usize
+    requires { ⌜ WinFits (now rows) (now cells) i ⌝ }
+    requires { ⌜ length (winBytes (winAt (now rows) (now cells) i)) ≤ length (now out) ⌝ }
+    ensures { λ r. ⌜ Wrote (winBytes (winAt (now (rows .entry)) (now (cells .entry)) i)) (now (out .entry)) r (now (out .exit)) ⌝ }
+{
+    let w = tree::win_at(rows, i);
+    let all = everything();
+    let a = put_pair(out, 0, w.qualifier, w.name);
+    let b = put_at(out, a, 1, wide(w.function));
+    let p = write_counted(Part::Expr, rows, cells, i + 1, w.parts, all, &mut out[b..]);
+    let c = b + p;
+    let k = write_counted(Part::Key, rows, cells, w.key, w.keys, all, &mut out[c..]);
+    let d = c + k;
+    let m = write_call(cells, w.function, w.root, &mut out[d..]);
+    d + m
+}
+
+pub fn win_size(rows: &[u16], cells: &[u64], i: usize) -> Size
+    requires { ⌜ WinFits (now rows) (now cells) i ⌝ }
+    requires { ⌜ Countable (length (winBytes (winAt (now rows) (now cells) i))) (winTags (winAt (now rows) (now cells) i)) ⌝ }
+    ensures { λ r. ⌜ Counts (length (winBytes (winAt (now (rows .entry)) (now (cells .entry)) i))) (winTags (winAt (now (rows .entry)) (now (cells .entry)) i)) r ⌝ }
+{
+    let w = tree::win_at(rows, i);
+    let all = everything();
+    let p = counted_size(Part::Expr, rows, cells, i + 1, w.parts, all);
+    let k = counted_size(Part::Key, rows, cells, w.key, w.keys, all);
+    let m = call_size(cells, w.function, w.root);
+    both(both(Size { bytes: 5, tags: 0 }, p), both(k, m))
+}
+
+// A window where it is taken, and nothing where it is not.
+fn write_win_if(yes: bool, rows: &[u16], cells: &[u64], i: usize, out: &mut [u8]) -> usize
+    requires { ⌜ WinFits (now rows) (now cells) i ⌝ }
+    requires { ⌜ length (cond yes (winBytes (winAt (now rows) (now cells) i)) []) ≤ length (now out) ⌝ }
+    ensures { λ r. ⌜ Wrote (cond yes (winBytes (winAt (now (rows .entry)) (now (cells .entry)) i)) []) (now (out .entry)) r (now (out .exit)) ⌝ }
+{
+    if yes {
+        return write_win(rows, cells, i, out);
+    }
+    0
+}
+
+fn win_size_if(yes: bool, rows: &[u16], cells: &[u64], i: usize) -> Size
+    requires { ⌜ WinFits (now rows) (now cells) i ⌝ }
+    requires { ⌜ Countable (cond yes (length (winBytes (winAt (now rows) (now cells) i))) 0) (cond yes (winTags (winAt (now rows) (now cells) i)) 0) ⌝ }
+    ensures { λ r. ⌜ Counts (cond yes (length (winBytes (winAt (now (rows .entry)) (now (cells .entry)) i))) 0) (cond yes (winTags (winAt (now (rows .entry)) (now (cells .entry)) i)) 0) r ⌝ }
+{
+    if yes {
+        return win_size(rows, cells, i);
+    }
+    Size { bytes: 0, tags: 0 }
+}
+
+/// Of n windows from row `first` on those that are taken.
+pub fn write_wins(
+    rows: &[u16],
+    cells: &[u64],
+    first: usize,
+    n: usize,
+    which: Which,
+    out: &mut [u8],
+) -> usize
+    requires { ⌜ WinsOk (now rows) (now cells) first n ⌝ }
+    requires { ⌜ length (winsBytes (now rows) (now cells) first n which) ≤ length (now out) ⌝ }
+    ensures { λ r. ⌜ Wrote (winsBytes (now (rows .entry)) (now (cells .entry)) first n which) (now (out .entry)) r (now (out .exit)) ⌝ }
+{
+    let mut at = 0;
+    let mut row = first;
+    let mut i = 0;
+    while i < n {
+        let yes = is_taken(which, i);
+        let m = write_win_if(yes, rows, cells, row, &mut out[at..]);
+        at += m;
+        row = tree::win_at(rows, row).next;
+        i += 1;
+    }
+    at
+}
+
+pub fn wins_size(rows: &[u16], cells: &[u64], first: usize, n: usize, which: Which) -> Size
+    requires { ⌜ WinsOk (now rows) (now cells) first n ⌝ }
+    requires { ⌜ Countable (length (winsBytes (now rows) (now cells) first n which)) (winsTags (now rows) (now cells) first n which) ⌝ }
+    ensures { λ r. ⌜ Counts (length (winsBytes (now (rows .entry)) (now (cells .entry)) first n which)) (winsTags (now (rows .entry)) (now (cells .entry)) first n which) r ⌝ }
+{
+    let mut sum = Size { bytes: 0, tags: 0 };
+    let mut row = first;
+    let mut i = 0;
+    while i < n {
+        let yes = is_taken(which, i);
+        sum = both(sum, win_size_if(yes, rows, cells, row));
+        row = tree::win_at(rows, row).next;
+        i += 1;
+    }
+    sum
+}
