@@ -25,7 +25,7 @@ use Rattle.tree.proofs.Plans.{taken}
 use Rattle.lookup.specs.Fields.{fieldAt, fieldsAt, rowAt, widthAt}
 use Rattle.lookup.proofs.Lists.{list-length}
 use Rattle.requests.specs.Asked.{Below}
-use Rattle.jobs.specs.Standing.{Asked}
+use Rattle.jobs.specs.Asked.{Asked}
 use Rattle.jobs.specs.Job.{AtNode, LeafJob, NoProjection, OneIs, OneJob, Posed, PosedTwo, TwoJob}
 use Rattle.jobs.specs.declared.Job.{Job}
 use Rattle.jobs.specs.declared.Todo.{Todo}

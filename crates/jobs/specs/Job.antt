@@ -24,7 +24,7 @@ use Rattle.tree.specs.declared.JoinType.{JoinType}
 use Rattle.tree.specs.declared.JoinType.the-variants.{Inner, Left, Right, Full, LeftSemi, LeftAnti, RightSemi, RightAnti}
 use Rattle.result.specs.Result.{leafPart, unaryPart, nothingLeft}
 use Rattle.result.specs.Records.{LeafSet, UnarySet}
-use Rattle.jobs.specs.Standing.{Asked}
+use Rattle.jobs.specs.Asked.{Asked}
 use Rattle.jobs.specs.declared.Job.{Job}
 use Rattle.jobs.specs.declared.Todo.{Todo}
 use Rattle.jobs.specs.declared.Todo.the-variants as todos

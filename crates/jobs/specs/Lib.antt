@@ -1,3 +1,3 @@
 -- Jobs.
-pub mod Standing
+pub mod Asked
 pub mod Job

@@ -20,7 +20,7 @@ ghost use Rattle.tree.specs.Rows.{AggOk, AllAt, EachOk, KeyOk, OnOk, WinOk, agg
 ghost use Rattle.tree.specs.Tree.{if?};
 ghost use Rattle.lookup.specs.Fields.{rowAt, widthAt};
 ghost use Rattle.requests.specs.Asked.{Below, RootsOk, rootsAt};
-ghost use Rattle.jobs.specs.Standing.{Asked, KindIs};
+ghost use Rattle.jobs.specs.Asked.{Asked, KindIs};
 ghost use Rattle.jobs.specs.Job.{JobAt, Joinable, Joined, KeptOf, LeafJob, Leftover, OneJob, Posed, PosedTwo, Sided, Through, TwoJob};
 use required_indices::RequiredIndices;
 use tree::JoinNode;

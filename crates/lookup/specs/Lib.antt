@@ -1,3 +1,4 @@
 -- How lent arrays stand for field lists, and what is said of them, bottom up.
 pub mod Fields
 pub mod Answers
+pub mod Standing

@@ -1,35 +1,19 @@
--- What is known of an accepted plan in the lent arrays, and of a node of it that is asked for some of its fields.
+-- A node of an accepted plan that is asked for some of its fields.
 use mathlib.Core.Path.{_≡_}
 use mathlib.Core.List.{List}
-use Prim.Native.Nat.{ℕ, _*_, _≤_, _<_}
-use lib.ListN.{length}
+use Prim.Native.Nat.{ℕ, _<_}
 use Rattle.cpl.specs.Fields.{fieldsOf}
-use Rattle.cpl.specs.Limits.{maxNodes}
 use Rattle.cpl.specs.Lists.{Fit}
-use Rattle.cpl.specs.Plan.{Catalogue}
-use Rattle.cpl.specs.Writable.{FitCatalogue}
-use Rattle.cpl.proofs.Accepted.{Accepted}
 use Rattle.rules.specs.Mask.{Mask}
 use Rattle.required_indices.specs.Request.{Asks}
 use Rattle.required_indices.specs.declared.RequiredIndices.{RequiredIndices}
 use Rattle.tree.specs.Node.{nodeAt}
-use Rattle.tree.specs.Tree.{lent, planAt, WfTree}
+use Rattle.tree.specs.Tree.{lent, planAt}
 use Rattle.tree.specs.declared.Node.{Node}
 use Rattle.tree.specs.declared.Node.the-variants.{Projection, Filter, Sort, Limit, Aggregate, Window, SubqueryAlias, Union, Distinct, Join, Scan, Empty}
-use Rattle.lookup.specs.Fields.{fieldsAt}
+use Rattle.lookup.specs.Standing.{Standing}
 use Rattle.jobs.specs.declared.Kind.{Kind}
 use Rattle.jobs.specs.declared.Kind.the-variants as kinds
-
--- the plan can be walked, the fields of each node stand in theirs, and every node is accepted
-pub record Standing (cells rows nodes fields widths : List ℕ) : Type 0 where
-  pub C : Catalogue
-  pub count : ℕ
-  pub tables : FitCatalogue C
-  pub tree : WfTree C (lent cells rows nodes) count
-  pub stand : (j : ℕ) → j < count → fieldsAt fields widths j ≡ fieldsOf C (planAt (lent cells rows nodes) j)
-  pub accepted : (j : ℕ) → j < count → Accepted C (planAt (lent cells rows nodes) j)
-  pub fields-long : maxNodes * 256 ≤ length fields
-  pub widths-long : maxNodes ≤ length widths
 
 -- a node that is no Projection
 abbrev pub Other : Node → Type 0
