@@ -1,0 +1,2 @@
+-- What the steps of the walk say.
+pub mod Steps
