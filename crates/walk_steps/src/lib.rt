@@ -100,11 +100,33 @@ pub fn merge_step(
     let size = list.n;
     if list.scratch {
         return merge::merge_consecutive_projections(
-            house, mask, arows, from, size, acells, rows, first, n, cells, brows, bcells,
+            house,
+            mask,
+            arows,
+            from,
+            size,
+            acells,
+            rows,
+            first,
+            n,
+            cells,
+            brows,
+            bcells,
         );
     }
     merge::merge_consecutive_projections(
-        house, mask, rows, from, size, cells, rows, first, n, cells, brows, bcells,
+        house,
+        mask,
+        rows,
+        from,
+        size,
+        cells,
+        rows,
+        first,
+        n,
+        cells,
+        brows,
+        bcells,
     )
 }
 
@@ -140,7 +162,17 @@ fn choose(
     }
     let row = used.rows;
     let nodes = used.cells;
-    let c = projections::copy_kept(lrows, from, size, lcells, request, items, row, icells, nodes);
+    let c = projections::copy_kept(
+        lrows,
+        from,
+        size,
+        lcells,
+        request,
+        items,
+        row,
+        icells,
+        nodes,
+    );
     let Copied::Done {
         rows: count,
         used: cells,
@@ -191,9 +223,33 @@ pub fn get_at_indices(
     let from = list.first;
     let size = list.n;
     if list.scratch {
-        return choose(arows, from, size, acells, request, fields, k, width, items, icells, used);
+        return choose(
+            arows,
+            from,
+            size,
+            acells,
+            request,
+            fields,
+            k,
+            width,
+            items,
+            icells,
+            used,
+        );
     }
-    choose(rows, from, size, cells, request, fields, k, width, items, icells, used)
+    choose(
+        rows,
+        from,
+        size,
+        cells,
+        request,
+        fields,
+        k,
+        width,
+        items,
+        icells,
+        used,
+    )
 }
 
 // A record put behind those in use.
@@ -290,7 +346,13 @@ fn over(topped: Topped, used: Used, kept: RequiredIndices) -> Walked
 }
 
 /// Top-up of node `k`, which was asked for `ask` and became `w`; where it is not wanted, `w` as it is.
-pub fn top_up(records: &mut [u64], topped: bool, k: usize, ask: RequiredIndices, w: Walked) -> Walked
+pub fn top_up(
+    records: &mut [u64],
+    topped: bool,
+    k: usize,
+    ask: RequiredIndices,
+    w: Walked,
+) -> Walked
     requires { ⌜ maxNodes * recordN ≤ length (now records) ⌝ }
     ensures { λ v. ⌜ ToppedIs (now (records .entry)) (now (records .exit)) k ask w v topped (w .end) ⌝ }
 {
