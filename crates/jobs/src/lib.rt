@@ -383,7 +383,7 @@ fn empty_job(r: RequiredIndices, n: usize) -> Job
 }
 
 /// How many fields node `k` has; 0 past the last node.
-fn width_at(widths: &[u64], k: usize) -> usize
+pub fn width_at(widths: &[u64], k: usize) -> usize
     ensures { λ r. ⌜ r ≡ widthAt (now (widths .entry)) k ⌝ }
 {
     if k < widths.len() {

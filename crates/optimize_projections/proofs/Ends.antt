@@ -100,29 +100,49 @@ top-nodes C fs R p = top-cond-nodes (ltb (count R) (length (fieldsOf C p))) (map
 
 -- ── a projection on top ─────────────────────────────────────────────────────────────────────
 
+-- a plan that stands, whatever cells were taken for it
+pub record Based (C : Catalogue) (a : Arrays) (count : ℕ) (r r′ : Results) (u : Used) (p : Plan) (rec : ℕ) (v : Used) : Type 0 where
+  pub plan : resultAt C a r′ rec ≡ p
+  pub nodes : v .records ≡ u .records + planNodes p
+  pub more : More u v
+  pub grown : Grown (u .records) (u .rows) (u .cells) r r′
+  pub ready : Ready C a count r′ v
+
+-- it stands behind rows and cells that were taken before
+pub based : {C : Catalogue} {a : Arrays} {count : ℕ} {r r₁ r₂ : Results} {u u₁ : Used} {p : Plan} {rec : ℕ} {v : Used} → More u u₁ → u₁ .records ≡ u .records
+    → Grown (u .records) (u .rows) (u .cells) r r₁ → Stands C a count r₁ r₂ u₁ p rec v → Based C a count r r₂ u p rec v
+based m e g x =
+    record {
+      plan = x .plan;
+      nodes = omega (arith, x .nodes);
+      more = more-trans m (x .more);
+      grown = grown-trans (m .records) (m .rows) (m .cells) g (x .grown);
+      ready = x .ready;
+    }
+
 module _ {C : Catalogue} {a : Arrays} {count : ℕ} {r : Results} {s items cells : List ℕ} {u v : Used} {p : Plan} {rec : ℕ}
-    (x : Stands C a count r (results s items cells) u p rec v) (s′ : List ℕ) where
-  pub put-on : {p′ : Plan} {made more : ℕ} → OnTop C a count (results s items cells) (results s′ items cells) (v .records) (v .rows) (v .cells) p′ p made more
-      → planTags p ≤ planTags p′ → Stands C a count r (results s′ items cells) u p′ made (record { records = more; rows = v .rows; cells = v .cells })
+    (x : Based C a count r (results s items cells) u p rec v) (s′ : List ℕ) where
+  put-on : {p′ : Plan} {made more : ℕ} → OnTop C a count (results s items cells) (results s′ items cells) (v .records) (v .rows) (v .cells) p′ p made more
+      → v .cells ≤ u .cells + planTags p′ → Stands C a count r (results s′ items cells) u p′ made (record { records = more; rows = v .rows; cells = v .cells })
   put-on o t =
       record {
         plan = o .result;
         below = o .below;
         nodes = omega (arith, x .nodes, o .nodes);
-        tags = omega (arith, x .tags);
+        tags = t;
         more = record { records = omega (arith, x .nodes, o .nodes); rows = x .more .rows; cells = x .more .cells };
         grown = grown-trans (x .more .records) (x .more .rows) (x .more .cells) (x .grown) (o .grown);
         ready = record { wf = o .wf; records-long = omega (arith, x .ready .records-long, o .grown .records .long); cells-long = x .ready .cells-long; room = x .ready .room };
       }
 
   -- what the plan became by f, as the projection's answer says
-  pub over-walk : (f : Plan → Plan) (t : Topped) (w : Walked) {ask : RequiredIndices} {K : Mask} {o : Bool} → planTags p ≤ planTags (f p) → Asks ask K → o ≡ false
+  pub over-walk : (f : Plan → Plan) (t : Topped) (w : Walked) {ask : RequiredIndices} {K : Mask} {o : Bool} → v .cells ≤ u .cells + planTags (f p) → Asks ask K → o ≡ false
       → TopAnswer C a count (results s items cells) (results s′ items cells) (v .records) (v .rows) (v .cells) (f (resultAt C a (results s items cells) rec)) (resultAt C a (results s items cells) rec) t
       → Over t v ask w → WalkIs C a count r (results s′ items cells) u (record { plan = f p; kept = K; overlong = o }) w
-  over-walk f t w {ask} {K} {o} l k e answer d = by t (subst (λ (q : Plan). TopAnswer C a count (results s items cells) (results s′ items cells) (v .records) (v .rows) (v .cells) (f q) q t) (x .plan) answer) (d .end-is)
+  over-walk f t w {ask} {K} {o} l k e answer d =
+      by t (subst (λ (q : Plan). TopAnswer C a count (results s items cells) (results s′ items cells) (v .records) (v .rows) (v .cells) (f q) q t) (x .plan) answer) (d .end-is)
     where
       by : (t : Topped) → TopAnswer C a count (results s items cells) (results s′ items cells) (v .records) (v .rows) (v .cells) (f p) p t → OverIs v t (w .end)
           → WalkIs C a count r (results s′ items cells) u (record { plan = f p; kept = K; overlong = o }) w
-      by (toppeds.Done i n) y q =
-          rw (q, d .kept-is) (put-on y l, k, e)
+      by (toppeds.Done i n) y q = rw (q, d .kept-is) (put-on y l, k, e)
       by toppeds.Full y q = rw q (inr (inl (omega (arith, x .nodes, y .tight))))

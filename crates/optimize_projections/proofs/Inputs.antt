@@ -22,6 +22,9 @@ use Rattle.required_indices.specs.Request.{Asks, flagOf}
 use Rattle.required_indices.specs.declared.RequiredIndices.{RequiredIndices}
 use Rattle.tree.specs.Tree.{Arrays, lent, planAt}
 use Rattle.lookup.specs.Standing.{Standing}
+use Rattle.jobs.specs.declared.Job.{Job}
+use Rattle.jobs.specs.declared.Todo.{Todo}
+use Rattle.jobs.specs.declared.Todo.the-variants as todos
 use Rattle.result.specs.Result.{Results}
 use Rattle.result.specs.Records.{results}
 use Rattle.result.proofs.Grow.{result-grown}
@@ -31,11 +34,12 @@ use Rattle.walk_steps.specs.declared.End.{End}
 use Rattle.walk_steps.specs.declared.End.the-variants.{Done, Large}
 use Rattle.walk_steps.specs.declared.Ends.{Ends}
 use Rattle.walk_steps.specs.declared.Ends.the-variants as inputs
+use Rattle.walk_steps.specs.declared.Inputs.{Inputs}
 use Rattle.walk_steps.specs.declared.Used.{Used}
 use Rattle.walk_steps.specs.declared.Walked.{Walked}
-use Rattle.optimize_projections.specs.Walk.{Before, EndIs, InputAfter, StandTwo, Stands, TwoIs, WalkIs, inputWalk, mergeBy, twoEnd}
+use Rattle.optimize_projections.specs.Walk.{After, Before, BeforeInputs, EndIs, InputAfter, InputAsked, InputsAfter, InputsAsked, InputsIs, StandTwo, Stands, TwoIs, WalkIs, inputWalk, mergeBy, oneEnd, twoEnd}
 use Rattle.optimize_projections.specs.declared.Settings.{Settings}
-use Rattle.optimize_projections.proofs.Ends.{grown-trans, large-after, large-up, more-trans, over-walk, top-nodes, top-tags}
+use Rattle.optimize_projections.proofs.Ends.{based, grown-refl, grown-trans, large-after, large-up, more-refl, more-trans, over-walk, top-nodes, top-tags}
 
 -- ── the rules' plan of an accepted node ─────────────────────────────────────────────────────
 
@@ -67,7 +71,8 @@ module _ (C : Catalogue) (a : Arrays) (count : ℕ) (r : Results) (s items cells
       by : (end : End) → EndIs C a count r (results s items cells) u w (v .kept) end → ToppedIs s s′ k ask v v′ true end
           → WalkIs C a count r (results s′ items cells) u (record { plan = topUp C (fieldsOf C (planAt a k)) R (w .plan); kept = R; overlong = w .overlong }) v′
       by (Done rec n) y t =
-          over-walk (y .0) s′ (topUp C (fieldsOf C (planAt a k)) R) (t .t) v′ (top-tags C (fieldsOf C (planAt a k)) R (w .plan)) asks (y .2)
+          over-walk (based (more-refl u) refl (grown-refl (u .records) (u .rows) (u .cells) r) (y .0)) s′ (topUp C (fieldsOf C (planAt a k)) R) (t .t) v′
+          (omega (arith, y .0 .tags, top-tags C (fieldsOf C (planAt a k)) R (w .plan))) asks (y .2)
           (t .on-top .covers C a count items cells (n .rows) (n .cells) (w .kept) R (narrowed w (y .0) l fk e) (y .1) asks f) (t .over)
       by Large y t = rw t (large-up u (planNodes (w .plan)) _ (planTags (w .plan)) _ (λ o. o) (top-nodes C (fieldsOf C (planAt a k)) R (w .plan)) (top-tags C (fieldsOf C (planAt a k)) R (w .plan)) y)
 
@@ -101,3 +106,97 @@ module _ (C : Catalogue) (a : Arrays) (count : ℕ) (r r₁ r₂ : Results) (u :
         ready = y .0 .ready;
       }, rw (o, y .2) refl)
   both rec v x o kept Large y = large-up u _ _ _ _ (λ e. or-second (w₁ .overlong) e) (omega arith) (omega arith) (large-after u v (planNodes (w₁ .plan)) (planTags (w₁ .plan)) (planNodes (w₂ .plan)) (planTags (w₂ .plan)) (x .nodes) (x .tags) y)
+
+one-end : (C : Catalogue) (a : Arrays) (count : ℕ) (r r₁ : Results) (u : Used) (p : rules.Walked) (w : Walked) (i : Inputs) → (oneEnd (i .end) ≡ w .end) × (i .kept ≡ w .kept)
+    → WalkIs C a count r r₁ u p w → EndIs C a count r r₁ u p (i .kept) (oneEnd (i .end))
+one-end C a count r r₁ u p w i d x = rw (d .0, d .1) x
+
+-- ── as the walk's functions say it ──────────────────────────────────────────────────────────
+
+module _ (s : Settings) {cells rows nodes fields widths : List ℕ} where
+  pub topped-after : {r : Results} {sr items icells : List ℕ} {k : ℕ} {ask : RequiredIndices} {u : Used} {w : Walked} {sr′ : List ℕ} (v : Walked) (topped : Bool)
+      → After s cells rows nodes fields widths r (results sr items icells) k ask u w → ToppedIs sr sr′ k ask w v topped (w .end)
+      → InputAfter s cells rows nodes fields widths r (results sr′ items icells) k ask topped u v
+  topped-after {r} {sr} {items} {icells} {k} {ask} {u} {w} {sr′} v topped x d = record {
+    is = λ b.
+        topped-walk (b .standing .C) (lent cells rows nodes) (b .standing .count) r sr items icells u
+        (walk (mergeBy s) (b .standing .C) (planAt (lent cells rows nodes) k) none (flagOf ask) (b .R)) w (x .is b) k (b .within) (b .fit) (b .asks)
+        (node-kept (b .standing) s k (b .within) (flagOf ask) (b .fit)) (node-good (b .standing) s k (b .within) (flagOf ask) (b .fit) .kept .fields) sr′ v topped d;
+  }
+
+  module _ {r : Results} {k : ℕ} {j : Job} {u : Used} where
+    -- what is asked of the first input, and of the second
+    abbrev one-asked : (b : BeforeInputs cells rows nodes fields widths r k j u) (t : Todo) → InputAsked (b .standing .C) (lent cells rows nodes) (b .standing .count) (k + 1) (j .ask) (b .Q)
+        → Before cells rows nodes fields widths r (k + 1) (j .ask) u
+    one-asked b t a = record { standing = b .standing; within = a .within; ready = b .ready; R = b .Q; fit = a .fit; asks = a .asks }
+
+    abbrev pub same-before : j .todo ≡ todos.Same → BeforeInputs cells rows nodes fields widths r k j u → Before cells rows nodes fields widths r (k + 1) (j .ask) u
+    same-before e b = one-asked b todos.Same (subst (InputsAsked (b .standing .C) (lent cells rows nodes) (b .standing .count) k j (b .Q) (b .P)) e (b .asked))
+
+    abbrev pub one-before : (topped : Bool) → j .todo ≡ todos.One topped → BeforeInputs cells rows nodes fields widths r k j u → Before cells rows nodes fields widths r (k + 1) (j .ask) u
+    one-before topped e b = one-asked b (todos.One topped) (subst (InputsAsked (b .standing .C) (lent cells rows nodes) (b .standing .count) k j (b .Q) (b .P)) e (b .asked))
+
+    module _ (right : ℕ) (e : j .todo ≡ todos.Two right) where
+      pub two-asked : (b : BeforeInputs cells rows nodes fields widths r k j u) → InputsAsked (b .standing .C) (lent cells rows nodes) (b .standing .count) k j (b .Q) (b .P) (todos.Two right)
+      two-asked b = subst (InputsAsked (b .standing .C) (lent cells rows nodes) (b .standing .count) k j (b .Q) (b .P)) e (b .asked)
+
+      abbrev pub first-before : BeforeInputs cells rows nodes fields widths r k j u → Before cells rows nodes fields widths r (k + 1) (j .ask) u
+      first-before b = one-asked b (todos.Two right) (two-asked b .0)
+
+      pub right-above : BeforeInputs cells rows nodes fields widths r k j u → k < right
+      right-above b = two-asked b .2
+
+      -- the first input was walked
+      module _ {r₁ : Results} {w : Walked} (x : InputAfter s cells rows nodes fields widths r r₁ (k + 1) (j .ask) true u w) where
+        pub first-end : (b : BeforeInputs cells rows nodes fields widths r k j u) (end : End) → w .end ≡ end
+            → EndIs (b .standing .C) (lent cells rows nodes) (b .standing .count) r r₁ u (inputWalk (mergeBy s) (b .standing .C) (planAt (lent cells rows nodes) (k + 1)) (flagOf (j .ask)) true (b .Q)) (w .kept) end
+        first-end b end q =
+            subst (EndIs (b .standing .C) (lent cells rows nodes) (b .standing .count) r r₁ u (inputWalk (mergeBy s) (b .standing .C) (planAt (lent cells rows nodes) (k + 1)) (flagOf (j .ask)) true (b .Q)) (w .kept)) q
+            (x .is (first-before b))
+
+        pub first-too-large : w .end ≡ Large → {i : Inputs} → i .end ≡ inputs.Large → InputsAfter s cells rows nodes fields widths r r₁ k j u i
+        first-too-large q {i} d = record {
+          is = λ b.
+              subst (InputsIs (mergeBy s) (b .standing .C) (lent cells rows nodes) (b .standing .count) r r₁ u k j (b .Q) (b .P) i) (sym e)
+              (subst (TwoIs (b .standing .C) (lent cells rows nodes) (b .standing .count) r r₁ u _ _) (sym d)
+              (first-large (b .standing .C) (lent cells rows nodes) (b .standing .count) r r₁ r₁ u (inputWalk (mergeBy s) (b .standing .C) (planAt (lent cells rows nodes) (k + 1)) (flagOf (j .ask)) true (b .Q))
+              (inputWalk (mergeBy s) (b .standing .C) (planAt (lent cells rows nodes) right) (flagOf (j .second)) true (b .P)) (w .kept) (first-end b Large q)));
+        }
+
+        module _ (rec : ℕ) (v : Used) (q : w .end ≡ Done rec v) where
+          abbrev pub second-before : BeforeInputs cells rows nodes fields widths r k j u → Before cells rows nodes fields widths r₁ right (j .second) v
+          second-before b =
+              record { standing = b .standing; within = two-asked b .1 .within; ready = first-end b (Done rec v) q .0 .ready; R = b .P; fit = two-asked b .1 .fit; asks = two-asked b .1 .asks }
+
+          pub two-after : {r₂ : Results} (w₂ : Walked) → InputAfter s cells rows nodes fields widths r₁ r₂ right (j .second) true v w₂ → {i : Inputs} → (i .end ≡ twoEnd rec (w₂ .end)) × (i .kept ≡ w .kept)
+              → InputsAfter s cells rows nodes fields widths r r₂ k j u i
+          two-after {r₂} w₂ y {i} d = record {
+            is = λ b.
+                let x₁ = first-end b (Done rec v) q in
+                subst (InputsIs (mergeBy s) (b .standing .C) (lent cells rows nodes) (b .standing .count) r r₂ u k j (b .Q) (b .P) i) (sym e)
+                (subst (TwoIs (b .standing .C) (lent cells rows nodes) (b .standing .count) r r₂ u _ _) (sym (d .0))
+                (both (b .standing .C) (lent cells rows nodes) (b .standing .count) r r₁ r₂ u _ _ rec v (x₁ .0) (x₁ .2) (w₂ .kept) (w₂ .end) (y .is (second-before b))));
+          }
+
+    -- one input
+    module _ {r₁ : Results} {w : Walked} {i : Inputs} (d : (oneEnd (i .end) ≡ w .end) × (i .kept ≡ w .kept)) where
+      pub same-after : j .todo ≡ todos.Same → InputAfter s cells rows nodes fields widths r r₁ (k + 1) (j .ask) false u w → InputsAfter s cells rows nodes fields widths r r₁ k j u i
+      same-after e x = record {
+        is = λ b.
+            subst (InputsIs (mergeBy s) (b .standing .C) (lent cells rows nodes) (b .standing .count) r r₁ u k j (b .Q) (b .P) i) (sym e)
+            (one-end (b .standing .C) (lent cells rows nodes) (b .standing .count) r r₁ u _ w i d (x .is (same-before e b)));
+      }
+
+      pub one-after : (topped : Bool) → j .todo ≡ todos.One topped → InputAfter s cells rows nodes fields widths r r₁ (k + 1) (j .ask) topped u w → InputsAfter s cells rows nodes fields widths r r₁ k j u i
+      one-after topped e x = record {
+        is = λ b.
+            subst (InputsIs (mergeBy s) (b .standing .C) (lent cells rows nodes) (b .standing .count) r r₁ u k j (b .Q) (b .P) i) (sym e)
+            (one-end (b .standing .C) (lent cells rows nodes) (b .standing .count) r r₁ u _ w i d (x .is (one-before topped e b)));
+      }
+
+    -- none
+    pub leaf-after : j .todo ≡ todos.Leaf → {i : Inputs} → i .end ≡ inputs.Done 0 0 u → InputsAfter s cells rows nodes fields widths r r k j u i
+    leaf-after e {i} d = record { is = λ b. subst (InputsIs (mergeBy s) (b .standing .C) (lent cells rows nodes) (b .standing .count) r r u k j (b .Q) (b .P) i) (sym e) (d, refl) }
+
+    pub nothing-after : j .todo ≡ todos.Nothing → {i : Inputs} → i .end ≡ inputs.Done 0 0 u → InputsAfter s cells rows nodes fields widths r r k j u i
+    nothing-after e {i} d = record { is = λ b. subst (InputsIs (mergeBy s) (b .standing .C) (lent cells rows nodes) (b .standing .count) r r u k j (b .Q) (b .P) i) (sym e) (d, refl) }
