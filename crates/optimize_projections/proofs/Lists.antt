@@ -75,6 +75,17 @@ module _ {cells rows nodes fields widths : List ℕ} (z : Standing cells rows no
   pub fields-in : {r : RequiredIndices} {R : Mask} → Asks r R → length R ≡ length (fieldsOf (z .C) (planAt (lent cells rows nodes) j)) → FieldsIn fields j (widthAt widths j) r
   fields-in {r} x e = record { inside = row-below .inside; within = subst (λ (n : ℕ). setOf r < 2 ^ n) (e ∙ sym row-long) (x .within) }
 
+-- ── a request of items of the list ──────────────────────────────────────────────────────────
+
+module _ {cells rows nodes fields widths arows acells : List ℕ} {r : Results} {k : ℕ} {l : Pending} {request : RequiredIndices} {u : Used}
+    (b : BeforeList cells rows nodes fields widths arows acells r k l request u) where
+  pub request-within : setOf request < 2 ^ (l .n)
+  request-within =
+      subst (λ (n : ℕ). setOf request < 2 ^ n) (Fit-length (b .fit) ∙ items-length (side (l .scratch) arows rows) (side (l .scratch) acells cells) (l .first) (l .n)) (b .asks .within)
+
+  pub top-fields : FieldsIn fields (l .top) (widthAt widths (l .top)) request
+  top-fields = fields-in (b .standing) (l .top) (b .top) (b .asks) (Fit-length (b .fit) ∙ sym (length-map (pendingItems l rows cells arows acells) itemPair) ∙ ap length (b .pairs))
+
 -- ── kept items ──────────────────────────────────────────────────────────────────────────────
 
 item-nodes : (i : Item) → exprTags (itemExpr i) ≤ itemTags i
@@ -152,7 +163,7 @@ shift v u o n n′ t t′ e f g x = ⊎-elim (λ d. inl d) (λ y. ⊎-elim (λ d
 
 -- ── the list over node k ────────────────────────────────────────────────────────────────────
 
-module _ (s : Settings) {cells rows nodes fields widths arows acells sr items icells : List ℕ} {k : ℕ} {l : Pending} {request : RequiredIndices} {u : Used} (c : Chosen) (items₁ icells₁ : List ℕ)
+module _ {cells rows nodes fields widths arows acells sr items icells : List ℕ} {k : ℕ} {l : Pending} {request : RequiredIndices} {u : Used} (c : Chosen) (items₁ icells₁ : List ℕ)
     (q : Picked (keptPending l request rows cells arows acells) (rowAt fields k (widthAt widths k)) u items icells items₁ icells₁ c) where
   module _ (b : BeforeList cells rows nodes fields widths arows acells (results sr items icells) k l request u) where
     abbrev C : Catalogue
@@ -199,101 +210,104 @@ module _ (s : Settings) {cells rows nodes fields widths arows acells sr items ic
             asks = asks-q;
           }
 
-  -- the rules' plan of the list
-  abbrev listWalk : BeforeList cells rows nodes fields widths arows acells (results sr items icells) k l request u → rules.Walked
-  listWalk b =
-      pend (b .standing .C) (some (pendingItems l rows cells arows acells)) (fieldsOf (b .standing .C) (planAt (lent cells rows nodes) k)) (walk (mergeBy s) (b .standing .C) (planAt (lent cells rows nodes) k) none) (flagOf request)
-      (b .R)
+  -- ── by the settings ───────────────────────────────────────────────────────────────────────
 
-  -- and of the node beneath it
-  abbrev nodeWalk : BeforeList cells rows nodes fields widths arows acells (results sr items icells) k l request u → rules.Walked
-  nodeWalk b =
-      walk (mergeBy s) (b .standing .C) (planAt (lent cells rows nodes) k) none false
-      (used (map itemExpr (select (b .R) (pendingItems l rows cells arows acells))) (fieldsOf (b .standing .C) (planAt (lent cells rows nodes) k)))
+  module _ (s : Settings) where
+    -- the rules' plan of the list
+    abbrev listWalk : BeforeList cells rows nodes fields widths arows acells (results sr items icells) k l request u → rules.Walked
+    listWalk b =
+        pend (b .standing .C) (some (pendingItems l rows cells arows acells)) (fieldsOf (b .standing .C) (planAt (lent cells rows nodes) k)) (walk (mergeBy s) (b .standing .C) (planAt (lent cells rows nodes) k) none) (flagOf request)
+        (b .R)
 
-  list-walk : (b : BeforeList cells rows nodes fields widths arows acells (results sr items icells) k l request u) →
-      listWalk b ≡ record { plan = overChild (b .standing .C) (select (b .R) (pendingItems l rows cells arows acells)) (nodeWalk b .plan); kept = b .R; overlong = nodeWalk b .overlong }
-  list-walk b =
-      pend-is (b .standing .C) (pendingItems l rows cells arows acells) (fieldsOf (b .standing .C) (planAt (lent cells rows nodes) k)) (walk (mergeBy s) (b .standing .C) (planAt (lent cells rows nodes) k) none)
-      (flagOf request) (b .R)
+    -- and of the node beneath it
+    abbrev nodeWalk : BeforeList cells rows nodes fields widths arows acells (results sr items icells) k l request u → rules.Walked
+    nodeWalk b =
+        walk (mergeBy s) (b .standing .C) (planAt (lent cells rows nodes) k) none false
+        (used (map itemExpr (select (b .R) (pendingItems l rows cells arows acells))) (fieldsOf (b .standing .C) (planAt (lent cells rows nodes) k)))
 
-  -- there was no room for the items
-  pub copies-large : c .large ≡ true → {w : Walked} → w .end ≡ Large → {r′ : Results} → PutAfter s cells rows nodes fields widths arows acells (results sr items icells) r′ k l request u w
-  copies-large e {w} d {r′} = record {
-    is = λ b.
-        let ks : List Item = select (b .R) (pendingItems l rows cells arows acells) in
-        let t : TakenIs ks u items icells items₁ icells₁ c true =
-        subst (λ (js : List Item). TakenIs js u items icells items₁ icells₁ c true) (kept-is b) (subst (λ (t : Bool). TakenIs (keptPending l request rows cells arows acells) u items icells items₁ icells₁ c t) e (q .taken)) in
-        rw d
-        (subst⁻¹ (λ (v : rules.Walked). EndIs (b .standing .C) (lent cells rows nodes) (b .standing .count) (results sr items icells) r′ u v (w .kept) Large) (list-walk b)
-        (inr (inr (omega (arith, t .1, nodes-tags ks, named-tags (b .standing .C) ks (nodeWalk b .plan) (t .0), b .ready .cells-long)))));
-  }
+    list-walk : (b : BeforeList cells rows nodes fields widths arows acells (results sr items icells) k l request u) →
+        listWalk b ≡ record { plan = overChild (b .standing .C) (select (b .R) (pendingItems l rows cells arows acells)) (nodeWalk b .plan); kept = b .R; overlong = nodeWalk b .overlong }
+    list-walk b =
+        pend-is (b .standing .C) (pendingItems l rows cells arows acells) (fieldsOf (b .standing .C) (planAt (lent cells rows nodes) k)) (walk (mergeBy s) (b .standing .C) (planAt (lent cells rows nodes) k) none)
+        (flagOf request) (b .R)
 
-  module _ (fine : c .large ≡ false) {sr₂ items₂ icells₂ : List ℕ} {w : Walked}
-      (x : After s cells rows nodes fields widths (results sr items₁ icells₁) (results sr₂ items₂ icells₂) k (c .ask) (c .used) w) where
-    node-end : (b : BeforeList cells rows nodes fields widths arows acells (results sr items icells) k l request u)
-        → WalkIs (b .standing .C) (lent cells rows nodes) (b .standing .count) (results sr items₁ icells₁) (results sr₂ items₂ icells₂) (c .used) (nodeWalk b) w
-    node-end b =
-        subst (λ (f : Bool).
-        WalkIs (b .standing .C) (lent cells rows nodes) (b .standing .count) (results sr items₁ icells₁) (results sr₂ items₂ icells₂) (c .used)
-        (walk (mergeBy s) (b .standing .C) (planAt (lent cells rows nodes) k) none f
-        (used (map itemExpr (select (b .R) (pendingItems l rows cells arows acells))) (fieldsOf (b .standing .C) (planAt (lent cells rows nodes) k)))) w) (q .flag)
-        (x .is (input-before b fine))
-
-    node-fit : (b : BeforeList cells rows nodes fields widths arows acells (results sr items icells) k l request u) → Fit (nodeWalk b .kept) (fieldsOf (b .standing .C) (planAt (lent cells rows nodes) k))
-    node-fit b = node-kept (b .standing) s k (b .within) false (used-fit (select (b .R) (pendingItems l rows cells arows acells)) (fieldsOf (b .standing .C) (planAt (lent cells rows nodes) k)))
-
-    pub list-fields : BeforeList cells rows nodes fields widths arows acells (results sr items icells) k l request u → FieldsFor fields k (widthAt widths k) w (w .end)
-    list-fields b = by (w .end) (node-end b)
-      where
-        by : (e : End) → EndIs (b .standing .C) (lent cells rows nodes) (b .standing .count) (results sr items₁ icells₁) (results sr₂ items₂ icells₂) (c .used) (nodeWalk b) (w .kept) e → FieldsFor fields k (widthAt widths k) w e
-        by (Done rec n) y = fields-in (b .standing) k (b .within) (y .1) (Fit-length (node-fit b))
-        by Large y = tt
-
-    -- how the kept items are put
-    list-is : (b : BeforeList cells rows nodes fields widths arows acells (results sr items icells) k l request u) (rec : ℕ) (n : Used)
-        → Stands (b .standing .C) (lent cells rows nodes) (b .standing .count) (results sr items₁ icells₁) (results sr₂ items₂ icells₂) (c .used) (nodeWalk b .plan) rec n
-        → (t : Selection) → SelectionIs (select (b .R) (pendingItems l rows cells arows acells)) u items icells items₁ icells₁ (c .used) t
-        → ListIs (b .standing .C) (lent cells rows nodes) (b .standing .count) (results sr₂ items₂ icells₂) (n .rows) (n .cells) fields (l .top) (widthAt widths (l .top)) k (widthAt widths k)
-          (pendingItems l rows cells arows acells) (select (b .R) (pendingItems l rows cells arows acells)) t
-    list-is b rec n y selection.Columns d =
-        record { bare = d .0; node = b .top; fields-are = b .pairs; row = row-is (b .standing) (l .top) (b .top); input-row = row-is (b .standing) k (b .within) }
-    list-is b rec n y (selection.Items row m) d =
-        let ks : List Item = select (b .R) (pendingItems l rows cells arows acells) in
-        let long : length (pendingItems l rows cells arows acells) ≡ l .n = items-length (side (l .scratch) arows rows) (side (l .scratch) acells cells) (l .first) (l .n) in
-        let e = ap (λ (v : Used). v .rows) (d .2) in
-        record {
-          named = d .0;
-          held =
-              held-more
-              (held-grown
-              (subst⁻¹ (λ (x : ℕ). Held (results sr items₁ icells₁) x (c .used .cells) row m ks) e
-              (copies-held sr (d .3) (omega (arith, select-short (b .R) (pendingItems l rows cells arows acells), b .list .few)) (omega (arith, select-sum itemTags (b .R) (pendingItems l rows cells arows acells), b .list .tags))))
-              (y .grown))
-              (n .rows) (n .cells) (y .more .rows) (y .more .cells);
-        }
-
-    pub put-after : {sr₃ : List ℕ} (v : Walked) → ListPut sr₂ sr₃ (c .list) fields (l .top) (widthAt widths (l .top)) request k (widthAt widths k) w v (w .end)
-        → PutAfter s cells rows nodes fields widths arows acells (results sr items icells) (results sr₃ items₂ icells₂) k l request u v
-    put-after {sr₃} v d = record {
-      is = λ b. subst⁻¹ (λ (p : rules.Walked). WalkIs (b .standing .C) (lent cells rows nodes) (b .standing .count) (results sr items icells) (results sr₃ items₂ icells₂) u p v) (list-walk b) (by b (w .end) (node-end b) d);
+    -- there was no room for the items
+    pub copies-large : c .large ≡ true → {w : Walked} → w .end ≡ Large → {r′ : Results} → PutAfter s cells rows nodes fields widths arows acells (results sr items icells) r′ k l request u w
+    copies-large e {w} d {r′} = record {
+      is = λ b.
+          let ks : List Item = select (b .R) (pendingItems l rows cells arows acells) in
+          let t : TakenIs ks u items icells items₁ icells₁ c true =
+          subst (λ (js : List Item). TakenIs js u items icells items₁ icells₁ c true) (kept-is b) (subst (λ (t : Bool). TakenIs (keptPending l request rows cells arows acells) u items icells items₁ icells₁ c t) e (q .taken)) in
+          rw d
+          (subst⁻¹ (λ (v : rules.Walked). EndIs (b .standing .C) (lent cells rows nodes) (b .standing .count) (results sr items icells) r′ u v (w .kept) Large) (list-walk b)
+          (inr (inr (omega (arith, t .1, nodes-tags ks, named-tags (b .standing .C) ks (nodeWalk b .plan) (t .0), b .ready .cells-long)))));
     }
-      where
-        by : (b : BeforeList cells rows nodes fields widths arows acells (results sr items icells) k l request u) (e : End)
-            → EndIs (b .standing .C) (lent cells rows nodes) (b .standing .count) (results sr items₁ icells₁) (results sr₂ items₂ icells₂) (c .used) (nodeWalk b) (w .kept) e
-            → ListPut sr₂ sr₃ (c .list) fields (l .top) (widthAt widths (l .top)) request k (widthAt widths k) w v e
-            → WalkIs (b .standing .C) (lent cells rows nodes) (b .standing .count) (results sr items icells) (results sr₃ items₂ icells₂) u
-              (record { plan = overChild (b .standing .C) (select (b .R) (pendingItems l rows cells arows acells)) (nodeWalk b .plan); kept = b .R; overlong = nodeWalk b .overlong }) v
-        by b (Done rec n) y p =
-            let ks : List Item = select (b .R) (pendingItems l rows cells arows acells) in
-            let g = node-good (b .standing) s k (b .within) false (used-fit ks (fieldsOf (b .standing .C) (planAt (lent cells rows nodes) k))) in
-            over-walk (based (taken-more (b .ready) ks items₁ icells₁ (c .used) (c .list) (chosen b fine)) (taken-records (b .ready) ks items₁ icells₁ (c .used) (c .list) (chosen b fine))
-            (taken-grown (b .ready) ks items₁ icells₁ (c .used) (c .list) (chosen b fine)) (y .0)) sr₃ (overChild (b .standing .C) ks) (p .t) v
-            (omega (arith, y .0 .tags, taken-cells (b .ready) ks items₁ icells₁ (c .used) (c .list) (chosen b fine) (b .standing .C) (nodeWalk b .plan))) (b .asks) (y .2)
-            (p .on-top .covers (b .standing .C) (lent cells rows nodes) (b .standing .count) items₂ icells₂ (n .rows) (n .cells) (nodeWalk b .kept) (b .R) (pendingItems l rows cells arows acells)
-            (narrowed (nodeWalk b) (y .0) (b .within) (node-fit b) (g .kept .fields)) (y .1) (b .asks) (b .fit) (list-is b rec n (y .0) (c .list) (chosen b fine))) (p .over)
-        by b Large y p =
-            let ks : List Item = select (b .R) (pendingItems l rows cells arows acells) in
-            let m = taken-records (b .ready) ks items₁ icells₁ (c .used) (c .list) (chosen b fine) in
-            let t = taken-cells (b .ready) ks items₁ icells₁ (c .used) (c .list) (chosen b fine) (b .standing .C) (nodeWalk b .plan) in
-            rw p (shift (c .used) u (nodeWalk b .overlong) _ _ _ _ m t (child-nodes (b .standing .C) ks (nodeWalk b .plan)) y)
+
+    module _ (fine : c .large ≡ false) {sr₂ items₂ icells₂ : List ℕ} {w : Walked}
+        (x : After s cells rows nodes fields widths (results sr items₁ icells₁) (results sr₂ items₂ icells₂) k (c .ask) (c .used) w) where
+      node-end : (b : BeforeList cells rows nodes fields widths arows acells (results sr items icells) k l request u)
+          → WalkIs (b .standing .C) (lent cells rows nodes) (b .standing .count) (results sr items₁ icells₁) (results sr₂ items₂ icells₂) (c .used) (nodeWalk b) w
+      node-end b =
+          subst (λ (f : Bool).
+          WalkIs (b .standing .C) (lent cells rows nodes) (b .standing .count) (results sr items₁ icells₁) (results sr₂ items₂ icells₂) (c .used)
+          (walk (mergeBy s) (b .standing .C) (planAt (lent cells rows nodes) k) none f
+          (used (map itemExpr (select (b .R) (pendingItems l rows cells arows acells))) (fieldsOf (b .standing .C) (planAt (lent cells rows nodes) k)))) w) (q .flag)
+          (x .is (input-before b fine))
+
+      node-fit : (b : BeforeList cells rows nodes fields widths arows acells (results sr items icells) k l request u) → Fit (nodeWalk b .kept) (fieldsOf (b .standing .C) (planAt (lent cells rows nodes) k))
+      node-fit b = node-kept (b .standing) s k (b .within) false (used-fit (select (b .R) (pendingItems l rows cells arows acells)) (fieldsOf (b .standing .C) (planAt (lent cells rows nodes) k)))
+
+      pub list-fields : BeforeList cells rows nodes fields widths arows acells (results sr items icells) k l request u → FieldsFor fields k (widthAt widths k) w (w .end)
+      list-fields b = by (w .end) (node-end b)
+        where
+          by : (e : End) → EndIs (b .standing .C) (lent cells rows nodes) (b .standing .count) (results sr items₁ icells₁) (results sr₂ items₂ icells₂) (c .used) (nodeWalk b) (w .kept) e → FieldsFor fields k (widthAt widths k) w e
+          by (Done rec n) y = fields-in (b .standing) k (b .within) (y .1) (Fit-length (node-fit b))
+          by Large y = tt
+
+      -- how the kept items are put
+      list-is : (b : BeforeList cells rows nodes fields widths arows acells (results sr items icells) k l request u) (rec : ℕ) (n : Used)
+          → Stands (b .standing .C) (lent cells rows nodes) (b .standing .count) (results sr items₁ icells₁) (results sr₂ items₂ icells₂) (c .used) (nodeWalk b .plan) rec n
+          → (t : Selection) → SelectionIs (select (b .R) (pendingItems l rows cells arows acells)) u items icells items₁ icells₁ (c .used) t
+          → ListIs (b .standing .C) (lent cells rows nodes) (b .standing .count) (results sr₂ items₂ icells₂) (n .rows) (n .cells) fields (l .top) (widthAt widths (l .top)) k (widthAt widths k)
+            (pendingItems l rows cells arows acells) (select (b .R) (pendingItems l rows cells arows acells)) t
+      list-is b rec n y selection.Columns d =
+          record { bare = d .0; node = b .top; fields-are = b .pairs; row = row-is (b .standing) (l .top) (b .top); input-row = row-is (b .standing) k (b .within) }
+      list-is b rec n y (selection.Items row m) d =
+          let ks : List Item = select (b .R) (pendingItems l rows cells arows acells) in
+          let long : length (pendingItems l rows cells arows acells) ≡ l .n = items-length (side (l .scratch) arows rows) (side (l .scratch) acells cells) (l .first) (l .n) in
+          let e = ap (λ (v : Used). v .rows) (d .2) in
+          record {
+            named = d .0;
+            held =
+                held-more
+                (held-grown
+                (subst⁻¹ (λ (x : ℕ). Held (results sr items₁ icells₁) x (c .used .cells) row m ks) e
+                (copies-held sr (d .3) (omega (arith, select-short (b .R) (pendingItems l rows cells arows acells), b .list .few)) (omega (arith, select-sum itemTags (b .R) (pendingItems l rows cells arows acells), b .list .tags))))
+                (y .grown))
+                (n .rows) (n .cells) (y .more .rows) (y .more .cells);
+          }
+
+      pub put-after : {sr₃ : List ℕ} (v : Walked) → ListPut sr₂ sr₃ (c .list) fields (l .top) (widthAt widths (l .top)) request k (widthAt widths k) w v (w .end)
+          → PutAfter s cells rows nodes fields widths arows acells (results sr items icells) (results sr₃ items₂ icells₂) k l request u v
+      put-after {sr₃} v d = record {
+        is = λ b. subst⁻¹ (λ (p : rules.Walked). WalkIs (b .standing .C) (lent cells rows nodes) (b .standing .count) (results sr items icells) (results sr₃ items₂ icells₂) u p v) (list-walk b) (by b (w .end) (node-end b) d);
+      }
+        where
+          by : (b : BeforeList cells rows nodes fields widths arows acells (results sr items icells) k l request u) (e : End)
+              → EndIs (b .standing .C) (lent cells rows nodes) (b .standing .count) (results sr items₁ icells₁) (results sr₂ items₂ icells₂) (c .used) (nodeWalk b) (w .kept) e
+              → ListPut sr₂ sr₃ (c .list) fields (l .top) (widthAt widths (l .top)) request k (widthAt widths k) w v e
+              → WalkIs (b .standing .C) (lent cells rows nodes) (b .standing .count) (results sr items icells) (results sr₃ items₂ icells₂) u
+                (record { plan = overChild (b .standing .C) (select (b .R) (pendingItems l rows cells arows acells)) (nodeWalk b .plan); kept = b .R; overlong = nodeWalk b .overlong }) v
+          by b (Done rec n) y p =
+              let ks : List Item = select (b .R) (pendingItems l rows cells arows acells) in
+              let g = node-good (b .standing) s k (b .within) false (used-fit ks (fieldsOf (b .standing .C) (planAt (lent cells rows nodes) k))) in
+              over-walk (based (taken-more (b .ready) ks items₁ icells₁ (c .used) (c .list) (chosen b fine)) (taken-records (b .ready) ks items₁ icells₁ (c .used) (c .list) (chosen b fine))
+              (taken-grown (b .ready) ks items₁ icells₁ (c .used) (c .list) (chosen b fine)) (y .0)) sr₃ (overChild (b .standing .C) ks) (p .t) v
+              (omega (arith, y .0 .tags, taken-cells (b .ready) ks items₁ icells₁ (c .used) (c .list) (chosen b fine) (b .standing .C) (nodeWalk b .plan))) (b .asks) (y .2)
+              (p .on-top .covers (b .standing .C) (lent cells rows nodes) (b .standing .count) items₂ icells₂ (n .rows) (n .cells) (nodeWalk b .kept) (b .R) (pendingItems l rows cells arows acells)
+              (narrowed (nodeWalk b) (y .0) (b .within) (node-fit b) (g .kept .fields)) (y .1) (b .asks) (b .fit) (list-is b rec n (y .0) (c .list) (chosen b fine))) (p .over)
+          by b Large y p =
+              let ks : List Item = select (b .R) (pendingItems l rows cells arows acells) in
+              let m = taken-records (b .ready) ks items₁ icells₁ (c .used) (c .list) (chosen b fine) in
+              let t = taken-cells (b .ready) ks items₁ icells₁ (c .used) (c .list) (chosen b fine) (b .standing .C) (nodeWalk b .plan) in
+              rw p (shift (c .used) u (nodeWalk b .overlong) _ _ _ _ m t (child-nodes (b .standing .C) ks (nodeWalk b .plan)) y)
