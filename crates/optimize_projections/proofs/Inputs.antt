@@ -93,18 +93,20 @@ module _ (C : Catalogue) (a : Arrays) (count : ℕ) (r r₁ r₂ : Results) (u :
   -- the second, walked after the first
   pub both : (rec : ℕ) (v : Used) → Stands C a count r r₁ u (w₁ .plan) rec v → w₁ .overlong ≡ false → (kept : RequiredIndices) (end : End) → EndIs C a count r₁ r₂ v w₂ kept end
       → TwoIs C a count r r₂ u w₁ w₂ (twoEnd rec end)
-  both rec v x o kept (Done g n) y =
-      (record {
-        first = result-grown C a count (v .records) (v .rows) (v .cells) (y .0 .grown) (x .ready .wf) rec (x .below) ∙ x .plan;
-        first-below = omega (arith, x .below, y .0 .more .records);
-        second = y .0 .plan;
-        second-below = y .0 .below;
-        nodes = omega (arith, x .nodes, y .0 .nodes);
-        tags = omega (arith, x .tags, y .0 .tags);
-        more = more-trans (x .more) (y .0 .more);
-        grown = grown-trans (x .more .records) (x .more .rows) (x .more .cells) (x .grown) (y .0 .grown);
-        ready = y .0 .ready;
-      }, rw (o, y .2) refl)
+  both rec v x o kept (Done g n) y = (
+    record {
+      first = result-grown C a count (v .records) (v .rows) (v .cells) (y .0 .grown) (x .ready .wf) rec (x .below) ∙ x .plan;
+      first-below = omega (arith, x .below, y .0 .more .records);
+      second = y .0 .plan;
+      second-below = y .0 .below;
+      nodes = omega (arith, x .nodes, y .0 .nodes);
+      tags = omega (arith, x .tags, y .0 .tags);
+      more = more-trans (x .more) (y .0 .more);
+      grown = grown-trans (x .more .records) (x .more .rows) (x .more .cells) (x .grown) (y .0 .grown);
+      ready = y .0 .ready;
+    },
+    rw (o, y .2) refl,
+  )
   both rec v x o kept Large y = large-up u _ _ _ _ (λ e. or-second (w₁ .overlong) e) (omega arith) (omega arith) (large-after u v (planNodes (w₁ .plan)) (planTags (w₁ .plan)) (planNodes (w₂ .plan)) (planTags (w₂ .plan)) (x .nodes) (x .tags) y)
 
 one-end : (C : Catalogue) (a : Arrays) (count : ℕ) (r r₁ : Results) (u : Used) (p : rules.Walked) (w : Walked) (i : Inputs) → (oneEnd (i .end) ≡ w .end) × (i .kept ≡ w .kept)

@@ -269,7 +269,7 @@ module _ {cells rows nodes fields widths arows acells sr items icells : List ℕ
           → Stands (b .standing .C) (lent cells rows nodes) (b .standing .count) (results sr items₁ icells₁) (results sr₂ items₂ icells₂) (c .used) (nodeWalk b .plan) rec n
           → (t : Selection) → SelectionIs (select (b .R) (pendingItems l rows cells arows acells)) u items icells items₁ icells₁ (c .used) t
           → ListIs (b .standing .C) (lent cells rows nodes) (b .standing .count) (results sr₂ items₂ icells₂) (n .rows) (n .cells) fields (l .top) (widthAt widths (l .top)) k (widthAt widths k)
-            (pendingItems l rows cells arows acells) (select (b .R) (pendingItems l rows cells arows acells)) t
+          (pendingItems l rows cells arows acells) (select (b .R) (pendingItems l rows cells arows acells)) t
       list-is b rec n y selection.Columns d =
           record { bare = d .0; node = b .top; fields-are = b .pairs; row = row-is (b .standing) (l .top) (b .top); input-row = row-is (b .standing) k (b .within) }
       list-is b rec n y (selection.Items row m) d =
@@ -297,7 +297,7 @@ module _ {cells rows nodes fields widths arows acells sr items icells : List ℕ
               → EndIs (b .standing .C) (lent cells rows nodes) (b .standing .count) (results sr items₁ icells₁) (results sr₂ items₂ icells₂) (c .used) (nodeWalk b) (w .kept) e
               → ListPut sr₂ sr₃ (c .list) fields (l .top) (widthAt widths (l .top)) request k (widthAt widths k) w v e
               → WalkIs (b .standing .C) (lent cells rows nodes) (b .standing .count) (results sr items icells) (results sr₃ items₂ icells₂) u
-                (record { plan = overChild (b .standing .C) (select (b .R) (pendingItems l rows cells arows acells)) (nodeWalk b .plan); kept = b .R; overlong = nodeWalk b .overlong }) v
+              (record { plan = overChild (b .standing .C) (select (b .R) (pendingItems l rows cells arows acells)) (nodeWalk b .plan); kept = b .R; overlong = nodeWalk b .overlong }) v
           by b (Done rec n) y p =
               let ks : List Item = select (b .R) (pendingItems l rows cells arows acells) in
               let g = node-good (b .standing) s k (b .within) false (used-fit ks (fieldsOf (b .standing .C) (planAt (lent cells rows nodes) k))) in

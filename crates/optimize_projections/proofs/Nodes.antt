@@ -65,8 +65,11 @@ module _ (C : Catalogue) (a : Arrays) (count k : ℕ) (node : Node) (b : Bool) (
       record {
         Q = leftAsk (x .h) (fieldsOf C (planAt a (k + 1))) (fieldsOf C (planAt a right)) R;
         P = rightAsk (x .h) (fieldsOf C (planAt a (k + 1))) (fieldsOf C (planAt a right)) R;
-        asked = (record { within = omega (arith, x .inputs .after, x .inputs .below); fit = x .job .fit; asks = x .job .asks },
-        record { within = x .inputs .below; fit = x .job .second-fit; asks = x .job .second-asks }, omega (arith, x .inputs .after));
+        asked = (
+          record { within = omega (arith, x .inputs .after, x .inputs .below); fit = x .job .fit; asks = x .job .asks },
+          record { within = x .inputs .below; fit = x .job .second-fit; asks = x .job .second-asks },
+          omega (arith, x .inputs .after),
+        );
       }
 
   pub left : (t : Todo) → AtNode C a count k node b R j t → LeftFor j t
@@ -186,7 +189,7 @@ module _ (M : Merge) (C : Catalogue) (a : Arrays) (count : ℕ) (r : Results) (s
 
   at-two : (right : ℕ) (x : AtTwo C a count k node R right j) (end : Ends)
       → TwoIs C a count r (results s items cells) u (inputWalk M C (planAt a (k + 1)) (flagOf (j .ask)) true (leftAsk (x .h) (fieldsOf C (planAt a (k + 1))) (fieldsOf C (planAt a right)) R))
-        (inputWalk M C (planAt a right) (flagOf (j .second)) true (rightAsk (x .h) (fieldsOf C (planAt a (k + 1))) (fieldsOf C (planAt a right)) R)) end
+      (inputWalk M C (planAt a right) (flagOf (j .second)) true (rightAsk (x .h) (fieldsOf C (planAt a (k + 1))) (fieldsOf C (planAt a right)) R)) end
       → NodePut s s′ k j i w end (todos.Two right) → WalkIs C a count r (results s′ items cells) u (walk M C (planAt a k) none b R) w
   at-two right x end y d =
       two-by right x end

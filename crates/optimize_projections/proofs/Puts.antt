@@ -46,21 +46,24 @@ module _ (C : Catalogue) (a : Arrays) (count : ℕ) (r : Results) (s items cells
   pub put-walk : (end : End) → PutAs s s′ v x set end → EndIs C a count r (results s′ items cells) u w kept end
   put-walk (Done i m) p =
       let room : v .records * recordN + recordN ≤ length s = omega (arith, b .ready .records-long, p .2) in
-      rw (p .0, p .1)
-      (record {
-        plan = pushed-result (b .ready .wf) room (p .3) ok ∙ means;
-        below = omega arith;
-        nodes = omega (arith, b .nodes);
-        tags = omega (arith, b .tags);
-        more = record { records = omega (arith, b .more .records); rows = b .more .rows; cells = b .more .cells };
-        grown = grown-trans (b .more .records) (b .more .rows) (b .more .cells) (b .grown) (pushed-grown (b .ready .wf) room (p .3) ok);
-        ready = record {
-          wf = pushed-wf (b .ready .wf) room (p .3) ok;
-          records-long = omega (arith, b .ready .records-long, p .3 .kept .long);
-          cells-long = b .ready .cells-long;
-          room = b .ready .room;
-        };
-      }, asks, fine)
+      rw (p .0, p .1) (
+        record {
+          plan = pushed-result (b .ready .wf) room (p .3) ok ∙ means;
+          below = omega arith;
+          nodes = omega (arith, b .nodes);
+          tags = omega (arith, b .tags);
+          more = record { records = omega (arith, b .more .records); rows = b .more .rows; cells = b .more .cells };
+          grown = grown-trans (b .more .records) (b .more .rows) (b .more .cells) (b .grown) (pushed-grown (b .ready .wf) room (p .3) ok);
+          ready = record {
+            wf = pushed-wf (b .ready .wf) room (p .3) ok;
+            records-long = omega (arith, b .ready .records-long, p .3 .kept .long);
+            cells-long = b .ready .cells-long;
+            room = b .ready .room;
+          };
+        },
+        asks,
+        fine,
+      )
   put-walk Large p = inr (inl (omega (arith, b .nodes, p .0)))
 
 -- ── the rules at a node ─────────────────────────────────────────────────────────────────────

@@ -94,7 +94,7 @@ pub record Before (cells rows nodes fields widths : List ℕ) (r : Results) (k :
 pub record After (s : Settings) (cells rows nodes fields widths : List ℕ) (r r′ : Results) (k : ℕ) (request : RequiredIndices) (u : Used) (w : Walked) : Type 0 where
   pub is : (b : Before cells rows nodes fields widths r k request u)
       → WalkIs (b .standing .C) (lent cells rows nodes) (b .standing .count) r r′ u
-        (walk (mergeBy s) (b .standing .C) (planAt (lent cells rows nodes) k) none (flagOf request) (b .R)) w
+      (walk (mergeBy s) (b .standing .C) (planAt (lent cells rows nodes) k) none (flagOf request) (b .R)) w
 
 -- ── an input, asked for R and topped up where that is wanted ────────────────────────────────
 
@@ -106,7 +106,7 @@ inputWalk M C p b topped R =
 pub record InputAfter (s : Settings) (cells rows nodes fields widths : List ℕ) (r r′ : Results) (k : ℕ) (request : RequiredIndices) (topped : Bool) (u : Used) (w : Walked) : Type 0 where
   pub is : (b : Before cells rows nodes fields widths r k request u)
       → WalkIs (b .standing .C) (lent cells rows nodes) (b .standing .count) r r′ u
-        (inputWalk (mergeBy s) (b .standing .C) (planAt (lent cells rows nodes) k) (flagOf request) topped (b .R)) w
+      (inputWalk (mergeBy s) (b .standing .C) (planAt (lent cells rows nodes) k) (flagOf request) topped (b .R)) w
 
 -- ── a node with a projection still to be put on top, asked for R ────────────────────────────
 
@@ -125,14 +125,14 @@ pub record BeforeList (cells rows nodes fields widths arows acells : List ℕ) (
 pub record ListAfter (s : Settings) (cells rows nodes fields widths arows acells : List ℕ) (r r′ : Results) (k : ℕ) (l : Pending) (request : RequiredIndices) (u : Used) (w : Walked) : Type 0 where
   pub is : (b : BeforeList cells rows nodes fields widths arows acells r k l request u)
       → WalkIs (b .standing .C) (lent cells rows nodes) (b .standing .count) r r′ u
-        (walk (mergeBy s) (b .standing .C) (planAt (lent cells rows nodes) k) (some (pendingItems l rows cells arows acells)) (flagOf request) (b .R)) w
+      (walk (mergeBy s) (b .standing .C) (planAt (lent cells rows nodes) k) (some (pendingItems l rows cells arows acells)) (flagOf request) (b .R)) w
 
 -- put over node k as it is: no step of merging applies
 pub record PutAfter (s : Settings) (cells rows nodes fields widths arows acells : List ℕ) (r r′ : Results) (k : ℕ) (l : Pending) (request : RequiredIndices) (u : Used) (w : Walked) : Type 0 where
   pub is : (b : BeforeList cells rows nodes fields widths arows acells r k l request u)
       → WalkIs (b .standing .C) (lent cells rows nodes) (b .standing .count) r r′ u
-        (rules.pend (b .standing .C) (some (pendingItems l rows cells arows acells)) (fieldsOf (b .standing .C) (planAt (lent cells rows nodes) k))
-        (walk (mergeBy s) (b .standing .C) (planAt (lent cells rows nodes) k) none) (flagOf request) (b .R)) w
+      (rules.pend (b .standing .C) (some (pendingItems l rows cells arows acells)) (fieldsOf (b .standing .C) (planAt (lent cells rows nodes) k))
+      (walk (mergeBy s) (b .standing .C) (planAt (lent cells rows nodes) k) none) (flagOf request) (b .R)) w
 
 -- ── the inputs of a node, as its job asks ───────────────────────────────────────────────────
 
