@@ -2,3 +2,4 @@
 pub mod Pieces
 pub mod Numbers
 pub mod Stores
+pub mod Samples

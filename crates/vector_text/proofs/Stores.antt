@@ -3,14 +3,13 @@ use mathlib.Core.Path.{_≡_, refl, sym, ap, ap₂, subst, _∙_}
 use mathlib.Core.Bool.{Bool, true, false, cond}
 use mathlib.Core.List.{List, [], _∷_, _++_, append-assoc, append-nil}
 use mathlib.Core.Option.{Option, none, some}
-use Prim.Native.Nat.{ℕ, zero, suc, _+_, _-_, _<_, _≤_}
+use Prim.Native.Nat.{ℕ, suc, _+_, _-_, _<_, _≤_}
 use native.Mathlib.Numerals.{add-one}
 use native.Mathlib.Omega.{arith}
 use borrow.Author.Tests.{eqb-true, le-ltb, lt-ltb, ltb-false, ltb-true}
 use lib.Dec.{eqb, ltb}
-use lib.ListN.{drop, drop-of-length-le, getD, length, length-append, length-drop, length-set, set, take, take-append-drop}
+use lib.ListN.{drop, drop-of-length-le, getD, length, length-append, length-set, set, take, take-append-drop}
 use lib.Seq.{drop-cons, drop-drop, drop-set-lt, length-take-le, take-suc-set}
-use Rattle.vector_text.specs.declared.Parsed.{Parsed}
 use Rattle.vector_text.specs.declared.Parsed.the-variants.{Number, Not}
 use Rattle.vector_text.specs.Answers.{Stored}
 use Rattle.vector_text.specs.Text.{before, both, byteOf, bytesOf, dash, listOf, onto, pairs, pieces, shortOf, shorts}
@@ -47,7 +46,8 @@ module _ {all : Option (List ℕ)} {s s′ : List ℕ} {n : ℕ} where
     long = length-set s′ n x ∙ p .long;
     upto = omega (arith, p .long);
     kept = drop-set-lt (n + 1) s′ n x (omega arith) ∙ next;
-    same = ap (λ j. onto (take j (set s′ n x)) o) (add-one n) ∙ ap (λ xs. onto xs o) (take-suc-set s′ n x h) ∙ sym (onto-next (take n s′) x o) ∙ p .same;
+    same = ap (λ j. onto (take j (set s′ n x)) o) (add-one n) ∙ ap (λ xs. onto xs o) (take-suc-set s′ n x h)
+        ∙ sym (onto-next (take n s′) x o) ∙ p .same;
   }
     where
       next : drop (n + 1) s′ ≡ drop (n + 1) s
@@ -65,6 +65,7 @@ module _ {all : Option (List ℕ)} {s s′ : List ℕ} {n : ℕ} where
     where
       m : length (take n s′) ≡ n
       m = length-take-le n s′ (omega (arith, p .long, p .upto))
+
       go : (u : Option (List ℕ)) → Stored (onto (take n s′) (onto (x ∷ []) u)) s s″ Not
       go none = tt
       go (some ys) = omega (arith, length-append (take n s′) (x ∷ ys), m, p .long)

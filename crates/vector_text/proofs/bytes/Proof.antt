@@ -128,4 +128,8 @@ returns-6 c =
     bytes-all _ _ _ _ _ (loop .inv) (loop-test .left)
 
 pub bytes-spec : {M : Type 1} → statement M
-bytes-spec = tie.close (tie.spec Inv-loop μ-loop slice-aggregate-same same-requires returns returns-2 loop-holds sub-if3 same-length returns-3 shared-slice-read-hex add-hex shared-slice-read-hex-2 hex-requires enum-known-x enum-told same-length-2 returns-4 same-length-3 returns-5 slice-write-out add-n add-from loop-less loop-again same-length-4 returns-6)
+bytes-spec =
+    tie.close
+    (tie.spec Inv-loop μ-loop slice-aggregate-same same-requires returns returns-2 loop-holds sub-if3 same-length returns-3 shared-slice-read-hex
+    add-hex shared-slice-read-hex-2 hex-requires enum-known-x enum-told same-length-2 returns-4 same-length-3 returns-5 slice-write-out add-n add-from
+    loop-less loop-again same-length-4 returns-6)

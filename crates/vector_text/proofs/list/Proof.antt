@@ -114,4 +114,7 @@ loop-again c =
     listed-more _ _ _ (find .ensures .0) (find .ensures .2) _ _ _ (loop .inv) _ (rw (x .given .1) at (short .ensures)) (if2 .left) (if3 .left)
 
 pub list-spec : {M : Type 1} → statement M
-list-spec = tie.close (tie.spec Inv-loop μ-loop slice-aggregate-same same-requires returns loop-holds find-requires short-requires enum-known-x enum-told same-length returns-2 same-length-2 returns-3 mul-out slice-write-out add-n same-length-3 returns-4 add-from loop-less loop-again)
+list-spec =
+    tie.close
+    (tie.spec Inv-loop μ-loop slice-aggregate-same same-requires returns loop-holds find-requires short-requires enum-known-x enum-told same-length
+    returns-2 same-length-2 returns-3 mul-out slice-write-out add-n same-length-3 returns-4 add-from loop-less loop-again)

@@ -73,4 +73,7 @@ returns-4 c =
     counted-all _ _ _ (loop .inv) (loop-test .left)
 
 pub number-spec : {M : Type 1} → statement M
-number-spec = tie.close (tie.spec Inv-loop μ-loop returns loop-holds shared-slice-read-digit digit-requires returns-2 returns-3 mul-value add-value add-i loop-less loop-again returns-4)
+number-spec =
+    tie.close
+    (tie.spec Inv-loop μ-loop returns loop-holds shared-slice-read-digit digit-requires returns-2 returns-3 mul-value add-value add-i loop-less
+    loop-again returns-4)
