@@ -7,7 +7,7 @@ ghost use lib.ListN.{drop, length, take};
 ghost use Rattle.vector_text.specs.Answers.{byte, index, parsed, Stored};
 ghost use Rattle.vector_text.specs.Text.{before, byteOf, bytesOf, digitOf, fieldOf, listOf, numberOf, shortOf};
 
-/// A number, or how many things were stored; or the text is not of the form that was asked for.
+/// A number, or how many things were stored; or the text is not of the form that was asked for, or there is no room for all.
 pub enum Parsed {
     Number(usize),
     Not,
@@ -163,7 +163,7 @@ fn hex(high: u8, low: u8) -> Byte
     Byte::Is((h * 16 + l) as u8)
 }
 
-/// Bytes of two hexadecimal digits each, or `-` for none: stored at the front of `out`, which must have room for all.
+/// Bytes of two hexadecimal digits each, one at least, or `-` for none: stored at the front of `out`, which must have room for all.
 pub fn bytes(text: &[u8], out: &mut [u8]) -> Parsed
     ensures { λ r. ⌜ Stored (bytesOf (now (text .entry))) (now (out .entry)) (now (out .exit)) r ⌝ }
 {
