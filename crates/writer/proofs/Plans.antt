@@ -5,6 +5,7 @@ use mathlib.Core.List.{List, _++_, append-assoc}
 use Prim.Native.Nat.{ℕ, zero, suc, _+_, _*_, _-_, _^_, _<_, _≤_}
 use native.Mathlib.Omega.{arith}
 use lib.ListN.{length, take, drop, length-append}
+use lib.Seq.{take-all}
 use Rattle.cpl.specs.Bytes.{planBytes}
 use Rattle.cpl.specs.Exprs.{planNodes, planTags}
 use Rattle.cpl.specs.Limits.{maxNodes}
@@ -20,7 +21,7 @@ use Rattle.result.specs.Records.{InputsBelow, RecordOk, firstOf, recordAt, resu
 use Rattle.result.specs.declared.Record.{Record}
 use Rattle.result.specs.declared.Record.the-variants.{Kept, Columns, Items, Nothing}
 use Rattle.result.proofs.Steps.{result-step}
-use Rattle.writer_parts.specs.Wrote.{Countable, Counts, Wrote}
+use Rattle.writer_parts.specs.Wrote.{Countable, Counts, Wrote, over}
 use Rattle.writer_parts.specs.declared.Size.{Size}
 use Rattle.writer_parts.proofs.Over.{part, so}
 use Rattle.writer.specs.Plans.{Taken, Writes, cellsOf, headTags, inputsOf, nodeInputs, planHead, planOf, recordShape, rowsOf}
@@ -222,6 +223,13 @@ module _ {P : Plan} {xs : List ℕ} where
       o₂ ≡ take a o₁ ++ (ys ++ drop (length o₁ - a) (drop a o₁)) → Wrote (planBytes q) (take (length o₂ - (a + m)) (drop (a + m) o₂)) n zs →
       Wrote (planBytes P) xs (a + m + n) (take (a + m) o₂ ++ (zs ++ drop (length o₂ - (a + m)) (drop (a + m) o₂)))
   joins-wrote {p} {q} o u v e t = so (part (rw (sym e) at (part u v)) t) (append-assoc (planHead P) (planBytes p) (planBytes q) ∙ sym (o .bytes-are)) refl
+
+-- the start of a file was copied
+pub copy-wrote : {xs out : List ℕ} {a : ℕ} (start : ℕ) (file : List ℕ) → a ≡ length (take start file) →
+    out ≡ take (length (take start file)) (take start file) ++ drop (length (take start file)) xs → Wrote (take start file) xs a out
+unfolding over
+copy-wrote {xs} start file e d =
+    record { long = e; ends = d ∙ ap (λ (ys : List ℕ). ys ++ drop (length (take start file)) xs) (take-all (length (take start file)) (take start file) (omega arith)) }
 
 module _ {P : Plan} where
   pub alone-length : Alone P → length (planBytes P) ≡ length (planHead P)
