@@ -1,6 +1,7 @@
 -- A rewritten plan, record by record: the head of a record's node, the records of its inputs, and when code can write the plan.
 use mathlib.Core.Bool.{true, false}
 use mathlib.Core.List.{List}
+use mathlib.Core.Path.{_≡_}
 use Prim.Native.Nat.{ℕ, _*_, _^_, _<_, _≤_}
 use Rattle.cpl.specs.Bytes.{binaryBytes, leafBytes, unaryBytes}
 use Rattle.cpl.specs.Exprs.{binaryTags, planNodes, unaryTags}
@@ -13,13 +14,14 @@ use Rattle.tree.specs.declared.Node.the-variants.{Projection, Filter, Sort, Lim
 use Rattle.lookup.specs.Fields.{widthAt}
 use Rattle.lookup.specs.Standing.{Standing}
 use Rattle.result.specs.Result.{resultAt}
-use Rattle.result.specs.Records.{WfResults, results}
+use Rattle.result.specs.Records.{WfResults, recordAt, results}
 use Rattle.result.specs.declared.Record.{Record}
 use Rattle.result.specs.declared.Record.the-variants.{Kept, Columns, Items}
 use Rattle.result.specs.declared.Record.the-variants as records
 use Rattle.writer_parts.specs.declared.Part.the-variants.{Field, Item}
 use Rattle.writer.specs.declared.Inputs.{Inputs}
-use Rattle.writer.specs.declared.Inputs.the-variants.{Leaf, One, Two}
+use Rattle.writer.specs.declared.Inputs.the-variants.{Leaf, Over}
+use Rattle.writer.specs.declared.Second.the-variants as seconds
 use Rattle.writer.specs.declared.Segment.the-variants.{Nothing}
 use Rattle.writer.specs.declared.Segment.the-variants as segments
 use Rattle.writer.specs.declared.Shape.{Shape}
@@ -68,24 +70,30 @@ cellsOf cells icells (Items row n f) = icells
 cellsOf cells icells records.Nothing = cells
 
 -- the records of its inputs
+abbrev pub oneInput : ℕ → Inputs
+oneInput f = Over f seconds.Nothing
+
+abbrev pub twoInputs : (first second : ℕ) → Inputs
+twoInputs f g = Over f (seconds.At g)
+
 abbrev pub nodeInputs : Node → (first second : ℕ) → Inputs
-nodeInputs (Projection r n) f g = One f
-nodeInputs (Filter r) f g = One f
-nodeInputs (Sort r n) f g = One f
-nodeInputs (Limit s n) f g = One f
-nodeInputs (Aggregate r m n) f g = One f
-nodeInputs (Window r n) f g = One f
-nodeInputs (SubqueryAlias q) f g = One f
-nodeInputs (Union r) f g = Two f g
-nodeInputs Distinct f g = One f
-nodeInputs (Join j) f g = Two f g
+nodeInputs (Projection r n) f g = oneInput f
+nodeInputs (Filter r) f g = oneInput f
+nodeInputs (Sort r n) f g = oneInput f
+nodeInputs (Limit s n) f g = oneInput f
+nodeInputs (Aggregate r m n) f g = oneInput f
+nodeInputs (Window r n) f g = oneInput f
+nodeInputs (SubqueryAlias q) f g = oneInput f
+nodeInputs (Union r) f g = twoInputs f g
+nodeInputs Distinct f g = oneInput f
+nodeInputs (Join j) f g = twoInputs f g
 nodeInputs (Scan s) f g = Leaf
 nodeInputs (Empty b r n) f g = Leaf
 
 abbrev pub inputsOf : (nodes : List ℕ) → Record → Inputs
 inputsOf nodes (Kept old f g) = nodeInputs (nodeAt nodes old) f g
-inputsOf nodes (Columns old f) = One f
-inputsOf nodes (Items row n f) = One f
+inputsOf nodes (Columns old f) = oneInput f
+inputsOf nodes (Items row n f) = oneInput f
 inputsOf nodes records.Nothing = Leaf
 
 -- ── plans that code can write ───────────────────────────────────────────────────────────────
@@ -102,4 +110,12 @@ pub record Writes (cells rows nodes fields widths records items icells : List �
 
 -- the plan of that record
 abbrev pub planOf : {cells rows nodes fields widths records items icells : List ℕ} {i : ℕ} → Writes cells rows nodes fields widths records items icells i → Plan
-planOf {cells} {rows} {nodes} {fields} {widths} {records} {items} {icells} {i} w = resultAt (w .standing .C) (lent cells rows nodes) (results records items icells) i
+planOf {cells} {rows} {nodes} {fields} {widths} {records} {items} {icells} {i} w =
+    resultAt (w .standing .C) (lent cells rows nodes) (results records items icells) i
+
+-- a shape that is the head of such a record, whatever nodes and widths it was made from
+pub record Shaped (shape : Shape) (cells rows fields records items icells : List ℕ) (i : ℕ) : Type 0 where
+  pub nodes : List ℕ
+  pub widths : List ℕ
+  pub writes : Writes cells rows nodes fields widths records items icells i
+  pub shape-is : shape ≡ recordShape nodes widths (recordAt records i)

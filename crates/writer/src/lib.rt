@@ -21,7 +21,7 @@ ghost use Rattle.result.specs.Records.{recordAt};
 ghost use Rattle.result.specs.Result.{recordN};
 ghost use Rattle.tree.specs.Node.{joinIs};
 ghost use Rattle.writer_parts.specs.Wrote.{Countable, Counts, Wrote};
-ghost use Rattle.writer.specs.Plans.{headTags, inputsOf, nodeInputs, planHead, planOf, recordShape, Taken, Writes};
+ghost use Rattle.writer.specs.Plans.{headTags, inputsOf, nodeInputs, oneInput, planHead, planOf, recordShape, Shaped, Taken, twoInputs, Writes};
 ghost use Rattle.writer.specs.Shapes.{emptyShape, headShape, joinShape, scanShape, segBytes, SegOk, segTags, shapeBytes, shapeOf, ShapeOk, shapeTags, Sums};
 
 /// A part of a node's head that is no number of a known width: a list with its count byte, all of it or at the set; windows at the set;
@@ -321,11 +321,16 @@ pub fn shape_size(shape: Shape, rows: &[u16], cells: &[u64], set: RequiredIndice
     )
 }
 
-/// The records of a node's inputs: none, one, two.
-pub enum Inputs {
+// The record of a node's second input, if it has one.
+enum Second {
+    Nothing,
+    At(usize),
+}
+
+// The records of a node's inputs, if it has any.
+enum Inputs {
     Leaf,
-    One(usize),
-    Two(usize, usize),
+    Over { first: usize, second: Second },
 }
 
 fn width_at(widths: &[u64], k: usize) -> usize
@@ -337,11 +342,13 @@ fn width_at(widths: &[u64], k: usize) -> usize
     0
 }
 
-// The head of a record's node: the node that it keeps, the columns of an old node's fields, items, the one-row Empty with no fields.
-fn record_shape(form: Record, nodes: &[u64], widths: &[u64]) -> Shape
-    requires { ⌜ Taken (now nodes) form ⌝ }
-    ensures { λ r. ⌜ r ≡ recordShape (now (nodes .entry)) (now (widths .entry)) form ⌝ }
+// The head of record `i`: of the node that it keeps, the columns of an old node's fields, items, the one-row Empty with no fields.
+fn shape_at(nodes: &[u64], widths: &[u64], records: &[u64], i: usize) -> Shape
+    requires { ⌜ i * recordN + recordN ≤ length (now records) ⌝ }
+    requires { ⌜ Taken (now nodes) (recordAt (now records) i) ⌝ }
+    ensures { λ r. ⌜ r ≡ recordShape (now (nodes .entry)) (now (widths .entry)) (recordAt (now (records .entry)) i) ⌝ }
 {
+    let form = result::record_at(records, i);
     match form {
         Record::Kept {
             old,
@@ -367,25 +374,43 @@ fn record_shape(form: Record, nodes: &[u64], widths: &[u64]) -> Shape
     }
 }
 
+fn one_input(first: usize) -> Inputs
+    ensures { λ r. ⌜ r ≡ oneInput first ⌝ }
+{
+    Inputs::Over {
+        first,
+        second: Second::Nothing,
+    }
+}
+
+fn two_inputs(first: usize, second: usize) -> Inputs
+    ensures { λ r. ⌜ r ≡ twoInputs first second ⌝ }
+{
+    Inputs::Over {
+        first,
+        second: Second::At(second),
+    }
+}
+
 // The inputs of a node that is kept, by the numbers of its record.
 fn node_inputs(node: Node, first: usize, second: usize) -> Inputs
     ensures { λ r. ⌜ r ≡ nodeInputs node first second ⌝ }
 {
     match node {
-        Node::Projection { first: _, n: _ } => Inputs::One(first),
-        Node::Filter { root: _ } => Inputs::One(first),
-        Node::Sort { first: _, n: _ } => Inputs::One(first),
-        Node::Limit { skip: _, fetch: _ } => Inputs::One(first),
+        Node::Projection { first: _, n: _ } => one_input(first),
+        Node::Filter { root: _ } => one_input(first),
+        Node::Sort { first: _, n: _ } => one_input(first),
+        Node::Limit { skip: _, fetch: _ } => one_input(first),
         Node::Aggregate {
             first: _,
             groups: _,
             aggregates: _,
-        } => Inputs::One(first),
-        Node::Window { first: _, n: _ } => Inputs::One(first),
-        Node::SubqueryAlias { qualifier: _ } => Inputs::One(first),
-        Node::Union { right: _ } => Inputs::Two(first, second),
-        Node::Distinct => Inputs::One(first),
-        Node::Join(_) => Inputs::Two(first, second),
+        } => one_input(first),
+        Node::Window { first: _, n: _ } => one_input(first),
+        Node::SubqueryAlias { qualifier: _ } => one_input(first),
+        Node::Union { right: _ } => two_inputs(first, second),
+        Node::Distinct => one_input(first),
+        Node::Join(_) => two_inputs(first, second),
         Node::Scan(_) => Inputs::Leaf,
         Node::Empty {
             one_row: _,
@@ -403,36 +428,40 @@ fn kids(nodes: &[u64], records: &[u64], i: usize) -> Inputs
 {
     let form = result::record_at(records, i);
     match form {
-        Record::Kept { old, first, second } => node_inputs(tree::node_at(nodes, old), first, second),
-        Record::Columns { old: _, first } => Inputs::One(first),
+        Record::Kept { old, first, second } => {
+            let node = tree::node_at(nodes, old);
+            node_inputs(node, first, second)
+        }
+        Record::Columns { old: _, first } => one_input(first),
         Record::Items {
             row: _,
             count: _,
             first,
-        } => Inputs::One(first),
+        } => one_input(first),
         Record::Nothing => Inputs::Leaf,
     }
 }
 
-// The head of record `i`. Its parts stand in the old plan's rows, in the fields, or in the result's own rows.
+// The head of record `i`, which is `shape`. Its parts stand in the old plan's rows, in the fields, or in the result's own rows.
 fn write_head(
+    shape: Shape,
     cells: &[u64],
     rows: &[u16],
-    nodes: &[u64],
     fields: &[u16],
-    widths: &[u64],
     records: &[u64],
     items: &[u16],
     icells: &[u64],
     i: usize,
     out: &mut [u8],
 ) -> usize
-    requires { ⌜ ((w : Writes (now cells) (now rows) (now nodes) (now fields) (now widths) (now records) (now items) (now icells) i) × (length (planHead (planOf w)) ≤ length (now out))) ⌝ }
-    ensures { λ r. ⌜ ((w : Writes (now (cells .entry)) (now (rows .entry)) (now (nodes .entry)) (now (fields .entry)) (now (widths .entry)) (now (records .entry)) (now (items .entry)) (now (icells .entry)) i) → Wrote (planHead (planOf w)) (now (out .entry)) r (now (out .exit))) ⌝ }
+    requires { ⌜ ((s : Shaped shape (now cells) (now rows) (now fields) (now records) (now items) (now icells) i)
+        × (length (planHead (planOf (s .writes))) ≤ length (now out))) ⌝ }
+    ensures { λ r. ⌜ ((s : Shaped shape (now (cells .entry)) (now (rows .entry)) (now (fields .entry)) (now (records .entry)) (now (items .entry))
+        (now (icells .entry)) i)
+        → Wrote (planHead (planOf (s .writes))) (now (out .entry)) r (now (out .exit))) ⌝ }
 {
     let set = result::set_at(records, i);
     let form = result::record_at(records, i);
-    let shape = record_shape(form, nodes, widths);
     match form {
         Record::Kept {
             old: _,
@@ -450,22 +479,22 @@ fn write_head(
 }
 
 fn head_size(
+    shape: Shape,
     cells: &[u64],
     rows: &[u16],
-    nodes: &[u64],
     fields: &[u16],
-    widths: &[u64],
     records: &[u64],
     items: &[u16],
     icells: &[u64],
     i: usize,
 ) -> Size
-    requires { ⌜ Writes (now cells) (now rows) (now nodes) (now fields) (now widths) (now records) (now items) (now icells) i ⌝ }
-    ensures { λ r. ⌜ ((w : Writes (now (cells .entry)) (now (rows .entry)) (now (nodes .entry)) (now (fields .entry)) (now (widths .entry)) (now (records .entry)) (now (items .entry)) (now (icells .entry)) i) → Counts (length (planHead (planOf w))) (headTags (planOf w)) r) ⌝ }
+    requires { ⌜ Shaped shape (now cells) (now rows) (now fields) (now records) (now items) (now icells) i ⌝ }
+    ensures { λ r. ⌜ ((s : Shaped shape (now (cells .entry)) (now (rows .entry)) (now (fields .entry)) (now (records .entry)) (now (items .entry))
+        (now (icells .entry)) i)
+        → Counts (length (planHead (planOf (s .writes)))) (headTags (planOf (s .writes))) r) ⌝ }
 {
     let set = result::set_at(records, i);
     let form = result::record_at(records, i);
-    let shape = record_shape(form, nodes, widths);
     match form {
         Record::Kept {
             old: _,
@@ -495,22 +524,43 @@ pub fn node_size(
     i: usize,
 ) -> Size
     requires { ⌜ Writes (now cells) (now rows) (now nodes) (now fields) (now widths) (now records) (now items) (now icells) i ⌝ }
-    ensures { λ r. ⌜ ((w : Writes (now (cells .entry)) (now (rows .entry)) (now (nodes .entry)) (now (fields .entry)) (now (widths .entry)) (now (records .entry)) (now (items .entry)) (now (icells .entry)) i) → Counts (length (planBytes (planOf w))) (planTags (planOf w)) r) ⌝ }
+    ensures { λ r. ⌜ ((w : Writes (now (cells .entry)) (now (rows .entry)) (now (nodes .entry)) (now (fields .entry)) (now (widths .entry))
+        (now (records .entry)) (now (items .entry)) (now (icells .entry)) i)
+        → Counts (length (planBytes (planOf w))) (planTags (planOf w)) r) ⌝ }
 {
-    let head = head_size(cells, rows, nodes, fields, widths, records, items, icells, i);
+    let shape = shape_at(nodes, widths, records, i);
+    let head = head_size(shape, cells, rows, fields, records, items, icells, i);
     let inputs = kids(nodes, records, i);
-    match inputs {
-        Inputs::Leaf => head,
-        Inputs::One(f) => {
-            let a = node_size(cells, rows, nodes, fields, widths, records, items, icells, f);
-            writer_parts::both(head, a)
-        }
-        Inputs::Two(f, g) => {
-            let a = node_size(cells, rows, nodes, fields, widths, records, items, icells, f);
-            let b = node_size(cells, rows, nodes, fields, widths, records, items, icells, g);
-            writer_parts::both(head, writer_parts::both(a, b))
-        }
-    }
+    let Inputs::Over { first, second } = inputs else {
+        return head;
+    };
+    let a = node_size(
+        cells,
+        rows,
+        nodes,
+        fields,
+        widths,
+        records,
+        items,
+        icells,
+        first,
+    );
+    let sum = writer_parts::both(head, a);
+    let Second::At(other) = second else {
+        return sum;
+    };
+    let b = node_size(
+        cells,
+        rows,
+        nodes,
+        fields,
+        widths,
+        records,
+        items,
+        icells,
+        other,
+    );
+    writer_parts::both(sum, b)
 }
 
 /// The bytes of the plan of record `i` at the start of out; their number. The head is written, and each input is lent the rest.
@@ -526,24 +576,47 @@ pub fn write_node(
     i: usize,
     out: &mut [u8],
 ) -> usize
-    requires { ⌜ ((w : Writes (now cells) (now rows) (now nodes) (now fields) (now widths) (now records) (now items) (now icells) i) × (length (planBytes (planOf w)) ≤ length (now out))) ⌝ }
-    ensures { λ r. ⌜ ((w : Writes (now (cells .entry)) (now (rows .entry)) (now (nodes .entry)) (now (fields .entry)) (now (widths .entry)) (now (records .entry)) (now (items .entry)) (now (icells .entry)) i) → Wrote (planBytes (planOf w)) (now (out .entry)) r (now (out .exit))) ⌝ }
+    requires { ⌜ ((w : Writes (now cells) (now rows) (now nodes) (now fields) (now widths) (now records) (now items) (now icells) i)
+        × (length (planBytes (planOf w)) ≤ length (now out))) ⌝ }
+    ensures { λ r. ⌜ ((w : Writes (now (cells .entry)) (now (rows .entry)) (now (nodes .entry)) (now (fields .entry)) (now (widths .entry))
+        (now (records .entry)) (now (items .entry)) (now (icells .entry)) i)
+        → Wrote (planBytes (planOf w)) (now (out .entry)) r (now (out .exit))) ⌝ }
 {
-    let a = write_head(cells, rows, nodes, fields, widths, records, items, icells, i, out);
+    let shape = shape_at(nodes, widths, records, i);
+    let a = write_head(shape, cells, rows, fields, records, items, icells, i, out);
     let inputs = kids(nodes, records, i);
-    match inputs {
-        Inputs::Leaf => a,
-        Inputs::One(f) => {
-            let m = write_node(cells, rows, nodes, fields, widths, records, items, icells, f, &mut out[a..]);
-            a + m
-        }
-        Inputs::Two(f, g) => {
-            let m = write_node(cells, rows, nodes, fields, widths, records, items, icells, f, &mut out[a..]);
-            let b = a + m;
-            let n = write_node(cells, rows, nodes, fields, widths, records, items, icells, g, &mut out[b..]);
-            b + n
-        }
-    }
+    let Inputs::Over { first, second } = inputs else {
+        return a;
+    };
+    let m = write_node(
+        cells,
+        rows,
+        nodes,
+        fields,
+        widths,
+        records,
+        items,
+        icells,
+        first,
+        &mut out[a..],
+    );
+    let b = a + m;
+    let Second::At(other) = second else {
+        return b;
+    };
+    let n = write_node(
+        cells,
+        rows,
+        nodes,
+        fields,
+        widths,
+        records,
+        items,
+        icells,
+        other,
+        &mut out[b..],
+    );
+    b + n
 }
 
 /// A plan file: the first `start` bytes of `file`, its mark and tables, and behind them the plan of record `i`.
@@ -562,10 +635,24 @@ pub fn write_plan(
     out: &mut [u8],
 ) -> usize
     requires { ⌜ start ≤ length (now file) ⌝ }
-    requires { ⌜ ((w : Writes (now cells) (now rows) (now nodes) (now fields) (now widths) (now records) (now items) (now icells) i) × (start + length (planBytes (planOf w)) ≤ length (now out))) ⌝ }
-    ensures { λ r. ⌜ ((w : Writes (now (cells .entry)) (now (rows .entry)) (now (nodes .entry)) (now (fields .entry)) (now (widths .entry)) (now (records .entry)) (now (items .entry)) (now (icells .entry)) i) → Wrote (take start (now (file .entry)) ++ planBytes (planOf w)) (now (out .entry)) r (now (out .exit))) ⌝ }
+    requires { ⌜ ((w : Writes (now cells) (now rows) (now nodes) (now fields) (now widths) (now records) (now items) (now icells) i)
+        × (start + length (planBytes (planOf w)) ≤ length (now out))) ⌝ }
+    ensures { λ r. ⌜ ((w : Writes (now (cells .entry)) (now (rows .entry)) (now (nodes .entry)) (now (fields .entry)) (now (widths .entry))
+        (now (records .entry)) (now (items .entry)) (now (icells .entry)) i)
+        → Wrote (take start (now (file .entry)) ++ planBytes (planOf w)) (now (out .entry)) r (now (out .exit))) ⌝ }
 {
     let a = bytes::copy(&file[..start], out);
-    let m = write_node(cells, rows, nodes, fields, widths, records, items, icells, i, &mut out[a..]);
-    a + m
+    let plan = write_node(
+        cells,
+        rows,
+        nodes,
+        fields,
+        widths,
+        records,
+        items,
+        icells,
+        i,
+        &mut out[a..],
+    );
+    a + plan
 }

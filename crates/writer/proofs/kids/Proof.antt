@@ -23,8 +23,14 @@ node-inputs-requires c κs = search needs
 enum-known-form-2 : tie.Need-enum-known-form-2
 enum-known-form-2 c = search needs
 
+one-input-requires : tie.Need-one-input-requires
+one-input-requires c κs = search needs
+
 enum-known-form-3 : tie.Need-enum-known-form-3
 enum-known-form-3 c = search needs
+
+one-input-requires-2 : tie.Need-one-input-requires-2
+one-input-requires-2 c κs = search needs
 
 enum-told : tie.Need-enum-told
 enum-told c = search needs
@@ -39,15 +45,17 @@ returns c =
 
 returns-2 : tie.Need-returns-2
 returns-2 c =
-    let record-at = c .before .before .before .record-at in
-    let form2 = c .before .form2 in
-    rw (sym (record-at .ensures), form2 .given .1)
+    let one-input = c .one-input in
+    let record-at = c .before .before .before .before .record-at in
+    let form2 = c .before .before .form2 in
+    one-input .ensures ∙ rw (sym (record-at .ensures), form2 .given .1)
 
 returns-3 : tie.Need-returns-3
 returns-3 c =
-    let record-at = c .before .before .before .record-at in
-    let form3 = c .before .form3 in
-    rw (sym (record-at .ensures), form3 .given .1)
+    let one-input2 = c .one-input2 in
+    let record-at = c .before .before .before .before .record-at in
+    let form3 = c .before .before .form3 in
+    one-input2 .ensures ∙ rw (sym (record-at .ensures), form3 .given .1)
 
 returns-4 : tie.Need-returns-4
 returns-4 c =
@@ -56,4 +64,4 @@ returns-4 c =
     rw (sym (record-at .ensures), enum-told .given .1)
 
 pub kids-spec : {M : Type 1} → statement M
-kids-spec = tie.close (tie.spec record-at-requires enum-known-form node-at-requires node-inputs-requires enum-known-form-2 enum-known-form-3 enum-told returns returns-2 returns-3 returns-4)
+kids-spec = tie.close (tie.spec record-at-requires enum-known-form node-at-requires node-inputs-requires enum-known-form-2 one-input-requires enum-known-form-3 one-input-requires-2 enum-told returns returns-2 returns-3 returns-4)

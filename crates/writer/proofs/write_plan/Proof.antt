@@ -46,12 +46,13 @@ write-node-requires c κs =
 
 add-result : tie.Need-add-result
 add-result c =
-    let pre = c .before .before .before .before .before .before .before .before .before .before .before .before .before .before .before .before .before .before .before .pre in
     let args = c .before .before .before .before .before .before .before .before .before .before .before .before .before .before .before .before .before .before .before .args in
+    let pre = c .before .before .before .before .before .before .before .before .before .before .before .before .before .before .before .before .before .before .before .pre in
     let copy = c .before .before .before .before .before .before .copy in
     let write-node = c .before .before .write-node in
     let good = c .before .before .before .before .before .before .before .before .before .before .before .before .before .before .before .before .before .before .before .good in
-    omega (arith, pre .1 .1, length-take-le (args .start) (args .file .now) (pre .0), copy .ensures .0, write-node .ensures (pre .1 .0) .long, good .1 .1 .1 .1 .1 .1 .1 .1 .1 .1 .1 .0 .0)
+    let l = length-take-le (args .start) (args .file .now) (pre .0) in
+    omega (arith, pre .1 .1, l, copy .ensures .0, write-node .ensures (pre .1 .0) .long, good .1 .1 .1 .1 .1 .1 .1 .1 .1 .1 .1 .0 .0)
 
 same-length : tie.Need-same-length
 same-length c = search needs
