@@ -5,10 +5,9 @@ use mathlib.Core.List.{List, []}
 use mathlib.Core.Option.{Option, none, some}
 use Prim.Native.Nat.{ℕ, _+_, _^_, _<_}
 use lib.ListN.{length, getD, length-map}
-use Rattle.cpl.specs.Bytes.{binaryBytes, leafBytes, unaryBytes}
-use Rattle.cpl.specs.Exprs.{binaryTags, unaryTags}
+use Rattle.cpl.specs.Bytes.{leafBytes}
 use Rattle.cpl.specs.Fields.{columnsOf, leafFields, scanField}
-use Rattle.cpl.specs.Plan.{Catalogue, Leaf, Plan, binary, empty, leaf, scan, unary}
+use Rattle.cpl.specs.Plan.{Catalogue, Leaf, Plan, empty, scan}
 use Rattle.cpl.specs.Read.{pick}
 use Rattle.cpl.specs.ReadPlan.{Head, h0, h1, h2}
 use Rattle.cpl.specs.Tests.{iota}

@@ -8,7 +8,6 @@ use lib.ListN.{length, take, drop, length-append}
 use lib.Seq.{take-all}
 use Rattle.cpl.specs.Bytes.{planBytes, unaryBytes}
 use Rattle.cpl.specs.Exprs.{planNodes, planTags}
-use Rattle.cpl.specs.Limits.{maxNodes}
 use Rattle.cpl.specs.Plan.{Binary, Catalogue, Leaf, Plan, Unary, binary, leaf, unary}
 use Rattle.tree.specs.Node.{nodeAt}
 use Rattle.tree.specs.Tree.{Arrays, headOf, lent}
@@ -176,7 +175,8 @@ module _ {cells rows nodes fields widths records items icells : List ℕ} where
     abbrev Head : Shape → Record → RequiredIndices → Type 0
     Head h x t = Written (planOf w) h (rowsOf rows fields items x) (cellsOf cells icells x) t
 
-    written : {t : RequiredIndices} {b : Bool} → Holds t (setAt records i) b → length rows < 2 ^ 64 → length items < 2 ^ 64 → Head (recordShape nodes widths rec) rec t
+    written : {t : RequiredIndices} {b : Bool} → Holds t (setAt records i) b → length rows < 2 ^ 64 → length items < 2 ^ 64 →
+        Head (recordShape nodes widths rec) rec t
     written {t} o h j =
         let d : Ok (setOf t) = rw (o .set) is-ok in
         let k : Written (stands (setOf t)) (recordShape nodes widths rec) (rowsOf rows fields items rec) (cellsOf cells icells rec) t =
@@ -185,16 +185,26 @@ module _ {cells rows nodes fields widths records items icells : List ℕ} where
 
     -- ── its inputs ──
     pub splits : {k : Inputs} → k ≡ inputsOf nodes rec → Splits i (plans w) (planOf w) k
-    splits e = rw (e, step) (split-record (w .standing .C) (lent cells rows nodes) made (plans w) i (setAt records i) (w .standing .count) (w .m) (w .n) rec is-ok)
+    splits e =
+        rw (e, step) (split-record (w .standing .C) (lent cells rows nodes) made (plans w) i (setAt records i) (w .standing .count) (w .m) (w .n) rec is-ok)
 
     abbrev pub input : (f : ℕ) → f < i → planNodes (plans w f) ≤ planNodes (planOf w) → Writes cells rows nodes fields widths records items icells f
     input f l s =
-        record { standing = w .standing; used = w .used; m = w .m; n = w .n; wf = w .wf; below = omega (arith, l, w .below); small = omega (arith, s, w .small) }
+        record {
+          standing = w .standing;
+          used = w .used;
+          m = w .m;
+          n = w .n;
+          wf = w .wf;
+          below = omega (arith, l, w .below);
+          small = omega (arith, s, w .small);
+        }
 
     abbrev pub first-input : {f : ℕ} {x : Second} → Above i f x (plans w) (planOf w) → Writes cells rows nodes fields widths records items icells f
     first-input {f} o = input f (o .first-below) (omega (arith, o .nodes-are))
 
-    abbrev pub second-input : {f g : ℕ} {x : Second} → x ≡ seconds.At g → Above i f x (plans w) (planOf w) → Writes cells rows nodes fields widths records items icells g
+    abbrev pub second-input : {f g : ℕ} {x : Second} → x ≡ seconds.At g → Above i f x (plans w) (planOf w) →
+        Writes cells rows nodes fields widths records items icells g
     second-input {f} {g} e o = input g (rw e at (o .second-below)) (omega (arith, o .nodes-are, ap (restNodes (plans w)) e))
 
   -- ── a bound ──
@@ -232,7 +242,8 @@ module _ {cells rows nodes fields widths records items icells : List ℕ} where
   pub head-le : {i : ℕ} (w : Writes cells rows nodes fields widths records items icells i) → length (planHead (planOf w)) ≤ length (planBytes (planOf w))
   head-le {i} w = head-first w (inputsOf nodes (recordAt records i)) (splits w refl)
 
-abbrev pub shaped : {h : Shape} {cells rows nodes fields widths records items icells : List ℕ} {i : ℕ} (w : Writes cells rows nodes fields widths records items icells i) →
+abbrev pub shaped : {h : Shape} {cells rows nodes fields widths records items icells : List ℕ} {i : ℕ}
+    (w : Writes cells rows nodes fields widths records items icells i) →
     h ≡ recordShape nodes widths (recordAt records i) → Shaped h cells rows fields records items icells i
 shaped {nodes = nodes} {widths = widths} w e = record { nodes = nodes; widths = widths; writes = w; shape-is = e }
 
@@ -268,7 +279,8 @@ module _ {i f : ℕ} {x : Second} {R : ℕ → Plan} {P : Plan} where
 
   two-bytes : {g : ℕ} → x ≡ seconds.At g → Above i f x R P → (planHead P ++ planBytes (R f)) ++ planBytes (R g) ≡ planBytes P
   two-bytes {g} e o =
-      append-assoc (planHead P) (planBytes (R f)) (planBytes (R g)) ∙ ap (λ (y : Second). planHead P ++ (planBytes (R f) ++ restBytes R y)) (sym e) ∙ sym (o .bytes-are)
+      append-assoc (planHead P) (planBytes (R f)) (planBytes (R g))
+      ∙ ap (λ (y : Second). planHead P ++ (planBytes (R f) ++ restBytes R y)) (sym e) ∙ sym (o .bytes-are)
 
   module _ {xs o₁ ys : List ℕ} {a m : ℕ} where
     pub one-wrote : x ≡ seconds.Nothing → Above i f x R P → Wrote (planHead P) xs a o₁ → Wrote (planBytes (R f)) (take (length o₁ - a) (drop a o₁)) m ys →
@@ -290,7 +302,8 @@ module _ {i f : ℕ} {x : Second} {R : ℕ → Plan} {P : Plan} where
           tags-are = omega (arith, u .tags-are, v .tags-are, z .tags-are, o .tags-are, ap (restTags R) e);
         }
 
-    pub two-sum : {g : ℕ} {b : Size} → x ≡ seconds.At g → Counts (length (planBytes (R g))) (planTags (R g)) b → Counts (s .bytes + b .bytes) (s .tags + b .tags) (size P)
+    pub two-sum : {g : ℕ} {b : Size} → x ≡ seconds.At g → Counts (length (planBytes (R g))) (planTags (R g)) b →
+        Counts (s .bytes + b .bytes) (s .tags + b .tags) (size P)
     two-sum e q =
         record {
           bytes-are = omega (arith, u .bytes-are, v .bytes-are, z .bytes-are, q .bytes-are, two-length e o);
@@ -303,14 +316,17 @@ module _ {i f : ℕ} {x : Second} {R : ℕ → Plan} {P : Plan} where
         record { bytes-are = y .bytes-are ∙ sym (two-sum e q .bytes-are); tags-are = y .tags-are ∙ sym (two-sum e q .tags-are) }
 
 -- there is room for what comes after a part that was lent and came back
-pub room-after : (o₁ ys : List ℕ) (a m n : ℕ) {k : ℕ} → length o₁ ≡ k → length ys ≡ length (take (length o₁ - a) (drop a o₁)) → a + (m + n) ≤ k →
-    n ≤ length (take (length (take a o₁ ++ (ys ++ drop (length o₁ - a) (drop a o₁))) - (a + m)) (drop (a + m) (take a o₁ ++ (ys ++ drop (length o₁ - a) (drop a o₁)))))
-room-after o₁ ys a m n d e l =
-    fits (take a o₁ ++ (ys ++ drop (length o₁ - a) (drop a o₁))) (a + m) n (omega (arith, d, l, length-back a o₁ ys (omega (arith, d, l)) e))
+abbrev back : (o ys : List ℕ) (a : ℕ) → List ℕ
+back o ys a = take a o ++ (ys ++ drop (length o - a) (drop a o))
+
+pub room-after : (o ys : List ℕ) (a m n : ℕ) {k : ℕ} → length o ≡ k → length ys ≡ length (take (length o - a) (drop a o)) → a + (m + n) ≤ k →
+    n ≤ length (take (length (back o ys a) - (a + m)) (drop (a + m) (back o ys a)))
+room-after o ys a m n d e l = fits (back o ys a) (a + m) n (omega (arith, d, l, length-back a o ys (omega (arith, d, l)) e))
 
 -- the start of a file was copied
 pub copy-wrote : {xs out : List ℕ} {a : ℕ} (start : ℕ) (file : List ℕ) → a ≡ length (take start file) →
     out ≡ take (length (take start file)) (take start file) ++ drop (length (take start file)) xs → Wrote (take start file) xs a out
 unfolding over
 copy-wrote {xs} start file e d =
-    record { long = e; ends = d ∙ ap (λ (ys : List ℕ). ys ++ drop (length (take start file)) xs) (take-all (length (take start file)) (take start file) (omega arith)) }
+    let w = take start file in
+    record { long = e; ends = d ∙ ap (λ (ys : List ℕ). ys ++ drop (length w) xs) (take-all (length w) w (omega arith)) }

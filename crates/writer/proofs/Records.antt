@@ -4,14 +4,14 @@ use mathlib.Core.Bool.{true, false}
 use mathlib.Core.List.{List, [], _∷_, _++_, map, append-nil}
 use Prim.Native.Nat.{ℕ, _+_, _*_, _^_, _<_, _≤_}
 use native.Mathlib.Omega.{arith}
-use lib.Count.{ones, ones-le}
+use lib.Count.{ones-le}
 use lib.ListN.{length, length-map}
 use Rattle.cpl.specs.Bytes.{bytes, countedBytes, itemBytes, leafBytes, unaryBytes}
 use Rattle.cpl.specs.Codes.{bit}
 use Rattle.cpl.specs.Exprs.{itemTags, planTags, unaryTags}
 use Rattle.cpl.specs.Fields.{fieldsOf}
 use Rattle.cpl.specs.Limits.{maxItems, maxNodes, maxTags}
-use Rattle.cpl.specs.Plan.{Catalogue, Pair, Plan, bare, binary, leaf, projection, unary}
+use Rattle.cpl.specs.Plan.{Catalogue, Pair, Plan, bare, projection, unary}
 use Rattle.cpl.specs.ReadPlan.{Head, h0, h1, h2}
 use Rattle.cpl.specs.Tests.{concatMap, sumOf}
 use Rattle.cpl.specs.Writable.{FitLeaf, FitName, FitPlan}
@@ -30,10 +30,9 @@ use Rattle.tree.proofs.Plans.{plan-step}
 use Rattle.lookup.specs.Fields.{fieldAt, fieldsAt, rowAt, widthAt}
 use Rattle.lookup.specs.Standing.{Standing}
 use Rattle.result.specs.Result.{Results, columnsNode, keptNode, nothingLeft, unaryPart}
-use Rattle.result.specs.Records.{ColumnsOk, ItemsOk, KeptOk, RecordOk, results, standsFor}
+use Rattle.result.specs.Records.{ColumnsOk, ItemsOk, KeptOk, RecordOk, standsFor}
 use Rattle.result.specs.declared.Record.{Record}
 use Rattle.result.specs.declared.Record.the-variants.{Kept, Columns, Items, Nothing}
-use Rattle.writer_parts.specs.Lists.{countedList, listTags}
 use Rattle.writer_parts.specs.declared.Part.the-variants.{Field, Item}
 use Rattle.writer_parts.proofs.Lists.{counted-set-rows, list-length, set-row-tags}
 use Rattle.writer.specs.declared.Segment.the-variants as segments
@@ -153,13 +152,17 @@ module _ {cells rows nodes fields widths : List ℕ} (st : Standing cells rows n
   width-few = omega (arith, few-fields (st .C) (planAt a old) (st .accepted old l), width-is)
 
   wide : Wide (st .C) width (headOf a node)
-  wide = head-wide (st .C) width (headOf a node) (planAt a (old + 1)) (planAt a (rightOf node)) (ap (λ (p : Plan). length (fieldsOf (st .C) p)) (sym plan-is) ∙ width-is)
+  wide =
+      head-wide (st .C) width (headOf a node) (planAt a (old + 1)) (planAt a (rightOf node))
+      (ap (λ (p : Plan). length (fieldsOf (st .C) p)) (sym plan-is) ∙ width-is)
 
   fit : FitHead (st .C) (headOf a node)
   fit = head-fit (st .C) (headOf a node) (planAt a (old + 1)) (planAt a (rightOf node)) (subst (FitPlan (st .C)) plan-is (st .tree .each old l .fit))
 
   own-few : ownTags (headOf a node) ≤ maxTags
-  own-few = head-few (st .C) (headOf a node) (planAt a (old + 1)) (planAt a (rightOf node)) (subst (λ (p : Plan). planTags p ≤ maxTags) plan-is (st .tree .each old l .tags))
+  own-few =
+      head-few (st .C) (headOf a node) (planAt a (old + 1)) (planAt a (rightOf node))
+      (subst (λ (p : Plan). planTags p ≤ maxTags) plan-is (st .tree .each old l .tags))
 
   pub kept-taken : length rows < 2 ^ 64 → Taken nodes (Kept old 0 0)
   kept-taken h = (st .tree .each old l .numbers, sums (st .C) a h node (st .tree .each old l .parts))
@@ -211,10 +214,14 @@ module _ {cells rows nodes fields widths : List ℕ} (st : Standing cells rows n
     columns-written r room o =
         let s : setOf r < 2 ^ width = subst (λ (x : ℕ). setOf r < 2 ^ x) width-is (o .within) in
         let n = ones-le width (setOf r) s in
+        let long = list-length (fieldAt fields) one (old * 128) width in
         record {
           ok = record {
             few = omega arith;
-            one = (record { fits = omega (arith, width-few, l, st .tree .few); each = λ k z. omega (arith, width-few, l, st .tree .few, room) }, omega (arith, n, width-few));
+            one = (
+              record { fits = omega (arith, width-few, l, st .tree .few); each = λ k z. omega (arith, width-few, l, st .tree .few, room) },
+              omega (arith, n, width-few),
+            );
             two = tt;
           };
           bytes-are =
@@ -222,13 +229,14 @@ module _ {cells rows nodes fields widths : List ℕ} (st : Standing cells rows n
               (append-nil _
               ∙ sym (bare-bytes (select (setMask (length fs) (setOf r)) fs)
               ∙ ap (λ (xs : List Pair). countedBytes (λ (c : Pair). itemBytes (bare c)) (select (setMask (length xs) (setOf r)) xs)) (sym fields-are)
-              ∙ ap (λ (x : ℕ). countedBytes (λ (c : Pair). itemBytes (bare c)) (select (setMask x (setOf r)) (rowAt fields old width))) (list-length (fieldAt fields) one (old * 128) width)
-              ∙ counted-set-rows (which false r) (λ (c : Pair). itemBytes (bare c)) (λ (c : Pair). itemTags (bare c)) (fieldAt fields) (old * 128) width refl s));
+              ∙ ap (λ (x : ℕ). countedBytes (λ (c : Pair). itemBytes (bare c)) (select (setMask x (setOf r)) (rowAt fields old width))) long
+              ∙ counted-set-rows (which false r) (λ (c : Pair). itemBytes (bare c)) (λ (c : Pair). itemTags (bare c)) (fieldAt fields) (old * 128) width refl
+              s));
           tags-are =
               (let e : (x : ℕ) → x + 0 ≡ x = λ x. omega arith in e _)
               ∙ sym (bare-sum (select (setMask (length fs) (setOf r)) fs)
               ∙ ap (λ (xs : List Pair). sumOf (λ (c : Pair). itemTags (bare c)) (select (setMask (length xs) (setOf r)) xs)) (sym fields-are)
-              ∙ ap (λ (x : ℕ). sumOf (λ (c : Pair). itemTags (bare c)) (select (setMask x (setOf r)) (rowAt fields old width))) (list-length (fieldAt fields) one (old * 128) width)
+              ∙ ap (λ (x : ℕ). sumOf (λ (c : Pair). itemTags (bare c)) (select (setMask x (setOf r)) (rowAt fields old width))) long
               ∙ set-row-tags (which false r) (λ (c : Pair). itemBytes (bare c)) (λ (c : Pair). itemTags (bare c)) (fieldAt fields) (old * 128) width refl);
         }
 
@@ -245,7 +253,8 @@ module _ (r : Results) {m k i row n f : ℕ} (o : ItemsOk r m k i row n f) (p : 
       }
 
   pub items-written : (t : RequiredIndices) → length (r .items) < 2 ^ 64 →
-      Written (unary (projection (itemsAt (r .items) (r .cells) row n)) p) (headShape 1 1 (segments.List Item row n true) segments.Nothing) (r .items) (r .cells) t
+      Written (unary (projection (itemsAt (r .items) (r .cells) row n)) p)
+      (headShape 1 1 (segments.List Item row n true) segments.Nothing) (r .items) (r .cells) t
   unfolding planHead headTags unaryPart
   items-written t h =
       let b : Arrays = lent (r .cells) (r .items) [] in
@@ -273,14 +282,17 @@ module _ {cells rows nodes fields widths : List ℕ} (st : Standing cells rows n
   record-taken s Nothing h o = tt
 
   module _ (p q : Plan) where
-    pub record-small : (s : ℕ) (x : Record) → RecordOk (st .C) (lent cells rows nodes) (st .count) r m k i s x → Small (standsFor (st .C) (lent cells rows nodes) r s x p q)
+    pub record-small : (s : ℕ) (x : Record) → RecordOk (st .C) (lent cells rows nodes) (st .count) r m k i s x →
+        Small (standsFor (st .C) (lent cells rows nodes) r s x p q)
     record-small s (Kept old f g) o = kept-small st old (o .node) p q s
     record-small s (Columns old f) o = columns-small st old (o .node) p s
     record-small s (Items row n f) o = items-small r o p
     record-small s Nothing o = nothing-small
 
-    pub record-written : (t : RequiredIndices) (x : Record) → length rows < 2 ^ 64 → length (r .items) < 2 ^ 64 → RecordOk (st .C) (lent cells rows nodes) (st .count) r m k i (setOf t) x →
-        Written (standsFor (st .C) (lent cells rows nodes) r (setOf t) x p q) (recordShape nodes widths x) (rowsOf rows fields (r .items) x) (cellsOf cells (r .cells) x) t
+    pub record-written : (t : RequiredIndices) (x : Record) → length rows < 2 ^ 64 → length (r .items) < 2 ^ 64 →
+        RecordOk (st .C) (lent cells rows nodes) (st .count) r m k i (setOf t) x →
+        Written (standsFor (st .C) (lent cells rows nodes) r (setOf t) x p q)
+        (recordShape nodes widths x) (rowsOf rows fields (r .items) x) (cellsOf cells (r .cells) x) t
     record-written t (Kept old f g) h j o = kept-written st old (o .node) p q t h o
     record-written t (Columns old f) h j o = columns-written st old (o .node) p t (st .fields-long) o
     record-written t (Items row n f) h j o = items-written r o p t j

@@ -1,15 +1,15 @@
 -- A node of few parts and few tags has a short head: so the bytes of a plan of few nodes can be counted. Assumes nothing.
 use mathlib.Core.Path.{_≡_, refl, ap}
-use mathlib.Core.Bool.{Bool, true, false}
+use mathlib.Core.Bool.{true, false}
 use mathlib.Core.List.{List, [], _∷_, _++_}
 use mathlib.Core.Option.{Option, none, some}
-use Prim.Native.Nat.{ℕ, suc, _+_, _*_, _<_, _≤_}
+use Prim.Native.Nat.{ℕ, _+_, _*_, _<_, _≤_}
 use native.Mathlib.Omega.{arith}
 use lib.ListN.{length, length-append}
 use Rattle.cpl.specs.Bytes.{aggBytes, binaryBytes, bytes, callBytes, callNumber, columnsBytes, condBytes, countedBytes, exprBytes, fetchNumber, itemBytes, keyBytes, leafBytes, onBytes, pairBytes, unaryBytes, winBytes}
 use Rattle.cpl.specs.Codes.{unsigned}
 use Rattle.cpl.specs.Exprs.{aggExprs, aggTags, binaryTags, callExprs, condExprs, exprTags, itemTags, keyTags, onTags, unaryTags, winTags}
-use Rattle.cpl.specs.Limits.{maxItems, maxTags}
+use Rattle.cpl.specs.Limits.{maxItems}
 use Rattle.cpl.specs.Plan.{Agg, Binary, Call, Catalogue, Expr, Item, Key, Leaf, On, Pair, Unary, Win, agg, aggregate, bare, bin, col, distinct, empty, filter, join, key, keyExpr, limit, lit, miss, named, on, over, projection, rows, scan, sort, subqueryAlias, un, union, win, window}
 use Rattle.cpl.specs.ReadPlan.{Head, h0, h1, h2}
 use Rattle.cpl.specs.Tests.{concatMap, sumOf}
@@ -133,7 +133,14 @@ unary-short (filter e) l = omega (arith, expr-short e)
 unary-short (sort ks) l = omega (arith, tight keyBytes keyTags key-short ks)
 unary-short (limit s n) l = omega (arith, length-append (bytes 4 s) (bytes 4 (fetchNumber n)), length-bytes 4 s, length-bytes 4 (fetchNumber n))
 unary-short (aggregate gs vs) l =
-    omega (arith, l .0, l .1, loose itemBytes itemTags item-short gs, loose aggBytes aggTags agg-short vs, length-append (countedBytes itemBytes gs) (countedBytes aggBytes vs))
+    omega (
+      arith,
+      l .0,
+      l .1,
+      loose itemBytes itemTags item-short gs,
+      loose aggBytes aggTags agg-short vs,
+      length-append (countedBytes itemBytes gs) (countedBytes aggBytes vs),
+    )
 unary-short (window ws) l = omega (arith, l, loose winBytes winTags win-short ws)
 unary-short (subqueryAlias q) l = omega (arith, length-bytes 2 q)
 unary-short distinct l = omega arith

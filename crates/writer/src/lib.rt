@@ -641,7 +641,7 @@ pub fn write_plan(
         (now (records .entry)) (now (items .entry)) (now (icells .entry)) i)
         → Wrote (take start (now (file .entry)) ++ planBytes (planOf w)) (now (out .entry)) r (now (out .exit))) ⌝ }
 {
-    let a = bytes::copy(&file[..start], out);
+    let at = bytes::copy(&file[..start], out);
     let plan = write_node(
         cells,
         rows,
@@ -652,7 +652,7 @@ pub fn write_plan(
         items,
         icells,
         i,
-        &mut out[a..],
+        &mut out[at..],
     );
-    a + plan
+    at + plan
 }

@@ -1,7 +1,6 @@
 -- The proof of the cycle of calls {write_node}. The measure is the record's number. Each way through is a law of `Plans`. Assumes nothing.
 use Prim.Native.Nat.{_<_, ℕ}
 use Rattle.lookup.proofs.Lists.{Asked}
-use Rattle.writer_parts.proofs.Over.{kept}
 use Rattle.writer.proofs.Plans.{above-length, alone-wrote, countable, first-input, head-le, inside, one-wrote, room-after, second-input, shaped, splits, taken, two-length, two-wrote}
 use borrow.Author.Needs.{needs}
 use mathlib.Core.Path.{_∙_, refl, sym}
@@ -184,14 +183,13 @@ module _ (t : ℕ) where
       let o = splits w (sym (inputs .given .1) ∙ kids .ensures) in
       let e = second .given .1 in
       let l = write-head .ensures (shaped w (shape-at .ensures)) .long in
-      let m = write-node .ensures (first-input w o) .long in
-      (
-      omega (arith, pre .0, rw e at (o .second-below)),
-      (
-      second-input w e o,
-      room-after (write-head .last .1 .1 .1 .1 .1 .1 .1 .1 .0) (write-node .last .1 .1 .1 .1 .1 .1 .1 .1 .1 .0) (write-head .result) (write-node .result) _
-      (write-head .kept .1 .1 .1 .1 .1 .1 .1 .1 .0) (write-node .kept .1 .1 .1 .1 .1 .1 .1 .1 .1 .0) (omega (arith, pre .1 .1, two-length e o, l, m)),
-      ),
+      let m = write-node .ensures (first-input w o) .long in (
+        omega (arith, pre .0, rw e at (o .second-below)),
+        (
+          second-input w e o,
+          room-after (write-head .last .1 .1 .1 .1 .1 .1 .1 .1 .0) (write-node .last .1 .1 .1 .1 .1 .1 .1 .1 .1 .0) (write-head .result) (write-node .result) _
+              (write-head .kept .1 .1 .1 .1 .1 .1 .1 .1 .0) (write-node .kept .1 .1 .1 .1 .1 .1 .1 .1 .1 .0) (omega (arith, pre .1 .1, two-length e o, l, m)),
+        ),
       )
 
   add-result : lts.Need-add-result (callees t) (given t) write-node.Post
