@@ -5,10 +5,9 @@ use mathlib.Core.List.{List, []}
 use mathlib.Core.Option.{Option, none, some}
 use Prim.Native.Nat.{ℕ, _+_, _^_, _<_}
 use lib.ListN.{length, getD, length-map}
-use Rattle.cpl.specs.Bytes.{binaryBytes, leafBytes, unaryBytes}
-use Rattle.cpl.specs.Exprs.{binaryTags, unaryTags}
+use Rattle.cpl.specs.Bytes.{leafBytes}
 use Rattle.cpl.specs.Fields.{columnsOf, leafFields, scanField}
-use Rattle.cpl.specs.Plan.{Catalogue, Leaf, Plan, binary, empty, leaf, scan, unary}
+use Rattle.cpl.specs.Plan.{Catalogue, Leaf, Plan, empty, scan}
 use Rattle.cpl.specs.Read.{pick}
 use Rattle.cpl.specs.ReadPlan.{Head, h0, h1, h2}
 use Rattle.cpl.specs.Tests.{iota}
@@ -22,19 +21,9 @@ use Rattle.tree.specs.declared.Node.the-variants.{Projection, Filter, Sort, Lim
 use Rattle.result.specs.Result.{keptNode, leafPart}
 use Rattle.result.specs.Records.{HeadSet}
 use Rattle.writer_parts.proofs.Lists.{list-length}
+use Rattle.writer.specs.Plans.{headTags, planHead}
 use Rattle.writer.specs.Shapes.{keptBytes, keptTags, leafKeeps, scanColumns}
 use Rattle.writer.proofs.Heads.{NodeSet, iota-list}
-
--- a plan's bytes and tags without those of its inputs
-unfoldable pub planHead : Plan → List ℕ
-planHead (leaf h) = leafBytes h
-planHead (unary h p) = unaryBytes h
-planHead (binary h p q) = binaryBytes h
-
-unfoldable pub headTags : Plan → ℕ
-headTags (leaf h) = 0
-headTags (unary h p) = unaryTags h
-headTags (binary h p q) = binaryTags h
 
 -- as many fields as the node has: of a scan, as many as its columns
 abbrev pub Wide : Catalogue → (width : ℕ) → Head → Type 0

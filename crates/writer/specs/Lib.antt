@@ -1,2 +1,3 @@
--- How a node's head stands in segments, and the bytes of a record.
+-- How a node's head stands in segments, the bytes of a record, and the records of a rewritten plan that are written.
 pub mod Shapes
+pub mod Plans
