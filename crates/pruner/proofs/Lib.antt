@@ -1,0 +1,4 @@
+-- Laws of the entries.
+pub mod Plans
+pub mod Files
+pub mod Ends
