@@ -1,17 +1,17 @@
 -- The ways that a call can end: refused for its settings, by the intake, as too large, for want of room; or written. Assumes nothing.
 use mathlib.Core.Path.{_≡_, refl, sym, ap, subst, subst⁻¹, _∙_}
-use mathlib.Core.Logic.{_⊎_, inl, inr}
-use mathlib.Core.Bool.{Bool, true, false, _&&_, _||_}
+use mathlib.Core.Logic.{inl, inr}
+use mathlib.Core.Bool.{Bool, true, false, _||_}
 use mathlib.Core.List.{List, _++_}
 use mathlib.Core.Option.{none}
-use Prim.Native.Nat.{ℕ, zero, suc, _+_, _*_, _<_, _≤_}
+use Prim.Native.Nat.{ℕ, zero, suc, _+_, _<_, _≤_}
 use native.Mathlib.Omega.{arith}
-use lib.Dec.{eqb, ltb, leb}
-use lib.ListN.{length, take, drop}
+use lib.Dec.{eqb, ltb}
+use lib.ListN.{length, length-append, length-take, take}
 use borrow.Author.Tests.{le-leb, le-ltb, lt-leb, lt-ltb}
 use Rattle.cpl.specs.AreBytes.{AreBytes}
 use Rattle.cpl.specs.Bytes.{bytesOf, planBytes}
-use Rattle.cpl.specs.Codes.{LARGE, ROOM, SETTING}
+use Rattle.cpl.specs.Codes.{LARGE}
 use Rattle.cpl.specs.Exprs.{planNodes, planTags}
 use Rattle.cpl.specs.Fields.{fieldsOf}
 use Rattle.cpl.specs.Limits.{maxNodes, maxTags}
@@ -19,7 +19,7 @@ use Rattle.cpl.specs.Plan.{Catalogue, Plan, Source}
 use Rattle.cpl.specs.Read.{pick}
 use Rattle.cpl.specs.ReadPlan.{readFile}
 use Rattle.rules.specs.Answer as rules
-use Rattle.rules.specs.Answer.{Verdict, deliver, finish, judged, large, mergeOf, narrowed, refusal, refused, reply, settingsOk, success, verdict, written}
+use Rattle.rules.specs.Answer.{deliver, finish, judged, large, mergeOf, narrowed, refusal, refused, reply, settingsOk, success, verdict, written}
 use Rattle.rules.specs.Request.{maskOf}
 use Rattle.rules.specs.Rewrite.{Walked, rewrite, walk}
 use Rattle.rules.specs.Success.{sourceOf}
@@ -36,6 +36,7 @@ use Rattle.walk_steps.specs.declared.Used.{Used}
 use Rattle.walk_steps.specs.declared.Walked as walks
 use Rattle.optimize_projections.specs.Walk.{After, EndIs, TooLarge, mergeBy}
 use Rattle.optimize_projections.specs.declared.Settings.{Settings}
+use Rattle.writer.specs.Plans.{Writes}
 use Rattle.pruner.specs.Answers.{AnswerIs, Rewritten, delivered, nothingUsed}
 use Rattle.pruner.specs.declared.Answer.{Answer}
 use Rattle.pruner.proofs.Files.{taken-heads}
@@ -53,6 +54,10 @@ unfolding refusal
 refuses out h = record { code-is = h .0; length-is = h .1; place-is = h .2; out-is = refl }
 
 -- ── a plan's tags and bytes ─────────────────────────────────────────────────────────────────
+
+-- the first `start` bytes of the file, and a plan's
+pub whole-length : {start b : ℕ} (file bytes : List ℕ) → start ≤ length file → b ≡ length bytes → start + b ≡ length (take start file ++ bytes)
+whole-length {start} file bytes l e = omega (arith, length-append (take start file) bytes, length-take start file)
 
 -- "LARGE: … the result breaks the node or tag limit"
 pub many-tags : {r : Answer} {tags : ℕ} (bytes out : List ℕ) → 4096 < tags → Refuses r 12 0 → AnswerIs (delivered tags bytes out) r out
@@ -115,11 +120,23 @@ module _ {file : List ℕ} {start : ℕ} {cells rows nodes fields widths records
     abbrev plan : Plan
     plan = resultAt (x .standing .C) (lent cells rows nodes) (results records items icells) rec
 
-    ended : EndIs (x .standing .C) (lent cells rows nodes) (x .standing .count) (x .before) (results records items icells) nothingUsed (x .walked) (x .kept) (Done rec v)
+    pub ended : EndIs (x .standing .C) (lent cells rows nodes) (x .standing .count) (x .before) (results records items icells) nothingUsed (x .walked) (x .kept) (Done rec v)
     ended = rw e at (x .ends)
 
-    few-nodes : planNodes (x .walked .plan) ≤ maxNodes
+    pub few-nodes : planNodes (x .walked .plan) ≤ maxNodes
     few-nodes = let s = ended .0 in omega (arith, s .nodes, s .ready .wf .inside, x .room)
+
+    -- the writer can write the plan
+    abbrev pub writes : Writes cells rows nodes fields widths records items icells rec
+    writes = let s = ended .0 in record {
+      standing = x .standing;
+      used = v .records;
+      m = v .rows;
+      n = v .cells;
+      wf = s .ready .wf;
+      below = s .below;
+      small = omega (arith, ap planNodes (s .plan), few-nodes);
+    }
 
     pub done-ends : {r : Answer} {out′ : List ℕ} (out : List ℕ) → AnswerIs (delivered (planTags plan) (take start file ++ planBytes plan) out) r out′
         → AnswerIs (deliver (finish (x .standing .C) (x .walked)) out) r out′
@@ -151,7 +168,7 @@ module _ {file : List ℕ} {request : ℕ → List ℕ} {cells rows nodes fields
 
   -- what the walk leaves is handed on
   abbrev pub handed-on : {s : Settings} {records items icells records′ items′ icells′ : List ℕ} {w : walks.Walked} → AreBytes file → (q : Taken file request cells rows nodes fields widths t)
-      → 65536 ≤ length fields → 256 ≤ length widths → length records ≡ 1536 → length items ≡ 16896 → length icells ≡ 12288 → length records′ ≡ 1536
+      → length fields ≡ 65536 → length widths ≡ 256 → length records ≡ 1536 → length items ≡ 16896 → length icells ≡ 12288 → length records′ ≡ 1536
       → After s cells rows nodes fields widths (results records items icells) (results records′ items′ icells′) 0 (t .set) nothingUsed w
       → Rewritten file (t .start) cells rows nodes fields widths records′ items′ icells′ (w .end)
   handed-on {s} {records} {items} {icells} {w = w} b q lf lw lr li lc m a = record {

@@ -2,3 +2,4 @@
 pub mod Plans
 pub mod Files
 pub mod Ends
+pub mod Entries

@@ -1,13 +1,13 @@
 -- What is known of a plan that was taken in: every node is accepted, so it stands, and the walk can start at its root. Assumes nothing.
-use mathlib.Core.Path.{_≡_, refl, sym, ap, subst, _∙_}
+use mathlib.Core.Path.{_≡_, ap, subst}
 use mathlib.Core.List.{List}
-use Prim.Native.Nat.{ℕ, zero, suc, _+_, _*_, _/_, _<_, _≤_}
+use Prim.Native.Nat.{ℕ, zero, suc, _+_, _<_, _≤_}
 use native.Mathlib.Decide.{decLt}
 use native.Mathlib.Omega.{arith}
 use lib.ListN.{length}
 use Rattle.cpl.specs.Exprs.{planNodes}
 use Rattle.cpl.specs.Fields.{fieldsOf}
-use Rattle.cpl.specs.Plan.{Catalogue, Plan}
+use Rattle.cpl.specs.Plan.{Catalogue}
 use Rattle.cpl.specs.ReadPlan.{Head, h0, h1, h2}
 use Rattle.cpl.proofs.Accepted.{Accepted}
 use Rattle.rules.specs.Request.{maskOf}
@@ -23,6 +23,7 @@ use Rattle.result.specs.Records.{results}
 use Rattle.result.proofs.Grow as records
 use Rattle.intake.specs.Intake.{Taken}
 use Rattle.intake.specs.declared.Intake.{Intake}
+use Rattle.walk_steps.specs.Steps.{Scratch}
 use Rattle.optimize_projections.specs.Walk.{Before}
 use Rattle.pruner.specs.Answers.{nothingUsed}
 
@@ -61,7 +62,7 @@ module _ (C : Catalogue) (a : Arrays) (count : ℕ) where
 -- ── what was taken in ───────────────────────────────────────────────────────────────────────
 
 module _ {file : List ℕ} {request : ℕ → List ℕ} {cells rows nodes fields widths : List ℕ} {r : Intake} (t : Taken file request cells rows nodes fields widths r) where
-  abbrev pub taken-stands : 65536 ≤ length fields → 256 ≤ length widths → Standing cells rows nodes fields widths
+  abbrev pub taken-stands : length fields ≡ 65536 → length widths ≡ 256 → Standing cells rows nodes fields widths
   taken-stands f w = record {
     C = t .C;
     count = r .count;
@@ -69,16 +70,15 @@ module _ {file : List ℕ} {request : ℕ → List ℕ} {cells rows nodes fields
     tree = t .tree;
     stand = λ j l. t .stand j l .fields;
     accepted = all-accepted (t .C) (lent cells rows nodes) (r .count) (t .tree) (t .whole) (t .accepted);
-    fields-long = f;
-    widths-long = w;
+    fields-long = omega (arith, f);
+    widths-long = omega (arith, w);
   }
 
   -- the request that document 01 makes of the root
   abbrev pub asked : List ℕ
   asked = request (length (fieldsOf (t .C) (planAt (lent cells rows nodes) 0)))
 
-  abbrev pub walk-starts : {records items icells : List ℕ} (f : 65536 ≤ length fields) (w : 256 ≤ length widths)
-      → length records ≡ 1536 → length items ≡ 16896 → length icells ≡ 12288 → Before cells rows nodes fields widths (results records items icells) 0 (r .set) nothingUsed
+  abbrev pub walk-starts : {records items icells : List ℕ} → length fields ≡ 65536 → length widths ≡ 256 → length records ≡ 1536 → length items ≡ 16896 → length icells ≡ 12288 → Before cells rows nodes fields widths (results records items icells) 0 (r .set) nothingUsed
   walk-starts {icells = icells} f w lr li lc = record {
     standing = taken-stands f w;
     within = omega (arith, t .whole, nodes-pos (planAt (lent cells rows nodes) 0));
@@ -92,3 +92,8 @@ module _ {file : List ℕ} {request : ℕ → List ℕ} {cells rows nodes fields
     fit = fit-mask asked (fieldsOf (t .C) (planAt (lent cells rows nodes) 0));
     asks = t .asks;
   }
+
+-- ── the arrays of merged lists ──────────────────────────────────────────────────────────────
+
+pub scratch : {rows cells : List ℕ} → length rows ≡ 512 → length cells ≡ 12288 → Scratch rows cells
+scratch r c = record { rows-long = omega (arith, r); cells-long = omega (arith, c); cells-short = omega (arith, c) }
