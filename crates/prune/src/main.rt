@@ -91,17 +91,7 @@ fn plan_in(
     widths: &mut [u64; WIDTHS],
 ) {
     let none = [0u16; 1];
-    let t = intake::take_in(
-        file,
-        true,
-        &none,
-        cells,
-        rows,
-        nodes,
-        names,
-        fields,
-        widths,
-    );
+    let t = intake::take_in(file, true, &none, cells, rows, nodes, names, fields, widths);
     if t.code > 0 {
         refused(t.code, t.place);
     } else {
