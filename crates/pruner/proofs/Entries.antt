@@ -25,14 +25,16 @@ module _ (mode mask : ℕ) (file request out : List ℕ) {r : Answer} {out′ : 
 
 -- ── "Narrow" of the very bytes, in house mode ───────────────────────────────────────────────
 
-pub promised : (mode mask : ℕ) (file : List ℕ) (request : ℕ → List ℕ) (out : List ℕ) {r : Answer} {out′ : List ℕ} → AreBytes file → AnswerIs (reply mode mask file request out) r out′
-    → mode ≡ 1 → r .code ≡ 0 → Promise mask file request (reply mode mask file request out)
+pub promised : (mode mask : ℕ) (file : List ℕ) (request : ℕ → List ℕ) (out : List ℕ) {r : Answer} {out′ : List ℕ} → AreBytes file
+    → AnswerIs (reply mode mask file request out) r out′ → mode ≡ 1 → r .code ≡ 0 → Promise mask file request (reply mode mask file request out)
 promised mode mask file request out b h e z =
     let p : (m : ℕ) → 1 ≡ m → reply m mask file request out .code ≡ 0 → Promise mask file request (reply m mask file request out) =
-        λ m d. subst (λ (n : ℕ). reply n mask file request out .code ≡ 0 → Promise mask file request (reply n mask file request out)) d (promise mask file request out b) in
+    λ m d. subst (λ (n : ℕ). reply n mask file request out .code ≡ 0 → Promise mask file request (reply n mask file request out)) d
+    (promise mask file request out b) in
     p mode (sym e) (sym (h .code-is) ∙ z)
 
 -- ── three numbers ───────────────────────────────────────────────────────────────────────────
 
-pub numbers : {a : rules.Answer} {r : Answer} {out′ numbers′ : List ℕ} → AnswerIs a r out′ → numbers′ ≡ r .code ∷ r .length ∷ r .place ∷ [] → NumbersAre a numbers′ out′
+pub numbers : {a : rules.Answer} {r : Answer} {out′ numbers′ : List ℕ} → AnswerIs a r out′
+    → numbers′ ≡ r .code ∷ r .length ∷ r .place ∷ [] → NumbersAre a numbers′ out′
 numbers h e = record { numbers-are = rw (← h .code-is, ← h .length-is, ← h .place-is) e; out-is = h .out-is }

@@ -10,6 +10,7 @@ use Rattle.cpl.specs.Fields.{fieldsOf}
 use Rattle.cpl.specs.Plan.{Catalogue}
 use Rattle.cpl.specs.ReadPlan.{Head, h0, h1, h2}
 use Rattle.cpl.proofs.Accepted.{Accepted}
+use Rattle.rules.specs.Mask.{Mask}
 use Rattle.rules.specs.Request.{maskOf}
 use Rattle.rules.proofs.Successes.{fit-mask}
 use Rattle.tree.specs.Node.{nodeAt}
@@ -34,7 +35,8 @@ module _ (C : Catalogue) (a : Arrays) (count : ℕ) where
   abbrev Each : ℕ → Type 0
   Each k = k < count → Accepted C (planAt a k) → (j : ℕ) → k ≤ j → j < k + planNodes (planAt a k) → Accepted C (planAt a j)
 
-  at-head : (deep k right : ℕ) (h : Head) → Stands a count k right h → planNodes (planAt a k) ≤ suc deep → ((i : ℕ) → planNodes (planAt a i) ≤ deep → Each i) → Each k
+  at-head : (deep k right : ℕ) (h : Head) → Stands a count k right h → planNodes (planAt a k) ≤ suc deep
+      → ((i : ℕ) → planNodes (planAt a i) ≤ deep → Each i) → Each k
   unfolding Accepted planNodes
   at-head deep k right (h0 h) s d go l o j m n =
       let size = ap planNodes s in
@@ -48,8 +50,9 @@ module _ (C : Catalogue) (a : Arrays) (count : ℕ) where
       let first = nodes-pos (planAt a (k + 1)) in
       from-on (λ (i : ℕ). Accepted C (planAt a i)) k j m o
       (λ x. elim (decLt j right) [
-        yes y ↦ go (k + 1) (omega arith) (omega (arith, s .after, s .below)) (both .0) j x (omega (arith, s .ends))
-      | no y ↦ go right (omega arith) (s .below) (both .1) j (omega arith) (omega (arith, s .ends)) ])
+        | yes y ↦ go (k + 1) (omega arith) (omega (arith, s .after, s .below)) (both .0) j x (omega (arith, s .ends))
+        | no y ↦ go right (omega arith) (s .below) (both .1) j (omega arith) (omega (arith, s .ends))
+      ])
 
   module _ (w : WfTree C a count) where
     nested : (deep k : ℕ) → planNodes (planAt a k) ≤ deep → Each k
@@ -61,7 +64,8 @@ module _ (C : Catalogue) (a : Arrays) (count : ℕ) where
 
 -- ── what was taken in ───────────────────────────────────────────────────────────────────────
 
-module _ {file : List ℕ} {request : ℕ → List ℕ} {cells rows nodes fields widths : List ℕ} {r : Intake} (t : Taken file request cells rows nodes fields widths r) where
+module _ {file : List ℕ} {request : ℕ → List ℕ} {cells rows nodes fields widths : List ℕ} {r : Intake}
+    (t : Taken file request cells rows nodes fields widths r) where
   abbrev pub taken-stands : length fields ≡ 65536 → length widths ≡ 256 → Standing cells rows nodes fields widths
   taken-stands f w = record {
     C = t .C;
@@ -74,11 +78,13 @@ module _ {file : List ℕ} {request : ℕ → List ℕ} {cells rows nodes fields
     widths-long = omega (arith, w);
   }
 
-  -- the request that document 01 makes of the root
-  abbrev pub asked : List ℕ
-  asked = request (length (fieldsOf (t .C) (planAt (lent cells rows nodes) 0)))
+  -- the fields of the root that are asked for
+  abbrev pub asked : Mask
+  asked = let width = length (fieldsOf (t .C) (planAt (lent cells rows nodes) 0)) in maskOf width (request width)
 
-  abbrev pub walk-starts : {records items icells : List ℕ} → length fields ≡ 65536 → length widths ≡ 256 → length records ≡ 1536 → length items ≡ 16896 → length icells ≡ 12288 → Before cells rows nodes fields widths (results records items icells) 0 (r .set) nothingUsed
+  -- the walk can start at the root, with nothing in use of the result's arrays
+  abbrev pub walk-starts : {records items icells : List ℕ} → length fields ≡ 65536 → length widths ≡ 256 → length records ≡ 1536 → length items ≡ 16896
+      → length icells ≡ 12288 → Before cells rows nodes fields widths (results records items icells) 0 (r .set) nothingUsed
   walk-starts {icells = icells} f w lr li lc = record {
     standing = taken-stands f w;
     within = omega (arith, t .whole, nodes-pos (planAt (lent cells rows nodes) 0));
@@ -88,8 +94,8 @@ module _ {file : List ℕ} {request : ℕ → List ℕ} {cells rows nodes fields
       cells-long = omega (arith, lc);
       room = record { behind = omega arith; rows-fit = omega (arith, li, lc); few = omega (arith, lc); wf = wf-none icells };
     };
-    R = maskOf (length (fieldsOf (t .C) (planAt (lent cells rows nodes) 0))) asked;
-    fit = fit-mask asked (fieldsOf (t .C) (planAt (lent cells rows nodes) 0));
+    R = asked;
+    fit = fit-mask (request (length (fieldsOf (t .C) (planAt (lent cells rows nodes) 0)))) (fieldsOf (t .C) (planAt (lent cells rows nodes) 0));
     asks = t .asks;
   }
 

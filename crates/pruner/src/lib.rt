@@ -112,7 +112,11 @@ fn deliver(
     requires { ⌜ Rewritten (now file) start (now cells) (now rows) (now nodes) (now fields) (now widths) (now records) (now items) (now icells) end ⌝ }
     ensures { λ r. ⌜ ((x : Rewritten (now (file .entry)) start (now (cells .entry)) (now (rows .entry)) (now (nodes .entry)) (now (fields .entry)) (now (widths .entry)) (now (records .entry)) (now (items .entry)) (now (icells .entry)) end) → AnswerIs (rules.deliver (rules.finish (x .standing .C) (x .walked)) (now (out .entry))) r (now (out .exit))) ⌝ }
 {
-    let End::Done { record: root, used: _ } = end else {
+    let End::Done {
+        record: root,
+        used: _,
+    } = end
+    else {
         return refuse(12, 0);
     };
     write_out(
@@ -221,7 +225,14 @@ pub fn prune_in(
 }
 
 // The same in arrays of its own.
-fn prune_alone(mode: u8, mask: u16, all: bool, file: &[u8], request: &[u16], out: &mut [u8]) -> Answer
+fn prune_alone(
+    mode: u8,
+    mask: u16,
+    all: bool,
+    file: &[u8],
+    request: &[u16],
+    out: &mut [u8],
+) -> Answer
     ensures { λ r. ⌜ AnswerIs (rules.reply mode mask (now (file .entry)) (wanted all (now (request .entry))) (now (out .entry))) r (now (out .exit)) ⌝ }
 {
     let mut cells = [0u64; 12288];
@@ -304,7 +315,13 @@ pub extern "C" fn simmerroof_prune(
 
 /// `prune_all` for C and Rust.
 #[no_mangle]
-pub extern "C" fn simmerroof_prune_all(mode: u8, mask: u16, file: &[u8], out: &mut [u8], answer: &mut [u64; 3])
+pub extern "C" fn simmerroof_prune_all(
+    mode: u8,
+    mask: u16,
+    file: &[u8],
+    out: &mut [u8],
+    answer: &mut [u64; 3],
+)
     ensures { λ r. ⌜ NumbersAre (rules.answerAll mode mask (now (file .entry)) (now (out .entry))) (now (answer .exit)) (now (out .exit)) ⌝ }
 {
     put(prune_all(mode, mask, file, out), answer);

@@ -17,7 +17,8 @@ returns c =
     let prune-alone = c .before .before .prune-alone in
     let args = c .before .before .before .before .before .before .before .args in
     let shared-slice-known = c .before .before .before .before .before .before .shared-slice-known in
-    let h = of-these _ _ _ _ _ (prune-alone .ensures) in (h, promised _ _ _ (λ width. args .request .now) _ (are-bytes _ (λ i. omega (arith, shared-slice-known .given i))) h)
+    let h = of-these _ _ _ _ _ (prune-alone .ensures) in
+    (h, promised _ _ _ (λ width. args .request .now) _ (are-bytes _ (λ i. omega (arith, shared-slice-known .given i))) h)
 
 pub prune-spec : {M : Type 1} → statement M
 prune-spec = tie.close (tie.spec prune-alone-requires same-length returns)

@@ -20,7 +20,8 @@ returns : tie.Need-returns
 returns c =
     let prune-alone = c .before .before .prune-alone in
     let shared-slice-known = c .before .before .before .before .before .before .shared-slice-known in
-    let h = of-all _ _ _ _ _ (prune-alone .ensures) in (h, promised _ _ _ (λ width. iota 0 width) _ (are-bytes _ (λ i. omega (arith, shared-slice-known .given i))) h)
+    let h = of-all _ _ _ _ _ (prune-alone .ensures) in
+    (h, promised _ _ _ (λ width. iota 0 width) _ (are-bytes _ (λ i. omega (arith, shared-slice-known .given i))) h)
 
 pub prune-all-spec : {M : Type 1} → statement M
 prune-all-spec = tie.close (tie.spec slice-aggregate-prune-alone prune-alone-requires same-length returns)

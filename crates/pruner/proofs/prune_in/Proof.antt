@@ -55,8 +55,15 @@ optimize-projections-requires c κs =
     let optimize-projections-arg12 = c .before .before .before .before .before .optimize-projections-arg12 in
     let optimize-projections-arg13 = c .before .before .before .before .optimize-projections-arg13 in
     let optimize-projections-arg14 = c .before .before .before .optimize-projections-arg14 in
-    let q = taken-in (if3 .left) (take-in .ensures) in
-    (walk-starts q (take-in .kept .1 .1 .1 .1 .1 .1 .1 .0 ∙ take-in-arg5 .given .0 .1) (take-in .kept .1 .1 .1 .1 .1 .1 .1 .1 .0 ∙ take-in-arg6 .given .0 .1) (optimize-projections-arg15 .given .0 .1) (optimize-projections-arg16 .given .0 .1) (optimize-projections-arg17 .given .0 .1), (scratch (optimize-projections-arg11 .given .0 .1) (optimize-projections-arg12 .given .0 .1), scratch (optimize-projections-arg13 .given .0 .1) (optimize-projections-arg14 .given .0 .1)))
+    let q = taken-in (if3 .left) (take-in .ensures) in (
+      walk-starts q
+          (take-in .kept .1 .1 .1 .1 .1 .1 .1 .0 ∙ take-in-arg5 .given .0 .1) (take-in .kept .1 .1 .1 .1 .1 .1 .1 .1 .0 ∙ take-in-arg6 .given .0 .1)
+          (optimize-projections-arg15 .given .0 .1) (optimize-projections-arg16 .given .0 .1) (optimize-projections-arg17 .given .0 .1),
+      (
+        scratch (optimize-projections-arg11 .given .0 .1) (optimize-projections-arg12 .given .0 .1),
+        scratch (optimize-projections-arg13 .given .0 .1) (optimize-projections-arg14 .given .0 .1),
+      ),
+    )
 
 deliver-requires : tie.Need-deliver-requires
 deliver-requires c κs =
@@ -70,7 +77,10 @@ deliver-requires c κs =
     let optimize-projections-arg17 = c .before .before .before .before .before .before .before .before .before .before .before .before .before .before .before .before .before .before .optimize-projections-arg17 in
     let optimize-projections = c .before .before .before .before .before .before .before .before .before .before .before .before .before .before .before .before .before .optimize-projections in
     let q = taken-in (if3 .left) (take-in .ensures) in
-    handed-on (are-bytes _ (λ i. omega (arith, shared-slice-known .given i))) q (take-in .kept .1 .1 .1 .1 .1 .1 .1 .0 ∙ take-in-arg5 .given .0 .1) (take-in .kept .1 .1 .1 .1 .1 .1 .1 .1 .0 ∙ take-in-arg6 .given .0 .1) (optimize-projections-arg15 .given .0 .1) (optimize-projections-arg16 .given .0 .1) (optimize-projections-arg17 .given .0 .1) (optimize-projections .kept .1 .1 .1 .1 .1 .1 .1 .1 .1 .1 .1 .1 .0 ∙ optimize-projections-arg15 .given .0 .1) (optimize-projections .ensures)
+    handed-on (are-bytes _ (λ i. omega (arith, shared-slice-known .given i))) q
+    (take-in .kept .1 .1 .1 .1 .1 .1 .1 .0 ∙ take-in-arg5 .given .0 .1) (take-in .kept .1 .1 .1 .1 .1 .1 .1 .1 .0 ∙ take-in-arg6 .given .0 .1)
+    (optimize-projections-arg15 .given .0 .1) (optimize-projections-arg16 .given .0 .1) (optimize-projections-arg17 .given .0 .1)
+    (optimize-projections .kept .1 .1 .1 .1 .1 .1 .1 .1 .1 .1 .1 .1 .0 ∙ optimize-projections-arg15 .given .0 .1) (optimize-projections .ensures)
 
 same-length : tie.Need-same-length
 same-length c = search needs
@@ -91,7 +101,11 @@ returns-4 c =
     let optimize-projections = c .before .before .before .before .before .before .before .before .before .before .before .before .before .before .before .before .before .before .before .before .optimize-projections in
     let q = taken-in (if3 .left) (take-in .ensures) in
     answered _ _ _ _ (if1 .left) (if2 .left) _ q refl refl
-    (deliver .ensures (handed-on (are-bytes _ (λ i. omega (arith, shared-slice-known .given i))) q (take-in .kept .1 .1 .1 .1 .1 .1 .1 .0 ∙ take-in-arg5 .given .0 .1) (take-in .kept .1 .1 .1 .1 .1 .1 .1 .1 .0 ∙ take-in-arg6 .given .0 .1) (optimize-projections-arg15 .given .0 .1) (optimize-projections-arg16 .given .0 .1) (optimize-projections-arg17 .given .0 .1) (optimize-projections .kept .1 .1 .1 .1 .1 .1 .1 .1 .1 .1 .1 .1 .0 ∙ optimize-projections-arg15 .given .0 .1) (optimize-projections .ensures)))
+    (deliver .ensures (handed-on (are-bytes _ (λ i. omega (arith, shared-slice-known .given i))) q
+    (take-in .kept .1 .1 .1 .1 .1 .1 .1 .0 ∙ take-in-arg5 .given .0 .1) (take-in .kept .1 .1 .1 .1 .1 .1 .1 .1 .0 ∙ take-in-arg6 .given .0 .1)
+    (optimize-projections-arg15 .given .0 .1) (optimize-projections-arg16 .given .0 .1) (optimize-projections-arg17 .given .0 .1)
+    (optimize-projections .kept .1 .1 .1 .1 .1 .1 .1 .1 .1 .1 .1 .1 .0 ∙ optimize-projections-arg15 .given .0 .1) (optimize-projections .ensures)))
 
 pub prune-in-spec : {M : Type 1} → statement M
-prune-in-spec = tie.close (tie.spec refuse-requires returns refuse-requires-2 returns-2 take-in-requires refuse-requires-3 returns-3 optimize-projections-requires deliver-requires same-length returns-4)
+prune-in-spec = tie.close (tie.spec refuse-requires returns refuse-requires-2 returns-2 take-in-requires refuse-requires-3 returns-3
+    optimize-projections-requires deliver-requires same-length returns-4)

@@ -39,7 +39,8 @@ returns-2 c =
     let pre = c .before .before .before .before .before .before .before .before .before .before .before .before .before .before .before .before .pre in
     let if2 = c .before .if2 in
     let refuse2 = c .refuse2 in
-    λ w. no-room _ _ (omega (arith, if1 .left, node-size .ensures w .tags-are)) (whole-length _ _ (pre .0) (node-size .ensures w .bytes-are)) (if2 .taken) (refuse2 .ensures)
+    λ w. no-room _ _ (omega (arith, if1 .left, node-size .ensures w .tags-are))
+    (whole-length _ _ (pre .0) (node-size .ensures w .bytes-are)) (if2 .taken) (refuse2 .ensures)
 
 write-plan-requires : tie.Need-write-plan-requires
 write-plan-requires c κs =
@@ -58,7 +59,9 @@ returns-3 c =
     let pre = c .before .before .before .before .before .before .before .before .before .before .before .before .before .before .before .before .before .before .before .pre in
     let if2 = c .before .before .before .before .if2 in
     let write-plan = c .before .before .write-plan in
-    λ w. written-out _ _ (omega (arith, if1 .left, node-size .ensures w .tags-are)) (whole-length _ _ (pre .0) (node-size .ensures w .bytes-are)) (if2 .left) (refl, refl) (write-plan .ensures w)
+    λ w. written-out _ _ (omega (arith, if1 .left, node-size .ensures w .tags-are))
+    (whole-length _ _ (pre .0) (node-size .ensures w .bytes-are)) (if2 .left) (refl, refl) (write-plan .ensures w)
 
 pub write-out-spec : {M : Type 1} → statement M
-write-out-spec = tie.close (tie.spec node-size-requires refuse-requires returns add-needed refuse-requires-2 returns-2 write-plan-requires same-length returns-3)
+write-out-spec = tie.close (tie.spec node-size-requires refuse-requires returns add-needed refuse-requires-2 returns-2
+    write-plan-requires same-length returns-3)
