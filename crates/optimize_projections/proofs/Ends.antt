@@ -1,36 +1,32 @@
 -- Results that grow step by step, results that are too large, and a projection put on top of one. Assumes nothing.
-use mathlib.Core.Path.{_≡_, refl, sym, ap, subst, _∙_}
-use mathlib.Core.Logic.{_⊎_, inl, inr, ⊎-elim}
+use mathlib.Core.Path.{_≡_, subst}
+use mathlib.Core.Logic.{inl, inr, ⊎-elim}
 use mathlib.Core.Bool.{Bool, true, false, cond}
 use mathlib.Core.List.{List, map}
-use Prim.Native.Nat.{ℕ, _+_, _*_, _<_, _≤_}
+use Prim.Native.Nat.{ℕ, _+_, _*_, _≤_}
 use native.Mathlib.Omega.{arith}
 use lib.Dec.{ltb}
 use lib.ListN.{length}
-use Rattle.cpl.specs.Exprs.{planNodes, planTags, unaryTags}
+use Rattle.cpl.specs.Exprs.{planNodes, planTags}
 use Rattle.cpl.specs.Fields.{fieldsOf}
-use Rattle.cpl.specs.Limits.{maxNodes, maxTags}
-use Rattle.cpl.specs.Lists.{Fit}
 use Rattle.cpl.specs.Plan.{Catalogue, Item, Pair, Plan, bare, projection, unary}
 use Rattle.rules.specs.Mask.{Mask, count, select}
 use Rattle.rules.specs.Rules.{overChild, sameColumns, topUp}
 use Rattle.rules.specs.Rewrite as rules
-use Rattle.rules.specs.Rewrite.{input}
 use Rattle.required_indices.specs.Request.{Asks}
 use Rattle.required_indices.specs.declared.RequiredIndices.{RequiredIndices}
 use Rattle.arena.proofs.Kept.{kept-refl, kept-trans}
-use Rattle.tree.specs.Tree.{Arrays, planAt}
+use Rattle.tree.specs.Tree.{Arrays}
 use Rattle.result.specs.Result.{Results, recordN, resultAt}
 use Rattle.result.specs.Records.{Grown, results}
-use Rattle.projections.specs.Tops.{NoRoom, OnTop, TopAnswer}
+use Rattle.projections.specs.Tops.{OnTop, TopAnswer}
 use Rattle.projections.specs.declared.Topped.{Topped}
 use Rattle.projections.specs.declared.Topped.the-variants as toppeds
 use Rattle.walk_steps.specs.Steps.{Over, OverIs, Scratch}
-use Rattle.walk_steps.specs.declared.End.{End}
-use Rattle.walk_steps.specs.declared.End.the-variants.{Done, Large}
+use Rattle.walk_steps.specs.declared.End.the-variants.{Done}
 use Rattle.walk_steps.specs.declared.Used.{Used}
 use Rattle.walk_steps.specs.declared.Walked.{Walked}
-use Rattle.optimize_projections.specs.Walk.{EndIs, More, Ready, Stands, TooLarge, WalkIs}
+use Rattle.optimize_projections.specs.Walk.{More, Ready, Stands, TooLarge, WalkIs}
 
 -- ── growing ─────────────────────────────────────────────────────────────────────────────────
 

@@ -1,17 +1,15 @@
 -- An input asked and topped up; both inputs of a node. Assumes nothing.
-use mathlib.Core.Path.{_≡_, refl, sym, ap, ap₂, subst, _∙_}
-use mathlib.Core.Logic.{inl, inr, ⊎-elim}
+use mathlib.Core.Path.{_≡_, refl, sym, ap, subst, _∙_}
 use mathlib.Core.Bool.{Bool, true, false, cond, _||_}
 use mathlib.Core.List.{List}
 use mathlib.Core.Option.{none}
-use Prim.Native.Nat.{ℕ, _+_, _<_, _≤_}
+use Prim.Native.Nat.{ℕ, _+_, _<_}
 use native.Mathlib.Omega.{arith}
 use Rattle.cpl.specs.Exprs.{planNodes, planTags}
 use Rattle.cpl.specs.Fields.{fieldsOf}
 use Rattle.cpl.specs.Lists.{Fit}
-use Rattle.cpl.specs.Plan.{Catalogue, Pair, Plan}
+use Rattle.cpl.specs.Plan.{Catalogue}
 use Rattle.rules.specs.Mask.{Mask, select}
-use Rattle.rules.specs.Merge.{mergeStep}
 use Rattle.rules.specs.Rules.{topUp}
 use Rattle.rules.specs.Rewrite as rules
 use Rattle.rules.specs.Rewrite.{input, walk}
@@ -32,12 +30,11 @@ use Rattle.projections.specs.Tops.{Narrowed}
 use Rattle.walk_steps.specs.Steps.{ToppedIs}
 use Rattle.walk_steps.specs.declared.End.{End}
 use Rattle.walk_steps.specs.declared.End.the-variants.{Done, Large}
-use Rattle.walk_steps.specs.declared.Ends.{Ends}
 use Rattle.walk_steps.specs.declared.Ends.the-variants as inputs
 use Rattle.walk_steps.specs.declared.Inputs.{Inputs}
 use Rattle.walk_steps.specs.declared.Used.{Used}
 use Rattle.walk_steps.specs.declared.Walked.{Walked}
-use Rattle.optimize_projections.specs.Walk.{After, Before, BeforeInputs, EndIs, InputAfter, InputAsked, InputsAfter, InputsAsked, InputsIs, StandTwo, Stands, TwoIs, WalkIs, inputWalk, mergeBy, oneEnd, twoEnd}
+use Rattle.optimize_projections.specs.Walk.{After, Before, BeforeInputs, EndIs, InputAfter, InputAsked, InputsAfter, InputsAsked, InputsIs, Stands, TwoIs, WalkIs, inputWalk, mergeBy, oneEnd, twoEnd}
 use Rattle.optimize_projections.specs.declared.Settings.{Settings}
 use Rattle.optimize_projections.proofs.Ends.{based, grown-refl, grown-trans, large-after, large-up, more-refl, more-trans, over-walk, top-nodes, top-tags}
 

@@ -1,23 +1,22 @@
 -- The pending list over node k: its items at the request, over the node asked for the columns they use. Assumes nothing.
 use mathlib.Core.Path.{_≡_, refl, sym, ap, subst, subst⁻¹, _∙_}
 use mathlib.Core.Logic.{inl, inr, ⊎-elim}
-use mathlib.Core.Bool.{Bool, true, false, cond, not}
+use mathlib.Core.Bool.{Bool, true, false, not}
 use mathlib.Core.List.{List, [], _∷_, map}
 use mathlib.Core.Option.{none, some}
-use Prim.Native.Nat.{ℕ, _+_, _*_, _/_, _^_, _<_, _≤_}
+use Prim.Native.Nat.{ℕ, _+_, _*_, _^_, _<_, _≤_}
 use native.Mathlib.Omega.{arith}
 use lib.Dec.{T}
 use lib.ListN.{length, length-map}
 use Rattle.cpl.specs.Accept.{clash}
-use Rattle.cpl.specs.Exprs.{exprTags, itemTags, planNodes, planTags, unaryTags, usesAny}
+use Rattle.cpl.specs.Exprs.{exprTags, itemTags, planTags, unaryTags, usesAny}
 use Rattle.cpl.specs.Fields.{fieldsOf}
-use Rattle.cpl.specs.Limits.{maxItems, maxTags}
 use Rattle.cpl.specs.Lists.{Fit}
-use Rattle.cpl.specs.Plan.{Catalogue, Item, Pair, Plan, bare, named, itemExpr, itemPair, projection, unary}
+use Rattle.cpl.specs.Plan.{Catalogue, Item, Pair, Plan, bare, named, itemExpr, itemPair}
 use Rattle.cpl.specs.Tests.{allB, sumOf}
 use Rattle.cpl.proofs.Accepted.{distinct-fields, few-fields}
 use Rattle.cpl.proofs.Clash.{no-clash}
-use Rattle.cpl.proofs.Lists.{Fit-length, Fit-map, length-Fit}
+use Rattle.cpl.proofs.Lists.{Fit-length, Fit-map}
 use Rattle.rules.specs.Mask.{Mask, select}
 use Rattle.rules.specs.Rules.{overChild, projectionJob, used}
 use Rattle.rules.specs.Rewrite as rules
@@ -52,7 +51,7 @@ use Rattle.walk_steps.specs.declared.Used.{Used}
 use Rattle.walk_steps.specs.declared.Walked.{Walked}
 use Rattle.optimize_projections.specs.Walk.{After, Before, BeforeList, EndIs, More, PutAfter, Ready, Stands, TooLarge, WalkIs, mergeBy}
 use Rattle.optimize_projections.specs.declared.Settings.{Settings}
-use Rattle.optimize_projections.proofs.Ends.{based, child-nodes, child-tags, grown-refl, large-after, large-up, more-refl, over-walk}
+use Rattle.optimize_projections.proofs.Ends.{based, child-nodes, child-tags, grown-refl, more-refl, over-walk}
 use Rattle.optimize_projections.proofs.Inputs.{narrowed, node-good, node-kept}
 
 -- ── the fields of a node, in their row ──────────────────────────────────────────────────────

@@ -7,16 +7,15 @@ use mathlib.Core.Option.{Option, none, some}
 use Prim.Native.Nat.{ℕ, _+_, _<_, _≤_}
 use native.Mathlib.Omega.{arith}
 use borrow.Author.Tests.{le-ltb}
-use lib.Dec.{T}
 use lib.ListN.{length, length-map}
-use Rattle.cpl.specs.Exprs.{itemTags, planNodes, planTags, unaryExprs, unaryTags}
-use Rattle.cpl.specs.Fields.{binaryFields, fieldsOf, leafFields, unaryFields}
+use Rattle.cpl.specs.Exprs.{itemTags, planTags, unaryExprs, unaryTags}
+use Rattle.cpl.specs.Fields.{fieldsOf, unaryFields}
 use Rattle.cpl.specs.Limits.{maxItems, maxTags}
 use Rattle.cpl.specs.Lists.{Fit}
-use Rattle.cpl.specs.Plan.{Catalogue, Item, Pair, Plan, Unary, projection, filter, sort, limit, aggregate, window, subqueryAlias, distinct, binary, itemPair, leaf, unary}
+use Rattle.cpl.specs.Plan.{Catalogue, Item, Pair, Plan, Unary, projection, filter, sort, limit, aggregate, window, subqueryAlias, distinct, itemPair, unary}
 use Rattle.cpl.specs.ReadPlan.{Head, h0, h1, h2}
 use Rattle.cpl.specs.Tests.{sumOf}
-use Rattle.cpl.specs.Writable.{FitItem, FitList, FitPlan, FitUnary}
+use Rattle.cpl.specs.Writable.{FitList, FitPlan, FitUnary}
 use Rattle.cpl.proofs.Accepted.{Accepted}
 use Rattle.cpl.proofs.Lists.{Fit-length, length-Fit}
 use Rattle.rules.specs.Mask.{Mask}
@@ -24,14 +23,14 @@ use Rattle.rules.specs.Merge.{Merge, mergeStep}
 use Rattle.rules.specs.Rewrite as rules
 use Rattle.rules.specs.Rewrite.{counted, merged, nodeWalk, pend, tooLong, unaryWalk, walk}
 use Rattle.rules.proofs.Inputs.{Fields}
-use Rattle.rules.proofs.MergeTidy.{Step, step, step-fits, step-known, step-pairs}
-use Rattle.rules.proofs.Results.{Items, plan-fields}
+use Rattle.rules.proofs.MergeTidy.{step, step-pairs}
+use Rattle.rules.proofs.Results.{Items, merged-items, plan-fields}
 use Rattle.required_indices.specs.Request.{flagOf}
 use Rattle.required_indices.specs.declared.RequiredIndices.{RequiredIndices}
 use Rattle.arena.specs.Rows.{RowsOk, itemsAt}
 use Rattle.arena.proofs.Same.{items-length}
 use Rattle.tree.specs.Node.{nodeAt}
-use Rattle.tree.specs.Shows.{HasInput, Shows, Stands}
+use Rattle.tree.specs.Shows.{Shows, Stands}
 use Rattle.tree.specs.Tree.{Arrays, headOf, lent, planAt, rightOf}
 use Rattle.tree.specs.declared.Node.{Node}
 use Rattle.tree.specs.declared.Node.the-variants.{Projection, Filter, Sort, Limit, Aggregate, Window, SubqueryAlias, Union, Distinct, Join, Scan, Empty}
@@ -198,16 +197,6 @@ module _ (M : Merge) (C : Catalogue) (js : List Item) (b : Bool) (R : Mask) wher
   long-walk : (is ks : List Item) → M js is ≡ some ks → tooLong ks ≡ true → (p : Plan) → walk M C (unary (projection is) p) (some js) b R .overlong ≡ true
   unfolding counted
   long-walk is ks e t p = ap (λ (w : rules.Walked). w .overlong) (step-walk is ks e p) ∙ ap (λ (o : Bool). o || walk M C p (some ks) b R .overlong) t
-
--- a merged list in place of the upper list
-pub merged-items : {house : Bool} {fs : List Pair} {js is ks : List Item} → Items (map itemPair is) js → Items fs is → Step house js is ks → Items fs ks
-unfolding FitList
-merged-items {fs} {js} {is} {ks} u l s =
-    record {
-      all-found = step-known fs (u .all-found) (l .all-found) s;
-      own = subst⁻¹ Fields (step-pairs s) (u .own);
-      fit = (let e = ap length (step-pairs s) in let m = u .fit .0 in omega (arith, length-map ks itemPair, length-map js itemPair), step-fits (u .fit .1) (l .fit .1) s);
-    }
 
 -- ── a pending list at node k ────────────────────────────────────────────────────────────────
 

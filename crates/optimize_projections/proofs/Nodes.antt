@@ -3,14 +3,14 @@ use mathlib.Core.Path.{_≡_, refl, sym, ap, ap₂, subst, _∙_}
 use mathlib.Core.Bool.{Bool, true, false, cond, _||_}
 use mathlib.Core.List.{List, []}
 use mathlib.Core.Option.{none}
-use Prim.Native.Nat.{ℕ, suc, _+_, _<_, _≤_}
+use Prim.Native.Nat.{ℕ, suc, _+_, _<_}
 use native.Mathlib.Omega.{arith}
 use lib.ListN.{length}
 use Rattle.cpl.specs.Exprs.{planNodes, planTags}
 use Rattle.cpl.specs.Fields.{fieldsOf}
 use Rattle.cpl.specs.Lists.{Fit}
 use Rattle.cpl.specs.Plan.{Binary, Catalogue, Leaf, Pair, Plan, Unary, binary, leaf, unary}
-use Rattle.cpl.specs.ReadPlan.{Head, h0, h1, h2}
+use Rattle.cpl.specs.ReadPlan.{Head}
 use Rattle.cpl.proofs.Lists.{Fit-length}
 use Rattle.rules.specs.Mask.{Mask}
 use Rattle.rules.specs.Merge.{Merge}
@@ -22,24 +22,22 @@ use Rattle.required_indices.specs.declared.RequiredIndices.{RequiredIndices}
 use Rattle.tree.specs.Node.{nodeAt}
 use Rattle.tree.specs.Tree.{Arrays, headOf, lent, planAt}
 use Rattle.tree.specs.declared.Node.{Node}
-use Rattle.lookup.specs.Standing.{Standing}
-use Rattle.result.specs.Result.{Results, keptNode, leafPart, nothingLeft, resultAt, unaryPart}
+use Rattle.result.specs.Result.{Results, keptNode, nothingLeft, resultAt, unaryPart}
 use Rattle.result.specs.Records.{Grown, HeadSet, InputsBelow, KeptOk, results, standsFor}
 use Rattle.result.specs.declared.Record.the-variants as records
 use Rattle.jobs.specs.Asked.{Asked, Other}
-use Rattle.jobs.specs.Job.{AtLeaf, AtNode, AtOne, AtTwo, InputIs, JobAt, KeptOf, Leftover}
+use Rattle.jobs.specs.Job.{AtLeaf, AtNode, AtOne, AtTwo, InputIs, JobAt, KeptOf}
 use Rattle.jobs.specs.declared.Job.{Job}
 use Rattle.jobs.specs.declared.Todo.{Todo}
 use Rattle.jobs.specs.declared.Todo.the-variants as todos
 use Rattle.walk_steps.specs.Steps.{DonePut, LeftFor, NodePut}
-use Rattle.walk_steps.specs.declared.End.{End}
 use Rattle.walk_steps.specs.declared.End.the-variants.{Done, Large}
 use Rattle.walk_steps.specs.declared.Ends.{Ends}
 use Rattle.walk_steps.specs.declared.Ends.the-variants as inputs
 use Rattle.walk_steps.specs.declared.Inputs.{Inputs}
 use Rattle.walk_steps.specs.declared.Used.{Used}
 use Rattle.walk_steps.specs.declared.Walked.{Walked}
-use Rattle.optimize_projections.specs.Walk.{After, Before, BeforeInputs, EndIs, InputAsked, InputsAfter, InputsAsked, InputsIs, Ready, Stands, TwoIs, WalkIs, inputWalk, mergeBy, oneEnd}
+use Rattle.optimize_projections.specs.Walk.{After, Before, BeforeInputs, EndIs, InputAsked, InputsAfter, InputsAsked, InputsIs, Ready, TwoIs, WalkIs, inputWalk, mergeBy, oneEnd}
 use Rattle.optimize_projections.specs.declared.Settings.{Settings}
 use Rattle.optimize_projections.proofs.Ends.{grown-refl, large-up, more-refl}
 use Rattle.optimize_projections.proofs.Inputs.{node-kept}

@@ -1,15 +1,15 @@
 -- A node's record put over its inputs', and what the rules say of a node over its inputs. Assumes nothing.
-use mathlib.Core.Path.{_≡_, refl, sym, ap, subst, _∙_}
+use mathlib.Core.Path.{_≡_, refl, ap, _∙_}
 use mathlib.Core.Logic.{inl, inr}
-use mathlib.Core.Bool.{Bool, true, false, cond}
+use mathlib.Core.Bool.{Bool, true, false}
 use mathlib.Core.List.{List}
 use mathlib.Core.Option.{none}
-use Prim.Native.Nat.{ℕ, suc, _+_, _*_, _<_, _≤_}
+use Prim.Native.Nat.{ℕ, suc, _+_, _*_, _≤_}
 use native.Mathlib.Omega.{arith}
 use lib.ListN.{length}
 use Rattle.cpl.specs.Exprs.{planNodes, planTags}
-use Rattle.cpl.specs.Fields.{fieldsOf, leafFields}
-use Rattle.cpl.specs.Plan.{Binary, Catalogue, Leaf, Pair, Plan, Unary, projection, filter, sort, limit, aggregate, window, subqueryAlias, distinct, leaf, unary, binary}
+use Rattle.cpl.specs.Fields.{fieldsOf}
+use Rattle.cpl.specs.Plan.{Binary, Catalogue, Leaf, Plan, Unary, projection, filter, sort, limit, aggregate, window, subqueryAlias, distinct, leaf, unary, binary}
 use Rattle.rules.specs.Mask.{Mask}
 use Rattle.rules.specs.Merge.{Merge}
 use Rattle.rules.specs.Rules as rules

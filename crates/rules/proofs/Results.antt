@@ -74,7 +74,7 @@ leaf-good C k (scan t q is) o fit b R f =
 leaf-good C k (empty one cs) o fit b R f = record { kept = record { keeps = fit-ones f; fields = sym (select-ones (fit-self cs)) }; accepted = o; fit = fit }
 
 -- a merged list in place of the upper list
-merged-items : {house : Bool} {fs : List Pair} {js is ks : List Item} → Items (map itemPair is) js → Items fs is → Step house js is ks → Items fs ks
+pub merged-items : {house : Bool} {fs : List Pair} {js is ks : List Item} → Items (map itemPair is) js → Items fs is → Step house js is ks → Items fs ks
 unfolding FitList
 merged-items {fs} {js} {is} {ks} u l s =
     record {

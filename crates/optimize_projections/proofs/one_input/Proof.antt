@@ -1,3 +1,4 @@
+-- `optimize_projections::one_input` meets its contract. Assumes nothing.
 use mathlib.Core.Path.{refl, sym}
 use borrow.Author.Needs.{needs}
 use Rattle.optimize_projections.proofs.one_input.Statement.{statement}

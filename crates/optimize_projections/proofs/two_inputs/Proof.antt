@@ -1,3 +1,4 @@
+-- `optimize_projections::two_inputs` meets its contract. Assumes nothing.
 use mathlib.Core.Path.{refl, sym}
 use borrow.Author.Needs.{needs}
 use Rattle.optimize_projections.proofs.two_inputs.Statement.{statement}
