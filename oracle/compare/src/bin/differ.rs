@@ -1,4 +1,4 @@
-//! differ N SEED [wide]: N random accepted plans through the unchanged texts and through the library, crate mode, results
+//! differ N SEED [wide] [slip]: N random accepted plans through the unchanged texts and through the library, crate mode, results
 //! compared byte by byte. Exit status 1 if a difference is not explained.
 use compare::{Library, Verdict, shrink, verdict};
 use generator::{Case, Mix, Random, case, hex, line};
@@ -33,10 +33,10 @@ fn smallest(cases: &[Case]) -> &Case {
     cases.iter().min_by_key(|c| c.file.len()).expect("one at least")
 }
 
-fn run(n: usize, seed: u64, wide: bool) -> bool {
+fn run(n: usize, seed: u64, wide: bool, slip: bool) -> bool {
     let mut r = Random::new(seed);
     let mix = Mix { wide, most_nodes: 256, most_bytes: 12000 };
-    let (mut library, mut c) = (Library::default(), Counts::default());
+    let (mut library, mut c) = (Library::new(slip), Counts::default());
     for _ in 0..n {
         let case = case(&mut r, mix);
         let (texts, answer) = (tools::texts(&case), library.answer(Mode::Crate, &case));
@@ -86,11 +86,11 @@ fn run(n: usize, seed: u64, wide: bool) -> bool {
 
 fn main() {
     let words: Vec<String> = std::env::args().skip(1).collect();
-    let number = |i: usize| words.get(i).and_then(|w| w.parse::<u64>().ok()).expect("differ N SEED [wide]");
+    let number = |i: usize| words.get(i).and_then(|w| w.parse::<u64>().ok()).expect("differ N SEED [wide] [slip]");
     let (n, seed) = (number(0) as usize, number(1));
-    let wide = words.get(2).is_some_and(|w| w == "wide");
+    let [wide, slip] = ["wide", "slip"].map(|word| words.iter().any(|w| w == word));
     std::panic::set_hook(Box::new(|p| eprintln!("{p}")));
-    if !tools::on_deep_stack(move || run(n, seed, wide)) {
+    if !tools::on_deep_stack(move || run(n, seed, wide, slip)) {
         std::process::exit(1);
     }
 }
