@@ -3,7 +3,7 @@
  * answers can be compared with a list of expected ones. Printed: the line, ` => `, code, length, place and the result in
  * hex. Lends the library its working arrays, as a program that prunes many plans does.
  *
- * With a 1 as argument the plain functions are called instead of the lent ones. Every buffer has a byte on each side that
+ * With the word `plain` the plain functions are called instead of the lent ones. Every buffer has a byte on each side that
  * must stay, as must what lies past the result. */
 #include "simmerroof.h"
 
@@ -36,7 +36,7 @@ static uint16_t *list(char *text, size_t *n) {
 }
 
 int main(int argc, char **argv) {
-    int plain = argc > 1 && strcmp(argv[1], "1") == 0;
+    int plain = argc > 1 && strcmp(argv[1], "plain") == 0;
     char *line = malloc(LINE), *file_text = malloc(LINE), *request_text = malloc(LINE);
     struct simmerroof_work *work = malloc(sizeof *work);
     memset(work, 0x5A, sizeof *work);
