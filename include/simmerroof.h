@@ -70,7 +70,9 @@ extern "C" {
  * is 0, and is aligned for its type. `out`, `answer` and the lent arrays overlap neither each other nor what is read.
  * Nothing else is asked: every content of every array gets an answer.
  *
- * The two plain functions keep their working arrays, 1.4 MB, on the stack, and clear them in each call.
+ * Stack: 4 MiB are enough for the two plain functions, 2 MiB for the lent form below; less where plans are small. The
+ * plain ones keep their working arrays, 1.4 MB, on the stack and clear them in each call. Besides, each level of a plan
+ * takes some 1.6 KB, and each level of an expression a third of a KB. (Measured, not proved: rust/tests/stack.rs.)
  *
  * request: the wanted fields of the plan's root, by index, strictly increasing. */
 void simmerroof_prune(uint8_t mode, uint16_t mask, const uint8_t *file, size_t file_len, const uint16_t *request,
@@ -81,7 +83,7 @@ void simmerroof_prune_all(uint8_t mode, uint16_t mask, const uint8_t *file, size
                           size_t out_len, uint64_t answer[3]);
 
 /* ---- The lent form --------------------------------------------------------------------------------------------------
- * The same two with the working arrays lent: for callers that prune many plans, or have a small stack. Keep one
+ * The same two with the working arrays lent: for callers that prune many plans, or have less stack. Keep one
  * `struct simmerroof_work` on the heap (1,410,336 bytes) and call the two `_with` functions. What the arrays held does
  * not matter, and what they hold afterwards means nothing; nobody clears them. One struct serves one call at a time. */
 struct simmerroof_work {

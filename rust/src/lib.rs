@@ -42,8 +42,9 @@ fn result(answer: abi::Answer) -> Result<usize, Refusal> {
 /// Narrows the plan for the fields in `request`: indices of the root's fields, strictly increasing. Writes the result to
 /// the front of `out` and returns its length; what lies behind it stays. A refusal changes no byte of `out`.
 ///
-/// The library keeps 1.4 MB of working arrays on the stack and clears them in every call: a thread of 2 MiB, Rust's
-/// default, has little to spare. To prune many plans, or on a small stack, use a [`Pruner`].
+/// The library keeps 1.4 MB of working arrays on the stack and clears them in every call. The deepest plans then need
+/// more than the 2 MiB that Rust gives a thread; 4 MiB are enough. To prune many plans, or on such a thread, use a
+/// [`Pruner`].
 pub fn prune(mode: Mode, mask: u16, file: &[u8], request: &[u16], out: &mut [u8]) -> Result<usize, Refusal> {
     result(abi::prune(mode as u8, mask, file, Some(request), out))
 }
