@@ -1,9 +1,9 @@
 /* Answers cases, one a line: `mode mask out_len request file`, as the vectors have them (request: `*` for all fields, `-`
  * for none, else a comma list; file in hex, `-` where empty). What a line has from ` => ` on is not read, so that the
  * answers can be compared with a list of expected ones. Printed: the line, ` => `, code, length, place and the result in
- * hex. Lends the library its work area, as a program that prunes many plans does.
+ * hex. Lends the library its working arrays, as a program that prunes many plans does.
  *
- * With a 1 as argument the plain functions are called instead of the lent ones. Every buffer has a byte on each side that
+ * With the word `plain` the plain functions are called instead of the lent ones. Every buffer has a byte on each side that
  * must stay, as must what lies past the result. */
 #include "simmerroof.h"
 
@@ -36,10 +36,10 @@ static uint16_t *list(char *text, size_t *n) {
 }
 
 int main(int argc, char **argv) {
-    int plain = argc > 1 && strcmp(argv[1], "1") == 0;
+    int plain = argc > 1 && strcmp(argv[1], "plain") == 0;
     char *line = malloc(LINE), *file_text = malloc(LINE), *request_text = malloc(LINE);
-    uint64_t *work = malloc(SIMMERROOF_WORK_WORDS * sizeof *work);
-    memset(work, 0x5A, SIMMERROOF_WORK_WORDS * sizeof *work);
+    struct simmerroof_work *work = malloc(sizeof *work);
+    memset(work, 0x5A, sizeof *work);
 
     while (fgets(line, LINE, stdin)) {
         unsigned mode, mask;
@@ -55,13 +55,13 @@ int main(int argc, char **argv) {
             if (plain)
                 simmerroof_prune_all(mode, mask, file, file_len, out, room, answer);
             else
-                simmerroof_prune_all_in(mode, mask, file, file_len, out, room, work, answer);
+                simmerroof_prune_all_with(mode, mask, file, file_len, out, room, work, answer);
         } else {
             uint16_t *request = list(request_text, &request_len);
             if (plain)
                 simmerroof_prune(mode, mask, file, file_len, request, request_len, out, room, answer);
             else
-                simmerroof_prune_in(mode, mask, file, file_len, request, request_len, out, room, work, answer);
+                simmerroof_prune_with(mode, mask, file, file_len, request, request_len, out, room, work, answer);
             free(request);
         }
 

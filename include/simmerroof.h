@@ -67,8 +67,12 @@ extern "C" {
 #define SIMMERROOF_ROOM 13
 
 /* What the caller owes. Every pointer points to as many elements as its length says, is not NULL even where the length
- * is 0, and is aligned for its type. `out`, `work` and `answer` overlap neither each other nor what is read. Nothing else
- * is asked: every content of every array gets an answer.
+ * is 0, and is aligned for its type. `out`, `answer` and the lent arrays overlap neither each other nor what is read.
+ * Nothing else is asked: every content of every array gets an answer.
+ *
+ * Stack: 4 MiB are enough for the two plain functions, 2 MiB for the lent form below; less where plans are small. The
+ * plain ones keep their working arrays, 1.4 MB, on the stack and clear them in each call. Besides, each level of a plan
+ * takes some 1.6 KB, and each level of an expression a third of a KB. (Measured, not proved: rust/tests/stack.rs.)
  *
  * request: the wanted fields of the plan's root, by index, strictly increasing. */
 void simmerroof_prune(uint8_t mode, uint16_t mask, const uint8_t *file, size_t file_len, const uint16_t *request,
@@ -79,16 +83,45 @@ void simmerroof_prune_all(uint8_t mode, uint16_t mask, const uint8_t *file, size
                           size_t out_len, uint64_t answer[3]);
 
 /* ---- The lent form --------------------------------------------------------------------------------------------------
- * The two functions above keep their working arrays on the stack and clear them in each call. These two are lent them:
- * for callers that prune many plans, or have a small stack. What the work area held does not matter, and what it holds
- * afterwards means nothing. One work area serves one call at a time. */
-#define SIMMERROOF_WORK_WORDS 65536 /* to be fixed with the library */
+ * The same two with the working arrays lent: for callers that prune many plans, or have less stack. Keep one
+ * `struct simmerroof_work` on the heap (1,410,336 bytes) and call the two `_with` functions. What the arrays held does
+ * not matter, and what they hold afterwards means nothing; nobody clears them. One struct serves one call at a time. */
+struct simmerroof_work {
+    uint64_t cells[12288], nodes[1792], widths[256], acells[12288], bcells[12288], records[1536], icells[12288];
+    uint16_t rows[409728], names[1040], fields[65536], arows[512], brows[512], items[16896];
+};
 
+/* The library's own functions, which take the arrays one by one. */
 void simmerroof_prune_in(uint8_t mode, uint16_t mask, const uint8_t *file, size_t file_len, const uint16_t *request,
-                         size_t request_len, uint8_t *out, size_t out_len, uint64_t work[SIMMERROOF_WORK_WORDS],
+                         size_t request_len, uint8_t *out, size_t out_len, uint64_t cells[12288],
+                         uint16_t rows[409728], uint64_t nodes[1792], uint16_t names[1040], uint16_t fields[65536],
+                         uint64_t widths[256], uint16_t arows[512], uint64_t acells[12288], uint16_t brows[512],
+                         uint64_t bcells[12288], uint64_t records[1536], uint16_t items[16896], uint64_t icells[12288],
                          uint64_t answer[3]);
 void simmerroof_prune_all_in(uint8_t mode, uint16_t mask, const uint8_t *file, size_t file_len, uint8_t *out,
-                             size_t out_len, uint64_t work[SIMMERROOF_WORK_WORDS], uint64_t answer[3]);
+                             size_t out_len, uint64_t cells[12288], uint16_t rows[409728], uint64_t nodes[1792],
+                             uint16_t names[1040], uint16_t fields[65536], uint64_t widths[256], uint16_t arows[512],
+                             uint64_t acells[12288], uint16_t brows[512], uint64_t bcells[12288],
+                             uint64_t records[1536], uint16_t items[16896], uint64_t icells[12288],
+                             uint64_t answer[3]);
+
+/* As simmerroof_prune. */
+static inline void simmerroof_prune_with(uint8_t mode, uint16_t mask, const uint8_t *file, size_t file_len,
+                                         const uint16_t *request, size_t request_len, uint8_t *out, size_t out_len,
+                                         struct simmerroof_work *work, uint64_t answer[3]) {
+    simmerroof_prune_in(mode, mask, file, file_len, request, request_len, out, out_len, work->cells, work->rows,
+                        work->nodes, work->names, work->fields, work->widths, work->arows, work->acells, work->brows,
+                        work->bcells, work->records, work->items, work->icells, answer);
+}
+
+/* As simmerroof_prune_all. */
+static inline void simmerroof_prune_all_with(uint8_t mode, uint16_t mask, const uint8_t *file, size_t file_len,
+                                             uint8_t *out, size_t out_len, struct simmerroof_work *work,
+                                             uint64_t answer[3]) {
+    simmerroof_prune_all_in(mode, mask, file, file_len, out, out_len, work->cells, work->rows, work->nodes,
+                            work->names, work->fields, work->widths, work->arows, work->acells, work->brows,
+                            work->bcells, work->records, work->items, work->icells, answer);
+}
 
 #ifdef __cplusplus
 }

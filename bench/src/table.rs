@@ -31,8 +31,8 @@ pub fn instructions(sets: &[Set], rows: &[[Option<f64>; 4]]) {
         "\nCrate mode, mask 0, all fields; all built for release. No file is opened: plans and results are in memory.
 Rust, pass alone: from a plan in memory to a plan in memory; reading, writing and dropping the result do not count.
 Rust, with file codec: the oracle's own reading and writing count, and the dropping of both plans.
-library, lent form: reading and writing count; the work area is lent and nobody clears it between calls.
-library, plain form: reading and writing count, and so does making and clearing the work area in each call.
+library, lent form: reading and writing count; the working arrays are lent and nobody clears them between calls.
+library, plain form: reading and writing count, and so does making and clearing the working arrays in each call.
 The output buffer is made once for all calls and nobody clears it."
     );
 }

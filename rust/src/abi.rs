@@ -1,14 +1,99 @@
-//! The exported functions, as include/simmerroof.h declares them. The size of the work area stands here and there only.
+//! The exported functions, as include/simmerroof.h declares them. The arrays that are lent are listed here once, in the
+//! order in which the library takes them.
 
-/// 64-bit words of the lent work area (to be fixed with the library).
-pub const WORK_WORDS: usize = 65536;
-
-pub type Work = [u64; WORK_WORDS];
 /// code, length, place
 pub type Answer = [u64; 3];
 
+macro_rules! lent {
+    ($($array:ident: [$of:ty; $n:literal],)*) => {
+        /// The working arrays.
+        #[repr(C)]
+        pub struct Work {
+            $($array: [$of; $n],)*
+        }
+
+        unsafe extern "C" {
+            fn simmerroof_prune_in(
+                mode: u8,
+                mask: u16,
+                file: *const u8,
+                file_len: usize,
+                request: *const u16,
+                request_len: usize,
+                out: *mut u8,
+                out_len: usize,
+                $($array: *mut [$of; $n],)*
+                answer: *mut Answer,
+            );
+            fn simmerroof_prune_all_in(
+                mode: u8,
+                mask: u16,
+                file: *const u8,
+                file_len: usize,
+                out: *mut u8,
+                out_len: usize,
+                $($array: *mut [$of; $n],)*
+                answer: *mut Answer,
+            );
+        }
+
+        /// The lent form: without a request every field is asked for.
+        pub fn prune_in(
+            mode: u8,
+            mask: u16,
+            file: &[u8],
+            request: Option<&[u16]>,
+            out: &mut [u8],
+            work: &mut Work,
+        ) -> Answer {
+            let mut answer = [0; 3];
+            let (start, length) = (out.as_mut_ptr(), out.len());
+            // SAFETY: as in `prune`; the arrays are of the sizes that the library asks for and are borrowed exclusively
+            unsafe {
+                match request {
+                    Some(r) => simmerroof_prune_in(
+                        mode, mask, file.as_ptr(), file.len(), r.as_ptr(), r.len(), start, length,
+                        $(&mut work.$array,)*
+                        &mut answer,
+                    ),
+                    None => simmerroof_prune_all_in(
+                        mode, mask, file.as_ptr(), file.len(), start, length,
+                        $(&mut work.$array,)*
+                        &mut answer,
+                    ),
+                }
+            }
+            answer
+        }
+    };
+}
+
+lent! {
+    cells: [u64; 12288],
+    rows: [u16; 409728],
+    nodes: [u64; 1792],
+    names: [u16; 1040],
+    fields: [u16; 65536],
+    widths: [u64; 256],
+    arows: [u16; 512],
+    acells: [u64; 12288],
+    brows: [u16; 512],
+    bcells: [u64; 12288],
+    records: [u64; 1536],
+    items: [u16; 16896],
+    icells: [u64; 12288],
+}
+
+impl Work {
+    /// On the heap from the start: it is too large to pass through the stack.
+    pub fn new() -> Box<Work> {
+        // SAFETY: every field is an array of whole numbers, of which 0 is one
+        unsafe { Box::new_zeroed().assume_init() }
+    }
+}
+
 unsafe extern "C" {
-    pub fn simmerroof_prune(
+    fn simmerroof_prune(
         mode: u8,
         mask: u16,
         file: *const u8,
@@ -19,7 +104,7 @@ unsafe extern "C" {
         out_len: usize,
         answer: *mut Answer,
     );
-    pub fn simmerroof_prune_all(
+    fn simmerroof_prune_all(
         mode: u8,
         mask: u16,
         file: *const u8,
@@ -28,26 +113,21 @@ unsafe extern "C" {
         out_len: usize,
         answer: *mut Answer,
     );
-    pub fn simmerroof_prune_in(
-        mode: u8,
-        mask: u16,
-        file: *const u8,
-        file_len: usize,
-        request: *const u16,
-        request_len: usize,
-        out: *mut u8,
-        out_len: usize,
-        work: *mut Work,
-        answer: *mut Answer,
-    );
-    pub fn simmerroof_prune_all_in(
-        mode: u8,
-        mask: u16,
-        file: *const u8,
-        file_len: usize,
-        out: *mut u8,
-        out_len: usize,
-        work: *mut Work,
-        answer: *mut Answer,
-    );
+}
+
+/// The plain form: without a request every field is asked for.
+pub fn prune(mode: u8, mask: u16, file: &[u8], request: Option<&[u16]>, out: &mut [u8]) -> Answer {
+    let mut answer = [0; 3];
+    let (start, length) = (out.as_mut_ptr(), out.len());
+    // SAFETY: pointers and lengths come from slices, so they are valid, aligned and not null; the two that are written
+    // are exclusive borrows and overlap nothing
+    unsafe {
+        match request {
+            Some(r) => {
+                simmerroof_prune(mode, mask, file.as_ptr(), file.len(), r.as_ptr(), r.len(), start, length, &mut answer)
+            }
+            None => simmerroof_prune_all(mode, mask, file.as_ptr(), file.len(), start, length, &mut answer),
+        }
+    }
+    answer
 }

@@ -42,47 +42,19 @@ fn result(answer: abi::Answer) -> Result<usize, Refusal> {
 /// Narrows the plan for the fields in `request`: indices of the root's fields, strictly increasing. Writes the result to
 /// the front of `out` and returns its length; what lies behind it stays. A refusal changes no byte of `out`.
 ///
-/// The library keeps some half a megabyte of working arrays on the stack and clears them in every call. To prune many
-/// plans, or on a small stack, use a [`Pruner`].
+/// The library keeps 1.4 MB of working arrays on the stack and clears them in every call. The deepest plans then need
+/// more than the 2 MiB that Rust gives a thread; 4 MiB are enough. To prune many plans, or on such a thread, use a
+/// [`Pruner`].
 pub fn prune(mode: Mode, mask: u16, file: &[u8], request: &[u16], out: &mut [u8]) -> Result<usize, Refusal> {
-    let mut answer = [0; 3];
-    // SAFETY: pointers and lengths come from slices, so they are valid, aligned and not null; the two that are written
-    // are exclusive borrows and overlap nothing
-    unsafe {
-        abi::simmerroof_prune(
-            mode as u8,
-            mask,
-            file.as_ptr(),
-            file.len(),
-            request.as_ptr(),
-            request.len(),
-            out.as_mut_ptr(),
-            out.len(),
-            &mut answer,
-        );
-    }
-    result(answer)
+    result(abi::prune(mode as u8, mask, file, Some(request), out))
 }
 
 /// As [`prune`], asking for every field of the root.
 pub fn prune_all(mode: Mode, mask: u16, file: &[u8], out: &mut [u8]) -> Result<usize, Refusal> {
-    let mut answer = [0; 3];
-    // SAFETY: as in `prune`
-    unsafe {
-        abi::simmerroof_prune_all(
-            mode as u8,
-            mask,
-            file.as_ptr(),
-            file.len(),
-            out.as_mut_ptr(),
-            out.len(),
-            &mut answer,
-        );
-    }
-    result(answer)
+    result(abi::prune(mode as u8, mask, file, None, out))
 }
 
-/// Holds the library's working arrays on the heap, made once and never cleared between calls.
+/// Holds the library's working arrays (1,410,336 bytes) on the heap, made once and never cleared between calls.
 pub struct Pruner {
     work: Box<abi::Work>,
 }
@@ -95,8 +67,7 @@ impl Default for Pruner {
 
 impl Pruner {
     pub fn new() -> Self {
-        let words = vec![0u64; abi::WORK_WORDS].into_boxed_slice();
-        Pruner { work: words.try_into().expect("the length is WORK_WORDS") }
+        Pruner { work: abi::Work::new() }
     }
 
     /// As the function [`prune`].
@@ -108,42 +79,12 @@ impl Pruner {
         request: &[u16],
         out: &mut [u8],
     ) -> Result<usize, Refusal> {
-        let mut answer = [0; 3];
-        // SAFETY: as in `prune`; the work area is an exclusive borrow of the size that the library asks for
-        unsafe {
-            abi::simmerroof_prune_in(
-                mode as u8,
-                mask,
-                file.as_ptr(),
-                file.len(),
-                request.as_ptr(),
-                request.len(),
-                out.as_mut_ptr(),
-                out.len(),
-                &mut *self.work,
-                &mut answer,
-            );
-        }
-        result(answer)
+        result(abi::prune_in(mode as u8, mask, file, Some(request), out, &mut self.work))
     }
 
     /// As the function [`prune_all`].
     pub fn prune_all(&mut self, mode: Mode, mask: u16, file: &[u8], out: &mut [u8]) -> Result<usize, Refusal> {
-        let mut answer = [0; 3];
-        // SAFETY: as in `Pruner::prune`
-        unsafe {
-            abi::simmerroof_prune_all_in(
-                mode as u8,
-                mask,
-                file.as_ptr(),
-                file.len(),
-                out.as_mut_ptr(),
-                out.len(),
-                &mut *self.work,
-                &mut answer,
-            );
-        }
-        result(answer)
+        result(abi::prune_in(mode as u8, mask, file, None, out, &mut self.work))
     }
 
     /// The result as a vector of just its length.
@@ -156,11 +97,7 @@ impl Pruner {
     ) -> Result<Vec<u8>, Refusal> {
         let mut out = vec![0; file.len() + 256];
         loop {
-            let answer = match request {
-                Some(request) => self.prune(mode, mask, file, request, &mut out),
-                None => self.prune_all(mode, mask, file, &mut out),
-            };
-            match answer {
+            match result(abi::prune_in(mode as u8, mask, file, request, &mut out, &mut self.work)) {
                 Err(Refusal { kind: Kind::Room, place }) => out.resize(place, 0),
                 Err(refusal) => return Err(refusal),
                 Ok(length) => {

@@ -9,6 +9,7 @@ use simmerroof::{Kind, Mode, Pruner, Refusal};
 pub type Answer = Result<Vec<u8>, Refusal>;
 
 pub struct Library {
+    slip: bool,
     pruner: Pruner,
     plain: Vec<u8>,
     lent: Vec<u8>,
@@ -17,13 +18,12 @@ pub struct Library {
 const ROOM: usize = 1 << 17;
 const UNTOUCHED: u8 = 0xA5;
 
-impl Default for Library {
-    fn default() -> Self {
-        Library { pruner: Pruner::new(), plain: vec![UNTOUCHED; ROOM], lent: vec![UNTOUCHED; ROOM] }
-    }
-}
-
 impl Library {
+    /// `slip`: a byte of each longer result is changed, so that a comparison can be seen to fail.
+    pub fn new(slip: bool) -> Self {
+        Library { slip, pruner: Pruner::new(), plain: vec![UNTOUCHED; ROOM], lent: vec![UNTOUCHED; ROOM] }
+    }
+
     /// Calls the plain and the lent form and holds them to each other, and to leaving the rest of the output alone.
     pub fn answer(&mut self, mode: Mode, case: &Case) -> Answer {
         let Case { mask, file, request } = case;
@@ -44,6 +44,9 @@ impl Library {
             // results are short; looking a little past them keeps the run quick
             let past = &out[n..(n + 64).min(ROOM)];
             assert!(past.iter().all(|b| *b == UNTOUCHED), "bytes past the result changed");
+        }
+        if self.slip && n > 80 {
+            self.plain[80] ^= 1;
         }
         let answer = plain.map(|n| self.plain[..n].to_vec());
         self.plain[..n].fill(UNTOUCHED);

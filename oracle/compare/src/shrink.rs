@@ -1,8 +1,9 @@
 //! A smaller case of the same kind.
 use generator::Case;
-use model::{File, Plan, accept, read, write};
+use model::{Call, File, Join, Plan, accept, read, write};
 
-/// Puts inputs in the place of their nodes, asks for all fields or sets the mask to 0, as long as `same` holds.
+/// Puts inputs in the place of their nodes, leaves out entries of lists and tables, asks for all fields or sets the mask
+/// to 0, as long as `same` holds.
 pub fn shrink(case: &Case, same: &mut dyn FnMut(&Case) -> bool) -> Case {
     let mut best = case.clone();
     while let Some(smaller) = candidates(&best).into_iter().find(|c| same(c)) {
@@ -22,6 +23,13 @@ fn candidates(case: &Case) -> Vec<Case> {
     let Ok(file) = read(&case.file) else {
         return out;
     };
+    for at in 0..file.tables.len() {
+        let tables = less_one(&file.tables, at);
+        let shorter = write(&File { tables, plan: file.plan.clone() });
+        if read(&shorter).is_ok_and(|f| accept(&f.plan, &f.tables).is_ok()) {
+            out.push(Case { file: shorter, ..case.clone() });
+        }
+    }
     for plan in smaller(&file.plan) {
         let Ok(fields) = accept(&plan, &file.tables) else {
             continue;
@@ -57,6 +65,7 @@ fn smaller(plan: &Plan) -> Vec<Plan> {
         }
         Plan::Window(w, c) => {
             out.extend(less(w).filter(|l| !l.is_empty()).map(|l| Plan::Window(l, c.clone())));
+            out.extend(simpler(w).map(|l| Plan::Window(l, c.clone())));
             out.extend(inside(c, |c| Plan::Window(w.clone(), c)));
         }
         Plan::SubqueryAlias(q, c) => out.extend(inside(c, |c| Plan::SubqueryAlias(*q, c))),
@@ -66,10 +75,16 @@ fn smaller(plan: &Plan) -> Vec<Plan> {
             out.extend(inside(r, |c| Plan::Union(l.clone(), c)));
         }
         Plan::Join(j, l, r) => {
+            let lists = less(&j.on).map(|on| Join { on, ..j.clone() });
+            let bare = j.condition.is_some().then(|| Join { condition: None, ..j.clone() });
+            out.extend(lists.chain(bare).map(|j| Plan::Join(j, l.clone(), r.clone())));
             out.extend(inside(l, |c| Plan::Join(j.clone(), c, r.clone())));
             out.extend(inside(r, |c| Plan::Join(j.clone(), l.clone(), c)));
         }
-        Plan::Scan { .. } | Plan::Empty { .. } => {}
+        Plan::Empty { one_row, fields } => {
+            out.extend(less(fields).map(|fields| Plan::Empty { one_row: *one_row, fields }));
+        }
+        Plan::Scan { .. } => {}
     }
     out
 }
@@ -78,6 +93,20 @@ fn inside(child: &Plan, around: impl Fn(Box<Plan>) -> Plan) -> Vec<Plan> {
     smaller(child).into_iter().map(|c| around(Box::new(c))).collect()
 }
 
+/// A window's calls with one partition or order entry of one of them left out.
+fn simpler(calls: &[Call]) -> impl Iterator<Item = Vec<Call>> {
+    (0..calls.len()).flat_map(move |i| {
+        let call = &calls[i];
+        let partitions = less(&call.partition).map(|partition| Call { partition, ..call.clone() });
+        let orders = less(&call.order).map(|order| Call { order, ..call.clone() });
+        partitions.chain(orders).map(move |c| [&calls[..i], &[c], &calls[i + 1..]].concat())
+    })
+}
+
 fn less<T: Clone>(list: &[T]) -> impl Iterator<Item = Vec<T>> {
-    (0..list.len()).map(|i| [&list[..i], &list[i + 1..]].concat())
+    (0..list.len()).map(|i| less_one(list, i))
+}
+
+fn less_one<T: Clone>(list: &[T], at: usize) -> Vec<T> {
+    [&list[..at], &list[at + 1..]].concat()
 }

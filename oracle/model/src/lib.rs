@@ -1,5 +1,5 @@
-//! Document 01 read a second time, in plain Rust: no contract, no proof, no claim to speed. It serves the generator, the
-//! test double and the naming of known differences. It is no evidence about the proved library and no part of it.
+//! Document 01 read a second time, in plain Rust: no contract, no proof, no claim to speed. It serves the generator,
+//! the command `damage` and the naming of known differences. It is no part of the proved library.
 mod accept;
 mod answer;
 mod exprs;

@@ -1,4 +1,4 @@
-//! damage N SEED: N damaged files, requests and settings through the library and through the model of document 01, both
+//! damage N SEED [slip]: N damaged files, requests and settings through the library and through the model of document 01, both
 //! modes; code, length, place and result compared. Says nothing about the Rust.
 use compare::Library;
 use generator::{Case, Mix, Random, case, line};
@@ -34,10 +34,10 @@ fn damage(r: &mut Random, case: &mut Case) {
     }
 }
 
-fn run(n: usize, seed: u64) -> bool {
+fn run(n: usize, seed: u64, slip: bool) -> bool {
     let mut r = Random::new(seed);
     let mix = Mix { wide: true, most_nodes: 256, most_bytes: 12000 };
-    let mut library = Library::default();
+    let mut library = Library::new(slip);
     let mut codes = [0; 14];
     for _ in 0..n {
         let mut case = case(&mut r, mix);
@@ -59,8 +59,11 @@ fn run(n: usize, seed: u64) -> bool {
 }
 
 fn main() {
-    let words: Vec<u64> = std::env::args().skip(1).map(|a| a.parse().expect("damage N SEED")).collect();
-    if !tools::on_deep_stack(move || run(words[0] as usize, words[1])) {
+    let words: Vec<String> = std::env::args().skip(1).collect();
+    let number = |i: usize| words.get(i).and_then(|w| w.parse::<u64>().ok()).expect("damage N SEED [slip]");
+    let (n, seed) = (number(0) as usize, number(1));
+    let slip = words.iter().any(|w| w == "slip");
+    if !tools::on_deep_stack(move || run(n, seed, slip)) {
         std::process::exit(1);
     }
 }

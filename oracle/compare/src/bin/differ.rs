@@ -1,4 +1,4 @@
-//! differ N SEED [wide]: N random accepted plans through the unchanged texts and through the library, crate mode, results
+//! differ N SEED [wide] [slip]: N random accepted plans through the unchanged texts and through the library, crate mode, results
 //! compared byte by byte. Exit status 1 if a difference is not explained.
 use compare::{Library, Verdict, shrink, verdict};
 use generator::{Case, Mix, Random, case, hex, line};
@@ -17,7 +17,7 @@ struct Counts {
     kinds: BTreeMap<&'static str, usize>,
     joins: [usize; 8],
     stale: Vec<Case>,
-    limit: usize,
+    limit: Vec<Case>,
     unexplained: Vec<Case>,
 }
 
@@ -29,14 +29,23 @@ fn count(plan: &Plan, c: &mut Counts) {
     plan.children().into_iter().for_each(|p| count(p, c));
 }
 
-fn smallest(cases: &[Case]) -> &Case {
-    cases.iter().min_by_key(|c| c.file.len()).expect("one at least")
+/// The shortest twenty, made smaller; the shortest of what is left.
+fn smallest(cases: &[Case], same: &mut dyn FnMut(&Case) -> bool) -> Case {
+    let mut cases: Vec<&Case> = cases.iter().collect();
+    cases.sort_by_key(|c| c.file.len());
+    let shrunk = cases.into_iter().take(20).map(|c| shrink(c, same));
+    shrunk.min_by_key(|c| c.file.len()).expect("one at least")
 }
 
-fn run(n: usize, seed: u64, wide: bool) -> bool {
+/// In hex, or its length where it is long.
+fn shown(bytes: &[u8]) -> String {
+    if bytes.len() > 1000 { format!("{} bytes", bytes.len()) } else { hex(bytes) }
+}
+
+fn run(n: usize, seed: u64, wide: bool, slip: bool) -> bool {
     let mut r = Random::new(seed);
     let mix = Mix { wide, most_nodes: 256, most_bytes: 12000 };
-    let (mut library, mut c) = (Library::default(), Counts::default());
+    let (mut library, mut c) = (Library::new(slip), Counts::default());
     for _ in 0..n {
         let case = case(&mut r, mix);
         let (texts, answer) = (tools::texts(&case), library.answer(Mode::Crate, &case));
@@ -50,7 +59,7 @@ fn run(n: usize, seed: u64, wide: bool) -> bool {
         match verdict(&case, &texts, &answer) {
             Verdict::Equal => c.equal += 1,
             Verdict::Stale => c.stale.push(case),
-            Verdict::Limit => c.limit += 1,
+            Verdict::Limit => c.limit.push(case),
             Verdict::Unexplained => c.unexplained.push(case),
         }
     }
@@ -60,37 +69,36 @@ fn run(n: usize, seed: u64, wide: bool) -> bool {
     println!("  nodes: {}", c.kinds.iter().map(|(k, n)| format!("{k} {n}")).collect::<Vec<_>>().join(", "));
     println!("  joins by type 0 to 7: {:?}", c.joins);
     println!("  differ, a stale schema over an Empty leaf (docs/DIFFERENCES.md): {}", c.stale.len());
-    println!("  differ, over document 01's limits: {}", c.limit);
+    println!("  differ, over document 01's limits: {}", c.limit.len());
     println!("  differ, unexplained: {}", c.unexplained.len());
-    let mut of_kind = |wanted: Verdict, cases: &[Case]| {
+    for (wanted, cases) in
+        [(Verdict::Stale, &c.stale), (Verdict::Limit, &c.limit), (Verdict::Unexplained, &c.unexplained)]
+    {
+        if cases.is_empty() {
+            continue;
+        }
         let mut same = |x: &Case| verdict(x, &tools::texts(x), &library.answer(Mode::Crate, x)) == wanted;
-        let least = shrink(smallest(cases), &mut same);
+        let least = smallest(cases, &mut same);
         println!("smallest {wanted:?}: {}", line(&least, 0, 65536));
         match tools::texts(&least) {
-            Ok(b) => println!("  texts    {}", hex(&b)),
+            Ok(b) => println!("  texts    {}", shown(&b)),
             Err(words) => println!("  texts    refuse: {words}"),
         }
         match library.answer(Mode::Crate, &least) {
-            Ok(b) => println!("  library  {}", hex(&b)),
+            Ok(b) => println!("  library  {}", shown(&b)),
             Err(refusal) => println!("  library  refuses: code {}, {refusal}", refusal.kind.code()),
         }
-    };
-    if !c.stale.is_empty() {
-        of_kind(Verdict::Stale, &c.stale);
-    }
-    if !c.unexplained.is_empty() {
-        of_kind(Verdict::Unexplained, &c.unexplained);
     }
     c.unexplained.is_empty()
 }
 
 fn main() {
     let words: Vec<String> = std::env::args().skip(1).collect();
-    let number = |i: usize| words.get(i).and_then(|w| w.parse::<u64>().ok()).expect("differ N SEED [wide]");
+    let number = |i: usize| words.get(i).and_then(|w| w.parse::<u64>().ok()).expect("differ N SEED [wide] [slip]");
     let (n, seed) = (number(0) as usize, number(1));
-    let wide = words.get(2).is_some_and(|w| w == "wide");
+    let [wide, slip] = ["wide", "slip"].map(|word| words.iter().any(|w| w == word));
     std::panic::set_hook(Box::new(|p| eprintln!("{p}")));
-    if !tools::on_deep_stack(move || run(n, seed, wide)) {
+    if !tools::on_deep_stack(move || run(n, seed, wide, slip)) {
         std::process::exit(1);
     }
 }
