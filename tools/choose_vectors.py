@@ -1,7 +1,8 @@
 #!/usr/bin/env python3
 """tools/choose_vectors.py [LIBRARY]: writes crates/replay/stdin and crates/replay/stdout.
 
-The vectors that the gate replays: cases made by hand from document 01, then a choice of the lines of LIBRARY (../shared/vectors/library.txt).
+The vectors that the gate replays: cases made by hand from document 01, then a choice of the lines of LIBRARY (../shared/vectors/library.txt), then the
+answers of the Rust's own texts (oracle/answers.txt, made by oracle/answers).
 
 By hand. Each case below has the answer that document 01 gives, written down beside it, never computed by code of this project: a
 result is spelled out as bytes, a refusal as code and place. A file is a list of fields, so that an offset is the sum of the sizes before it.
@@ -530,15 +531,16 @@ def choose(lines):
 def main():
     library = Path(sys.argv[1]) if len(sys.argv) > 1 else ROOT.parent / 'shared/vectors/library.txt'
     chosen = choose(library.read_text().split('\n')[:-1])
-    lines = cases + chosen
+    rust = (ROOT / 'oracle/answers.txt').read_text().split('\n')[:-1]
+    lines = cases + chosen + rust
     text = ''.join(line + '\n' for line in lines)
     per_code = [sum(line.split(' ')[6] == str(code) for line in lines) for code in range(14)]
     crate = ROOT / 'crates/replay'
     (crate / 'stdin').write_text(text)
     summary = [f'vectors {len(lines)}'] + [f'code {code}: {n}' for code, n in enumerate(per_code)] + ['differ 0']
     (crate / 'stdout').write_text('\n'.join(summary) + '\n')
-    print(f'{len(cases)} by hand, {len(chosen)} chosen, {len(text)} bytes; by code', per_code)
-    if len(text) >= 262144:
+    print(f'{len(cases)} by hand, {len(chosen)} chosen, {len(rust)} of the Rust, {len(text)} bytes; by code', per_code)
+    if len(text) >= 524288:
         sys.exit('more than the program reads')
 
 

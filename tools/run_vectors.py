@@ -11,7 +11,7 @@ import sys
 from pathlib import Path
 
 ROOT = Path(__file__).resolve().parent.parent
-PART = 262143  # what replay reads, less one
+PART = 524287  # what replay reads, less one
 
 
 def run(program, given):

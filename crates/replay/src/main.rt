@@ -16,7 +16,7 @@ const FILL: u8 = 165;
 const CODES: usize = 14;
 
 // Standard input is read whole, up to this many bytes.
-const INPUT: usize = 262144;
+const INPUT: usize = 524288;
 
 // The numbers of a vector: the settings and the room, then the answer that it has.
 struct Numbers {
@@ -289,7 +289,7 @@ fn replay(all: &[u8]) {
 
 // Room for standard input.
 fn input_buffer() -> [u8; INPUT]
-    ensures { λ r. ⌜ 262144 ≡ length r ⌝ }
+    ensures { λ r. ⌜ 524288 ≡ length r ⌝ }
 {
     [0; INPUT]
 }
@@ -300,6 +300,6 @@ fn main() {
     if n < INPUT {
         replay(&input[..n]);
     } else {
-        text(b"more than 262,143 bytes\n");
+        text(b"more than 524,287 bytes\n");
     }
 }
