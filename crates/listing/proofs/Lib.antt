@@ -1,0 +1,4 @@
+-- The laws of listings, bottom up.
+pub mod Digits
+pub mod Puts
+pub mod Nodes

@@ -1,0 +1,70 @@
+-- The laws of texts that are put at a place, and of lines made of them. Assumes nothing.
+use mathlib.Core.Path.{_≡_, refl, sym, ap, subst, subst⁻¹, _∙_}
+use mathlib.Core.List.{List, [], _∷_, _++_, append-assoc}
+use Prim.Native.Nat.{ℕ, zero, suc, _+_, _-_, _/_, _%_, _^_, _<_, _≤_}
+use native.Mathlib.Omega.{arith}
+use lib.ListN.{length, take, drop, set, length-append, take-append-drop}
+use lib.Seq.{take-at, drop-at, take-all, drop-drop, length-take-le, set-split}
+use Rattle.writer_parts.specs.Wrote.{over, Wrote, Laid}
+use Rattle.writer_parts.proofs.Over.{kept, laid, over-over, so, then}
+use Rattle.tree.specs.declared.Node.{Node}
+use Rattle.listing.specs.Text.{decimal}
+use Rattle.listing.specs.Lines.{Puts, nodeText}
+use Rattle.listing.proofs.Digits.{small, step, step-length}
+
+-- all of s was copied over the start of xs
+pub copied : {xs out : List ℕ} {a : ℕ} (s : List ℕ) → a ≡ length s → out ≡ take (length s) s ++ drop (length s) xs → Wrote s xs a out
+unfolding over
+copied {xs} s e d = record { long = e; ends = d ∙ ap (λ (ys : List ℕ). ys ++ drop (length s) xs) (take-all (length s) s (omega arith)) }
+
+-- what was put at a place
+pub put : {v out ys : List ℕ} {n r : ℕ} (at : ℕ) → Wrote v (take (length out - at) (drop at out)) n ys → r ≡ at + n
+    → Puts at v out r (take at out ++ (ys ++ drop (length out - at) (drop at out)))
+put {v} at w e = let l = laid at w in record { long = e ∙ ap (at +_) (w .long); size = refl; ends = l .ends }
+
+-- the bytes before the place, and then what was put there
+start-kept : (at : ℕ) (xs : List ℕ) → at ≤ length xs → Wrote (take at xs) xs at xs
+unfolding over
+start-kept at xs h = record { long = sym (length-take-le at xs h); ends = rw (length-take-le at xs h) (sym (take-append-drop at xs)) }
+
+pub whole : {at n r : ℕ} {v xs ys : List ℕ} → at ≤ length xs → Laid at v n xs r ys → Wrote (take at xs ++ v) xs r ys
+whole {at} {xs = xs} h l = then (start-kept at xs h) l
+
+pub placed : {at r : ℕ} {v xs ys : List ℕ} → at ≤ length xs → Wrote (take at xs ++ v) xs r ys → Puts at v xs r ys
+placed {at} {r} {v} {xs} {ys} h w = record {
+  long = w .long ∙ (length-append (take at xs) v ∙ ap (_+ length v) (length-take-le at xs h));
+  size = refl;
+  ends = w .ends ∙ (sym (over-over (take at xs) v xs) ∙ ap (λ i. take at xs ++ over v (drop i xs)) (length-take-le at xs h));
+}
+
+-- one byte
+pub byte : {xs : List ℕ} (at b : ℕ) → at < length xs → Puts at (b ∷ []) xs (at + 1) (set xs at b)
+unfolding over
+byte {xs} at b h = record {
+  long = refl;
+  size = refl;
+  ends = let e : suc at ≡ at + 1 = omega arith in set-split xs at b h ∙ ap (λ (ys : List ℕ). take at xs ++ b ∷ ys) (ap (λ i. drop i xs) e ∙ sym (drop-drop 1 at xs));
+}
+
+-- a buffer keeps its length
+pub put-kept : {at r : ℕ} {v xs ys : List ℕ} → Puts at v xs r ys → at + length v ≤ length xs → length ys ≡ length xs
+put-kept {at} {r} {v} {xs} {ys} p h = kept (whole (omega arith) p) (omega (arith, p .long))
+
+-- ── numbers ─────────────────────────────────────────────────────────────────────────────────
+
+pub number-small : {xs : List ℕ} (at n : ℕ) → n < 10 → at + length (decimal n) ≤ length xs → Puts at (decimal n) xs (at + 1) (set xs at (48 + n))
+number-small {xs} at n h l = let e = ap length (small n h) in subst⁻¹ (λ (v : List ℕ). Puts at v xs (at + 1) (set xs at (48 + n))) (small n h) (byte at (48 + n) (omega arith))
+
+pub number-step : {xs ys : List ℕ} {r : ℕ} (at n : ℕ) → 10 ≤ n → at + length (decimal n) ≤ length xs → Puts at (decimal (n / 10)) xs r ys
+    → Puts at (decimal n) xs (r + 1) (set ys r (48 + n % 10))
+number-step {xs} {ys} {r} at n h l p =
+    let e = step-length n h in
+    let k = put-kept p (omega arith) in
+    let d = (48 + n % 10) ∷ [] in
+    subst⁻¹ (λ (v : List ℕ). Puts at v xs (r + 1) (set ys r (48 + n % 10))) (step n h)
+    (placed (omega arith) (so (then (whole (omega arith) p) (byte r (48 + n % 10) (omega (arith, p .long)))) (append-assoc (take at xs) (decimal (n / 10)) d) refl))
+
+-- ── kinds ───────────────────────────────────────────────────────────────────────────────────
+
+pub kind-put : {at r : ℕ} {v w xs ys : List ℕ} → w ≡ v → Puts at v xs r ys → Puts at w xs r ys
+kind-put {at} {r} {xs = xs} {ys = ys} e p = subst⁻¹ (λ (w : List ℕ). Puts at w xs r ys) e p
