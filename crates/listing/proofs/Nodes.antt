@@ -1,10 +1,10 @@
 -- The lines of a plan's nodes, from the numbers in the lent arrays. Assumes nothing.
 use mathlib.Core.Path.{_≡_, refl, sym, ap, ap₂, subst, _∙_}
 use mathlib.Core.List.{List, [], _∷_, _++_, append-assoc, append-nil}
-use Prim.Native.Nat.{ℕ, zero, suc, _+_, _<_, _≤_}
+use Prim.Native.Nat.{ℕ, zero, suc, _+_, _-_, _<_, _≤_}
 use native.Mathlib.Omega.{arith}
 use native.Mathlib.Numerals.{add-one}
-use lib.ListN.{length, getD}
+use lib.ListN.{length, getD, take, drop}
 use Rattle.cpl.specs.Exprs.{planNodes}
 use Rattle.cpl.specs.Fields.{fieldsOf}
 use Rattle.cpl.specs.Plan.{Catalogue, Plan, leaf, unary, binary}
@@ -19,6 +19,8 @@ use Rattle.tree.proofs.Lists.{list-length}
 use Rattle.tree.proofs.Plans.{nodes-pos, shows}
 use Rattle.lookup.specs.Fields.{fieldsAt, widthAt}
 use Rattle.accept.specs.Verdicts.{FieldsStand}
+use Rattle.writer_parts.specs.Wrote.{Wrote}
+use Rattle.writer_parts.proofs.Over.{part, so, start}
 use Rattle.listing.specs.Text.{leafKind, unaryKind, binaryKind, kindText, lineText, lineOf, linesOf}
 use Rattle.listing.specs.Lines.{Listable, lineAt, nodeText, span}
 
@@ -51,6 +53,19 @@ pub span-same : (s t : ℕ → List ℕ) (k n : ℕ) → ((j : ℕ) → k ≤ j 
 unfolding span
 span-same s t k zero e = refl
 span-same s t k (suc n) e = ap₂ _++_ (e k (omega arith) (omega arith)) (span-same s t (k + 1) n (λ j l h. e j (omega arith) (omega arith)))
+
+-- ── lines, one after the other ──────────────────────────────────────────────────────────────
+
+pub no-lines : (text : ℕ → List ℕ) {xs : List ℕ} → Wrote (span text 0 0) xs 0 xs
+unfolding span
+no-lines text = start
+
+pub next-line : {xs ys out : List ℕ} {at n : ℕ} {node : Node} (nodes widths : List ℕ) (k : ℕ) → Wrote (span (lineAt nodes widths) 0 k) xs at out → node ≡ nodeAt nodes k
+    → Wrote (lineText k (nodeText node) (getD widths k 0)) (take (length out - at) (drop at out)) n ys
+    → Wrote (span (lineAt nodes widths) 0 (k + 1)) xs (at + n) (take at out ++ (ys ++ drop (length out - at) (drop at out)))
+unfolding lineAt
+next-line nodes widths k o e l =
+    so (part o l) (ap (λ (m : Node). span (lineAt nodes widths) 0 k ++ lineText k (nodeText m) (getD widths k 0)) e ∙ sym (span-next (lineAt nodes widths) k)) refl
 
 -- ── kinds ───────────────────────────────────────────────────────────────────────────────────
 

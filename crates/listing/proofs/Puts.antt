@@ -1,16 +1,17 @@
 -- The laws of texts that are put at a place, and of lines made of them. Assumes nothing.
-use mathlib.Core.Path.{_≡_, refl, sym, ap, subst, subst⁻¹, _∙_}
+use mathlib.Core.Path.{_≡_, refl, sym, ap, ap₂, subst⁻¹, _∙_}
 use mathlib.Core.List.{List, [], _∷_, _++_, append-assoc}
 use Prim.Native.Nat.{ℕ, zero, suc, _+_, _-_, _/_, _%_, _^_, _<_, _≤_}
 use native.Mathlib.Omega.{arith}
 use lib.ListN.{length, take, drop, set, length-append, take-append-drop}
 use lib.Seq.{take-at, drop-at, take-all, drop-drop, length-take-le, set-split}
 use Rattle.writer_parts.specs.Wrote.{over, Wrote, Laid}
-use Rattle.writer_parts.proofs.Over.{kept, laid, over-over, so, then}
+use Rattle.writer_parts.proofs.Over.{kept, laid, over-over, part, so, start, then}
 use Rattle.tree.specs.declared.Node.{Node}
-use Rattle.listing.specs.Text.{decimal}
+use Rattle.tree.specs.declared.Node.the-variants.{Projection, Filter, Sort, Limit, Aggregate, Window, SubqueryAlias, Union, Distinct, Join, Scan, Empty}
+use Rattle.listing.specs.Text.{decimal, lineText, newline, refusedText, space}
 use Rattle.listing.specs.Lines.{Puts, nodeText}
-use Rattle.listing.proofs.Digits.{small, step, step-length}
+use Rattle.listing.proofs.Digits.{short, small, step, step-length}
 
 -- all of s was copied over the start of xs
 pub copied : {xs out : List ℕ} {a : ℕ} (s : List ℕ) → a ≡ length s → out ≡ take (length s) s ++ drop (length s) xs → Wrote s xs a out
@@ -68,3 +69,46 @@ number-step {xs} {ys} {r} at n h l p =
 
 pub kind-put : {at r : ℕ} {v w xs ys : List ℕ} → w ≡ v → Puts at v xs r ys → Puts at w xs r ys
 kind-put {at} {r} {xs = xs} {ys = ys} e p = subst⁻¹ (λ (w : List ℕ). Puts at w xs r ys) e p
+
+pub kind-short : (n : Node) → length (nodeText n) ≤ 13
+unfolding nodeText
+kind-short (Projection f n) = omega arith
+kind-short (Filter r) = omega arith
+kind-short (Sort f n) = omega arith
+kind-short (Limit s n) = omega arith
+kind-short (Aggregate f g v) = omega arith
+kind-short (Window f n) = omega arith
+kind-short (SubqueryAlias q) = omega arith
+kind-short (Union r) = omega arith
+kind-short Distinct = omega arith
+kind-short (Join j) = omega arith
+kind-short (Scan s) = omega arith
+kind-short (Empty b f n) = omega arith
+
+-- ── lines ───────────────────────────────────────────────────────────────────────────────────
+
+pub line-short : (k width : ℕ) (n : Node) → k < 2 ^ 64 → width < 2 ^ 64 → length (lineText k (nodeText n) width) ≤ 56
+unfolding lineText
+line-short k width n h i = simp length-append (omega (arith, short k h, short width i, kind-short n))
+
+pub line-wrote : (width : ℕ) {k m a b c d e r : ℕ} {kind x₀ x₁ x₂ x₃ x₄ x₅ x₆ : List ℕ} → m ≡ k
+    → Puts 0 (decimal m) x₀ a x₁ → Puts a space x₁ b x₂ → Puts b kind x₂ c x₃ → Puts c space x₃ d x₄ → Puts d (decimal width) x₄ e x₅ → Puts e newline x₅ r x₆
+    → Wrote (lineText k kind width) x₀ r x₆
+unfolding lineText
+line-wrote width {kind = kind} q p₁ p₂ p₃ p₄ p₅ p₆ =
+    so (then (then (then (then (then (then start p₁) p₂) p₃) p₄) p₅) p₆) (ap (λ i. decimal i ++ space ++ kind ++ space ++ decimal width ++ newline) q) refl
+
+pub refused-wrote : {code place m n a b c d r : ℕ} {x₀ x₁ x₂ x₃ x₄ x₅ : List ℕ} → m ≡ code → n ≡ place
+    → Puts 0 (82 ∷ 69 ∷ 70 ∷ 85 ∷ 83 ∷ 69 ∷ 68 ∷ 32 ∷ []) x₀ a x₁ → Puts a (decimal m) x₁ b x₂ → Puts b space x₂ c x₃ → Puts c (decimal n) x₃ d x₄ → Puts d newline x₄ r x₅
+    → Wrote (refusedText code place) x₀ r x₅
+unfolding refusedText
+refused-wrote e f p₁ p₂ p₃ p₄ p₅ =
+    so (then (then (then (then (then start p₁) p₂) p₃) p₄) p₅)
+    (ap₂ (λ i j. (82 ∷ 69 ∷ 70 ∷ 85 ∷ 83 ∷ 69 ∷ 68 ∷ 32 ∷ []) ++ decimal i ++ space ++ decimal j ++ newline) e f) refl
+
+-- the first line, and then the others
+pub listing-wrote : {count m a b c n : ℕ} {lines x₀ x₁ x₂ x₃ ys : List ℕ} → m ≡ count
+    → Puts 0 (80 ∷ 76 ∷ 65 ∷ 78 ∷ 32 ∷ []) x₀ a x₁ → Puts a (decimal m) x₁ b x₂ → Puts b newline x₂ c x₃ → Wrote lines (take (length x₃ - c) (drop c x₃)) n ys
+    → Wrote ((80 ∷ 76 ∷ 65 ∷ 78 ∷ 32 ∷ []) ++ decimal count ++ newline ++ lines) x₀ (c + n) (take c x₃ ++ (ys ++ drop (length x₃ - c) (drop c x₃)))
+listing-wrote {lines = lines} e p₁ p₂ p₃ w =
+    so (part (then (then (then start p₁) p₂) p₃) w) (ap (λ i. (80 ∷ 76 ∷ 65 ∷ 78 ∷ 32 ∷ []) ++ decimal i ++ newline ++ lines) e) refl
