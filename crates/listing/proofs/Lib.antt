@@ -2,3 +2,4 @@
 pub mod Digits
 pub mod Puts
 pub mod Nodes
+pub mod Files

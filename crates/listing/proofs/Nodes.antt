@@ -1,10 +1,10 @@
 -- The lines of a plan's nodes, from the numbers in the lent arrays. Assumes nothing.
 use mathlib.Core.Path.{_≡_, refl, sym, ap, ap₂, subst, _∙_}
 use mathlib.Core.List.{List, [], _∷_, _++_, append-assoc, append-nil}
-use Prim.Native.Nat.{ℕ, zero, suc, _+_, _-_, _<_, _≤_}
+use Prim.Native.Nat.{ℕ, zero, suc, _+_, _*_, _-_, _^_, _<_, _≤_}
 use native.Mathlib.Omega.{arith}
 use native.Mathlib.Numerals.{add-one}
-use lib.ListN.{length, getD, take, drop}
+use lib.ListN.{length, getD, take, drop, length-append}
 use Rattle.cpl.specs.Exprs.{planNodes}
 use Rattle.cpl.specs.Fields.{fieldsOf}
 use Rattle.cpl.specs.Plan.{Catalogue, Plan, leaf, unary, binary}
@@ -20,9 +20,10 @@ use Rattle.tree.proofs.Plans.{nodes-pos, shows}
 use Rattle.lookup.specs.Fields.{fieldsAt, widthAt}
 use Rattle.accept.specs.Verdicts.{FieldsStand}
 use Rattle.writer_parts.specs.Wrote.{Wrote}
-use Rattle.writer_parts.proofs.Over.{part, so, start}
+use Rattle.writer_parts.proofs.Over.{kept, part, so, start}
 use Rattle.listing.specs.Text.{leafKind, unaryKind, binaryKind, kindText, lineText, lineOf, linesOf}
 use Rattle.listing.specs.Lines.{Listable, lineAt, nodeText, span}
+use Rattle.listing.proofs.Puts.{line-short}
 
 -- ── texts one after the other ───────────────────────────────────────────────────────────────
 
@@ -66,6 +67,33 @@ pub next-line : {xs ys out : List ℕ} {at n : ℕ} {node : Node} (nodes widths 
 unfolding lineAt
 next-line nodes widths k o e l =
     so (part o l) (ap (λ (m : Node). span (lineAt nodes widths) 0 k ++ lineText k (nodeText m) (getD widths k 0)) e ∙ sym (span-next (lineAt nodes widths) k)) refl
+
+-- a turn of the loop: what holds of k lines holds of k + 1
+pub lines-again : {xs ys out : List ℕ} {at n : ℕ} {node : Node} (nodes widths : List ℕ) (k count : ℕ) → k < count → 56 * count ≤ length xs → at ≤ 56 * k
+    → Wrote (span (lineAt nodes widths) 0 k) xs at out → node ≡ nodeAt nodes k → k < 2 ^ 64 → getD widths k 0 < 2 ^ 64
+    → Wrote (lineText k (nodeText node) (getD widths k 0)) (take (length out - at) (drop at out)) n ys
+    → (k + 1 ≤ count) × (at + n ≤ 56 * (k + 1)) × (length (take at out ++ (ys ++ drop (length out - at) (drop at out))) ≡ length xs)
+      × Wrote (span (lineAt nodes widths) 0 (k + 1)) xs (at + n) (take at out ++ (ys ++ drop (length out - at) (drop at out)))
+lines-again {node = node} nodes widths k count h room a o e b c l =
+    let w = next-line nodes widths k o e l in
+    let s = line-short k (getD widths k 0) node b c in
+    (omega arith, omega (arith, l .long), kept w (omega (arith, l .long)), w)
+
+pub lines-done : {xs out : List ℕ} {at k count : ℕ} (text : ℕ → List ℕ) → k ≡ count → Wrote (span text 0 k) xs at out → Wrote (span text 0 count) xs at out
+lines-done text e o = so o (ap (span text 0) e) refl
+
+-- they are not long
+span-short : (text : ℕ → List ℕ) (k n : ℕ) → ((j : ℕ) → j < k + n → length (text j) ≤ 56) → length (span text k n) ≤ 56 * n
+unfolding span
+span-short text k zero h = omega arith
+span-short text k (suc n) h =
+    let a = h k (omega arith) in
+    let b = span-short text (k + 1) n (λ j l. h j (omega arith)) in
+    omega (arith, length-append (text k) (span text (k + 1) n))
+
+pub lines-short : (nodes widths : List ℕ) (count : ℕ) → count < 2 ^ 64 → ((j : ℕ) → getD widths j 0 < 2 ^ 64) → length (span (lineAt nodes widths) 0 count) ≤ 56 * count
+unfolding lineAt
+lines-short nodes widths count h i = span-short (lineAt nodes widths) 0 count (λ j l. line-short j (getD widths j 0) (nodeAt nodes j) (omega arith) (i j))
 
 -- ── kinds ───────────────────────────────────────────────────────────────────────────────────
 
@@ -151,5 +179,6 @@ module _ {C : Catalogue} {cells rows nodes fields widths : List ℕ} {count : �
       (λ j l h. ap₂ (lineText j) (sym (kind-is C (lent cells rows nodes) count w j (omega arith))) (width-is j (stand j (omega arith))))
       ∙ sym (lines-are C (lent cells rows nodes) count w e)
 
-  pub listable : length widths ≡ 256 → Listable nodes widths count
-  listable e = record { each = λ k l. w .each k l .numbers; wide = omega (arith, w .few) }
+-- the numbers of every node fit, and it has a width
+pub listable : {C : Catalogue} {cells rows nodes widths : List ℕ} {count : ℕ} → WfTree C (lent cells rows nodes) count → length widths ≡ 256 → Listable nodes widths count
+listable w e = record { each = λ k l. w .each k l .numbers; wide = omega (arith, w .few) }
