@@ -1,11 +1,16 @@
-//! replay: runs stored vectors through the checks before a plan is rewritten (codes 1 to 11), and writes which of them get another answer.
+//! replay: runs stored vectors through the public entries `prune` and `prune_all`, and writes which of them get another answer.
 //!
 //! Standard input has a vector a line: `mode mask room request file => code length place out`, all numbers decimal. The request is `*` for all
-//! fields, `-` for no indices, else a list with commas; file and out are hexadecimal, `-` where empty. Code and place are compared; a vector of
-//! code 0, 12 or 13 must not be refused here. A line of another form counts as one that differs.
+//! fields, `-` for no indices, else a list with commas; file and out are hexadecimal, `-` where empty. The output buffer has `room` bytes, none
+//! of them 0 before the call. Code, length, place and every byte of the buffer are compared: past the length, and all of it on a refusal, the
+//! bytes must be as they were. A line of another form counts as one that differs.
 ghost use mathlib.Core.Path.{_≡_};
 ghost use lib.ListN.{length};
+use pruner::Answer;
 use vector_text::Parsed;
+
+// What stands in the output buffer before a call.
+const FILL: u8 = 165;
 
 // The codes of document 01's table, and how many there are with that of success.
 const CODES: usize = 14;
@@ -13,17 +18,13 @@ const CODES: usize = 14;
 // Standard input is read whole, up to this many bytes.
 const INPUT: usize = 262144;
 
-// The numbers of a vector: the settings, then the code and the place that it has.
+// The numbers of a vector: the settings and the room, then the answer that it has.
 struct Numbers {
     mode: u8,
     mask: u16,
+    room: usize,
     code: usize,
-    place: usize,
-}
-
-// A code and a place.
-struct Answer {
-    code: u8,
+    length: usize,
     place: usize,
 }
 
@@ -53,11 +54,14 @@ fn number(n: u64) {
 }
 
 // The numbers of a line whose answer has been read.
-fn settings(line: &[u8], code: usize, place: usize) -> Case {
+fn settings(line: &[u8], code: usize, length: usize, place: usize) -> Case {
     let Parsed::Number(mode) = vector_text::number_at(line, 0) else {
         return Case::Not;
     };
     let Parsed::Number(mask) = vector_text::number_at(line, 1) else {
+        return Case::Not;
+    };
+    let Parsed::Number(room) = vector_text::number_at(line, 2) else {
         return Case::Not;
     };
     if 255 < mode {
@@ -69,7 +73,9 @@ fn settings(line: &[u8], code: usize, place: usize) -> Case {
     Case::Of(Numbers {
         mode: mode as u8,
         mask: mask as u16,
+        room,
         code,
+        length,
         place,
     })
 }
@@ -85,125 +91,105 @@ fn case_of(line: &[u8]) -> Case {
     let Parsed::Number(code) = vector_text::number_at(line, 6) else {
         return Case::Not;
     };
+    let Parsed::Number(length) = vector_text::number_at(line, 7) else {
+        return Case::Not;
+    };
     let Parsed::Number(place) = vector_text::number_at(line, 8) else {
         return Case::Not;
     };
     if CODES <= code {
         return Case::Not;
     }
-    settings(line, code, place)
+    settings(line, code, length, place)
 }
 
-// The arrays that a plan file is read into, lent; codes 1 to 11, or 0 where nothing is refused before the plan is rewritten.
-fn check_in(
-    c: Numbers,
-    file: &[u8],
-    all: bool,
-    request: &[u16],
-    cells: &mut [u64; 12288],
-    rows: &mut [u16; 409728],
-    nodes: &mut [u64; 1792],
-    names: &mut [u16; 1040],
-    fields: &mut [u16; 65536],
-    widths: &mut [u64; 256],
-) -> Answer {
-    if 1 < c.mode {
-        return Answer { code: 1, place: 0 };
-    }
-    if 4095 < c.mask {
-        return Answer { code: 1, place: 0 };
-    }
-    let t = intake::take_in(
-        file,
-        all,
-        request,
-        cells,
-        rows,
-        nodes,
-        names,
-        fields,
-        widths,
-    );
-    Answer {
-        code: t.code,
-        place: t.place,
-    }
-}
-
-fn check(c: Numbers, file: &[u8], all: bool, request: &[u16]) -> Answer {
-    let mut cells = [0u64; 12288];
-    let mut rows = [0u16; 409728];
-    let mut nodes = [0u64; 1792];
-    let mut names = [0u16; 1040];
-    let mut fields = [0u16; 65536];
-    let mut widths = [0u64; 256];
-    check_in(
-        c,
-        file,
-        all,
-        request,
-        &mut cells,
-        &mut rows,
-        &mut nodes,
-        &mut names,
-        &mut fields,
-        &mut widths,
-    )
-}
-
-// The check with the first n indices of a list.
-fn check_some(c: Numbers, file: &[u8], list: &[u16], n: usize) -> Called {
+// The call with the first n indices of a list.
+fn call_some(mode: u8, mask: u16, file: &[u8], list: &[u16], n: usize, out: &mut [u8]) -> Called {
     if n <= list.len() {
-        Called::Got(check(c, file, false, &list[0..n]))
+        Called::Got(pruner::prune(mode, mask, file, &list[0..n], out))
     } else {
         Called::Not
     }
 }
 
-// The check that a line asks for.
-fn call(line: &[u8], c: Numbers, file: &[u8]) -> Called {
-    let mut list = [0u16; 256];
+// The call that a line asks for.
+fn call(line: &[u8], mode: u8, mask: u16, file: &[u8], out: &mut [u8]) -> Called {
     if vector_text::is_word(line, 3, b"*") {
-        return Called::Got(check(c, file, true, &list));
+        return Called::Got(pruner::prune_all(mode, mask, file, out));
     }
+    let mut list = [0u16; 256];
     let Parsed::Number(n) = vector_text::list_at(line, 3, &mut list) else {
         return Called::Not;
     };
-    check_some(c, file, &list, n)
+    call_some(mode, mask, file, &list, n, out)
 }
 
-// The code that is to be found: codes 0, 12 and 13 come after what is checked here.
-fn early(code: usize) -> usize {
-    if 11 < code { 0 } else { code }
+// Does the buffer hold these bytes, and behind them what it held before?
+fn holds(out: &[u8], bytes: &[u8]) -> bool {
+    if out.len() < bytes.len() {
+        return false;
+    }
+    let mut i = 0;
+    while i < bytes.len() {
+        if out[i] != bytes[i] {
+            return false;
+        }
+        i += 1;
+    }
+    while i < out.len() {
+        if out[i] != FILL {
+            return false;
+        }
+        i += 1;
+    }
+    true
 }
 
-// The answer compared with the vector's.
-fn compare(line: &[u8], c: Numbers, file: &[u8]) -> Verdict {
-    let Called::Got(a) = call(line, c, file) else {
+// The call on the first bytes of the buffer, its answer and the whole buffer compared with the vector's.
+fn compare(line: &[u8], c: Numbers, file: &[u8], bytes: &[u8], out: &mut [u8]) -> Verdict {
+    let room = c.room;
+    if out.len() < room {
+        return Verdict::Malformed;
+    }
+    let Called::Got(a) = call(line, c.mode, c.mask, file, &mut out[0..room]) else {
         return Verdict::Malformed;
     };
-    let code = early(c.code);
-    if a.code as usize != code {
+    let code = a.code as usize;
+    if code != c.code {
         return Verdict::Differs(a);
     }
-    if code == 0 {
-        return Verdict::Same(c.code);
+    if a.length != c.length {
+        return Verdict::Differs(a);
     }
     if a.place != c.place {
         return Verdict::Differs(a);
     }
-    Verdict::Same(c.code)
+    if holds(out, bytes) {
+        return Verdict::Same(code);
+    }
+    Verdict::Differs(a)
 }
 
-// The same with the first bytes of a buffer for the file.
-fn compare_part(line: &[u8], c: Numbers, file: &[u8], size: usize) -> Verdict {
+// The same with the first bytes of a buffer for the file and of one for the bytes.
+fn compare_parts(
+    line: &[u8],
+    c: Numbers,
+    file: &[u8],
+    size: usize,
+    bytes: &[u8],
+    out: &mut [u8],
+) -> Verdict {
+    let length = c.length;
     if file.len() < size {
         return Verdict::Malformed;
     }
-    compare(line, c, &file[0..size])
+    if bytes.len() < length {
+        return Verdict::Malformed;
+    }
+    compare(line, c, &file[0..size], &bytes[0..length], out)
 }
 
-// A line's file in a buffer of its own.
+// A line's file and bytes in buffers of their own, and a buffer for the output.
 fn run(line: &[u8]) -> Verdict {
     let Case::Of(c) = case_of(line) else {
         return Verdict::Malformed;
@@ -212,7 +198,15 @@ fn run(line: &[u8]) -> Verdict {
     let Parsed::Number(size) = vector_text::bytes_at(line, 4, &mut file) else {
         return Verdict::Malformed;
     };
-    compare_part(line, c, &file, size)
+    let mut bytes = [0u8; 65536];
+    let Parsed::Number(length) = vector_text::bytes_at(line, 9, &mut bytes) else {
+        return Verdict::Malformed;
+    };
+    if length != c.length {
+        return Verdict::Malformed;
+    }
+    let mut out = [FILL; 65536];
+    compare_parts(line, c, &file, size, &bytes, &mut out)
 }
 
 // A line that differs, and the answer that was given.
@@ -221,6 +215,8 @@ fn differs(at: u64, a: Answer) {
     number(at);
     text(b" differs: code ");
     number(a.code as u64);
+    text(b" length ");
+    number(a.length as u64);
     text(b" place ");
     number(a.place as u64);
     text(b"\n");
@@ -291,30 +287,6 @@ fn replay(all: &[u8]) {
     text(b"\n");
 }
 
-// A file of 65,536 bytes that starts with these six and goes on with b: its refusal.
-fn long(start: &[u8; 6], b: u8) {
-    let mut file = [b; 65536];
-    file[0] = start[0];
-    file[1] = start[1];
-    file[2] = start[2];
-    file[3] = start[3];
-    file[4] = start[4];
-    file[5] = start[5];
-    let c = Numbers {
-        mode: 0,
-        mask: 0,
-        code: 0,
-        place: 0,
-    };
-    let none = [0u16; 1];
-    let a = check(c, &file, true, &none);
-    text(b"65536 bytes: code ");
-    number(a.code as u64);
-    text(b" place ");
-    number(a.place as u64);
-    text(b"\n");
-}
-
 // Room for standard input.
 fn input_buffer() -> [u8; INPUT]
     ensures { λ r. ⌜ 262144 ≡ length r ⌝ }
@@ -327,9 +299,6 @@ fn main() {
     let n = io::read_full(0, &mut input);
     if n < INPUT {
         replay(&input[..n]);
-        long(&[67, 80, 76, 1, 0, 0], 9);
-        long(&[67, 80, 76, 1, 0, 0], 165);
-        long(&[165, 165, 165, 165, 165, 165], 165);
     } else {
         text(b"more than 262,143 bytes\n");
     }

@@ -1,0 +1,27 @@
+-- `pruner::prune_all` meets its contract: a request of all fields, and the promise of house mode. Assumes nothing.
+use Rattle.cpl.specs.Tests.{iota}
+use Rattle.intake.proofs.Ways.{are-bytes}
+use Rattle.pruner.proofs.Entries.{of-all, promised}
+use borrow.Author.Needs.{needs}
+use native.Mathlib.Omega.{arith}
+use Rattle.pruner.proofs.prune_all.Statement.{statement}
+use Rattle.pruner.proofs.prune_all.Tie as tie
+
+slice-aggregate-prune-alone : tie.Need-slice-aggregate-prune-alone
+slice-aggregate-prune-alone c = search needs
+
+prune-alone-requires : tie.Need-prune-alone-requires
+prune-alone-requires c κs = search needs
+
+same-length : tie.Need-same-length
+same-length c = search needs
+
+returns : tie.Need-returns
+returns c =
+    let prune-alone = c .before .before .prune-alone in
+    let shared-slice-known = c .before .before .before .before .before .before .shared-slice-known in
+    let h = of-all _ _ _ _ _ (prune-alone .ensures) in
+    (h, promised _ _ _ (λ width. iota 0 width) _ (are-bytes _ (λ i. omega (arith, shared-slice-known .given i))) h)
+
+pub prune-all-spec : {M : Type 1} → statement M
+prune-all-spec = tie.close (tie.spec slice-aggregate-prune-alone prune-alone-requires same-length returns)

@@ -1,0 +1,62 @@
+-- What the entries answer: document 01's "Numbers returned", and the plan as it is handed on from step to step.
+use mathlib.Core.Path.{_≡_}
+use mathlib.Core.List.{List, [], _∷_, _++_}
+use mathlib.Core.Bool.{Bool}
+use Prim.Native.Nat.{ℕ, _*_, _≤_}
+use lib.Dec.{ltb}
+use lib.ListN.{length, take}
+use Rattle.cpl.specs.Bytes.{bytesOf, planBytes}
+use Rattle.cpl.specs.Codes.{LARGE}
+use Rattle.cpl.specs.Exprs.{planTags}
+use Rattle.cpl.specs.Limits.{maxNodes, maxTags}
+use Rattle.cpl.specs.Plan.{Catalogue, Plan}
+use Rattle.cpl.specs.Read.{pick}
+use Rattle.rules.specs.Answer as rules
+use Rattle.rules.specs.Rewrite as rewriting
+use Rattle.rules.specs.Success.{sourceOf}
+use Rattle.required_indices.specs.declared.RequiredIndices.{RequiredIndices}
+use Rattle.tree.specs.Tree.{lent}
+use Rattle.lookup.specs.Standing.{Standing}
+use Rattle.result.specs.Result.{Results, recordN}
+use Rattle.result.specs.Records.{results}
+use Rattle.walk_steps.specs.declared.End.{End}
+use Rattle.walk_steps.specs.declared.Used.{Used}
+use Rattle.optimize_projections.specs.Walk.{EndIs}
+use Rattle.pruner.specs.declared.Answer.{Answer}
+
+-- "Every call returns a code, a length and a place"; out′ is the output buffer as the call leaves it
+pub record AnswerIs (a : rules.Answer) (r : Answer) (out′ : List ℕ) : Type 0 where
+  pub code-is : r .code ≡ a .code
+  pub length-is : r .length ≡ a .length
+  pub place-is : r .place ≡ a .place
+  pub out-is : out′ ≡ a .out
+
+-- the same of three numbers: code, length, place
+pub record NumbersAre (a : rules.Answer) (numbers out′ : List ℕ) : Type 0 where
+  pub numbers-are : numbers ≡ a .code ∷ a .length ∷ a .place ∷ []
+  pub out-is : out′ ≡ a .out
+
+-- ── a rewritten plan on its way to the buffer ───────────────────────────────────────────────
+
+-- a result of so many tags and these bytes: "LARGE … 0", "ROOM: output shorter than the result; length needed", or the bytes
+unfoldable pub delivered : (tags : ℕ) (bytes out : List ℕ) → rules.Answer
+delivered tags bytes out = pick (ltb maxTags tags) (rules.refusal LARGE 0 out) (rules.written bytes out)
+
+-- the first `start` bytes of the file are those that a file with the catalogue C has before its plan
+pub record Heads (file : List ℕ) (start : ℕ) (C : Catalogue) : Type 0 where
+  pub inside : start ≤ length file
+  pub bytes-are : (p : Plan) → take start file ++ planBytes p ≡ bytesOf (sourceOf C p)
+
+-- nothing of the result's arrays is in use
+abbrev pub nothingUsed : Used
+nothingUsed = record { records = 0; rows = 0; cells = 0 }
+
+-- the plan that the walk left: at a record of the result's arrays, which hold 256 of them, or too large
+pub record Rewritten (file : List ℕ) (start : ℕ) (cells rows nodes fields widths records items icells : List ℕ) (end : End) : Type 0 where
+  pub standing : Standing cells rows nodes fields widths
+  pub heads : Heads file start (standing .C)
+  pub walked : rewriting.Walked
+  pub kept : RequiredIndices
+  pub before : Results
+  pub ends : EndIs (standing .C) (lent cells rows nodes) (standing .count) before (results records items icells) nothingUsed walked kept end
+  pub room : length records ≡ maxNodes * recordN

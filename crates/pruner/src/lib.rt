@@ -1,0 +1,426 @@
+//! pruner: the public entries. A plan file and a request in, a narrowed plan file or a refusal out.
+//!
+//! `prune` and `prune_all` make the arrays that a plan is read into and rewritten in; `prune_in` is lent them, and says nothing of what they held or
+//! hold. The `simmerroof_` functions are the same for C and Rust.
+ghost use mathlib.Core.Path.{_≡_};
+ghost use mathlib.Core.List.{[], _∷_, _++_};
+ghost use Prim.Native.Nat.{_≤_};
+ghost use lib.ListN.{length, take};
+ghost use Rattle.cpl.specs.Bytes.{planBytes};
+ghost use Rattle.cpl.specs.Exprs.{planTags};
+ghost use Rattle.cpl.specs.Tests.{iota};
+ghost use Rattle.rules.specs.Answer as rules;
+ghost use Rattle.meaning.specs.Promise.{Promise};
+ghost use Rattle.intake.specs.Intake.{wanted};
+ghost use Rattle.writer.specs.Plans.{Writes, planOf};
+ghost use Rattle.pruner.specs.Answers.{AnswerIs, NumbersAre, Rewritten, delivered};
+use optimize_projections::Settings;
+use walk_steps::End;
+use walk_steps::Used;
+
+/// A code, a length and a place: 0 with the bytes written and place 0, or a refusal with length 0.
+pub struct Answer {
+    pub code: u8,
+    pub length: usize,
+    pub place: usize,
+}
+
+// A refusal.
+fn refuse(code: u8, place: usize) -> Answer
+    ensures { λ r. ⌜ (r .code ≡ code) × (r .length ≡ 0) × (r .place ≡ place) ⌝ }
+{
+    Answer {
+        code,
+        length: 0,
+        place,
+    }
+}
+
+// The plan of a record, after the first `start` bytes of the file: counted, and written where it fits.
+fn write_out(
+    file: &[u8],
+    start: usize,
+    cells: &[u64],
+    rows: &[u16],
+    nodes: &[u64],
+    fields: &[u16],
+    widths: &[u64],
+    records: &[u64],
+    items: &[u16],
+    icells: &[u64],
+    root: usize,
+    out: &mut [u8],
+) -> Answer
+    requires { ⌜ start ≤ length (now file) ⌝ }
+    requires { ⌜ Writes (now cells) (now rows) (now nodes) (now fields) (now widths) (now records) (now items) (now icells) root ⌝ }
+    ensures { λ r. ⌜ ((w : Writes (now (cells .entry)) (now (rows .entry)) (now (nodes .entry)) (now (fields .entry)) (now (widths .entry)) (now (records .entry)) (now (items .entry)) (now (icells .entry)) root) → AnswerIs (delivered (planTags (planOf w)) (take start (now (file .entry)) ++ planBytes (planOf w)) (now (out .entry))) r (now (out .exit))) ⌝ }
+{
+    let size = writer::node_size(
+        cells,
+        rows,
+        nodes,
+        fields,
+        widths,
+        records,
+        items,
+        icells,
+        root,
+    );
+    if size.tags > 4096 {
+        return refuse(12, 0);
+    }
+    let needed = start + size.bytes;
+    if needed > out.len() {
+        return refuse(13, needed);
+    }
+    let length = writer::write_plan(
+        file,
+        start,
+        cells,
+        rows,
+        nodes,
+        fields,
+        widths,
+        records,
+        items,
+        icells,
+        root,
+        out,
+    );
+    Answer {
+        code: 0,
+        length,
+        place: 0,
+    }
+}
+
+// What the walk left: too large, or a plan to be written.
+fn deliver(
+    file: &[u8],
+    start: usize,
+    cells: &[u64],
+    rows: &[u16],
+    nodes: &[u64],
+    fields: &[u16],
+    widths: &[u64],
+    records: &[u64],
+    items: &[u16],
+    icells: &[u64],
+    end: End,
+    out: &mut [u8],
+) -> Answer
+    requires { ⌜ Rewritten (now file) start (now cells) (now rows) (now nodes) (now fields) (now widths) (now records) (now items) (now icells) end ⌝ }
+    ensures { λ r. ⌜ ((x : Rewritten (now (file .entry)) start (now (cells .entry)) (now (rows .entry)) (now (nodes .entry)) (now (fields .entry)) (now (widths .entry)) (now (records .entry)) (now (items .entry)) (now (icells .entry)) end) → AnswerIs (rules.deliver (rules.finish (x .standing .C) (x .walked)) (now (out .entry))) r (now (out .exit))) ⌝ }
+{
+    let End::Done {
+        record: root,
+        used: _,
+    } = end
+    else {
+        return refuse(12, 0);
+    };
+    write_out(
+        file,
+        start,
+        cells,
+        rows,
+        nodes,
+        fields,
+        widths,
+        records,
+        items,
+        icells,
+        root,
+        out,
+    )
+}
+
+/// The answer to a request of `all` fields or of those of the list, worked out in lent arrays.
+pub fn prune_in(
+    mode: u8,
+    mask: u16,
+    all: bool,
+    file: &[u8],
+    request: &[u16],
+    out: &mut [u8],
+    cells: &mut [u64; 12288],
+    rows: &mut [u16; 409728],
+    nodes: &mut [u64; 1792],
+    names: &mut [u16; 1040],
+    fields: &mut [u16; 65536],
+    widths: &mut [u64; 256],
+    arows: &mut [u16; 512],
+    acells: &mut [u64; 12288],
+    brows: &mut [u16; 512],
+    bcells: &mut [u64; 12288],
+    records: &mut [u64; 1536],
+    items: &mut [u16; 16896],
+    icells: &mut [u64; 12288],
+) -> Answer
+    ensures { λ r. ⌜ AnswerIs (rules.reply mode mask (now (file .entry)) (wanted all (now (request .entry))) (now (out .entry))) r (now (out .exit)) ⌝ }
+{
+    if mode > 1 {
+        return refuse(1, 0);
+    }
+    if mask > 4095 {
+        return refuse(1, 0);
+    }
+    let t = intake::take_in(
+        file,
+        all,
+        request,
+        cells,
+        rows,
+        nodes,
+        names,
+        fields,
+        widths,
+    );
+    if t.code > 0 {
+        return refuse(t.code, t.place);
+    }
+    let settings = Settings {
+        house: mode == 1,
+        mask,
+    };
+    let used = Used {
+        records: 0,
+        rows: 0,
+        cells: 0,
+    };
+    let set = t.set;
+    let w = optimize_projections::optimize_projections(
+        cells,
+        rows,
+        nodes,
+        fields,
+        widths,
+        settings,
+        0,
+        set,
+        arows,
+        acells,
+        brows,
+        bcells,
+        records,
+        items,
+        icells,
+        used,
+    );
+    let end = w.end;
+    deliver(
+        file,
+        t.start,
+        cells,
+        rows,
+        nodes,
+        fields,
+        widths,
+        records,
+        items,
+        icells,
+        end,
+        out,
+    )
+}
+
+// The same in arrays of its own.
+fn prune_alone(
+    mode: u8,
+    mask: u16,
+    all: bool,
+    file: &[u8],
+    request: &[u16],
+    out: &mut [u8],
+) -> Answer
+    ensures { λ r. ⌜ AnswerIs (rules.reply mode mask (now (file .entry)) (wanted all (now (request .entry))) (now (out .entry))) r (now (out .exit)) ⌝ }
+{
+    let mut cells = [0u64; 12288];
+    let mut rows = [0u16; 409728];
+    let mut nodes = [0u64; 1792];
+    let mut names = [0u16; 1040];
+    let mut fields = [0u16; 65536];
+    let mut widths = [0u64; 256];
+    let mut arows = [0u16; 512];
+    let mut acells = [0u64; 12288];
+    let mut brows = [0u16; 512];
+    let mut bcells = [0u64; 12288];
+    let mut records = [0u64; 1536];
+    let mut items = [0u16; 16896];
+    let mut icells = [0u64; 12288];
+    prune_in(
+        mode,
+        mask,
+        all,
+        file,
+        request,
+        out,
+        &mut cells,
+        &mut rows,
+        &mut nodes,
+        &mut names,
+        &mut fields,
+        &mut widths,
+        &mut arows,
+        &mut acells,
+        &mut brows,
+        &mut bcells,
+        &mut records,
+        &mut items,
+        &mut icells,
+    )
+}
+
+/// The plan file's plan, narrowed to the fields of the request (rising positions of the root's fields) and written to `out`; or a refusal.
+///
+/// The answer and every byte of `out` are those of document 01. In house mode, where nothing is refused, the plan that is written gives the rows of
+/// the plan that was read at each field that it keeps.
+pub fn prune(mode: u8, mask: u16, file: &[u8], request: &[u16], out: &mut [u8]) -> Answer
+    ensures { λ r. ⌜ AnswerIs (rules.answer mode mask (now (file .entry)) (now (request .entry)) (now (out .entry))) r (now (out .exit)) ⌝ }
+    ensures { λ r. ⌜ (mode ≡ 1 → r .code ≡ 0 → Promise mask (now (file .entry)) (λ width. now (request .entry)) (rules.answer mode mask (now (file .entry)) (now (request .entry)) (now (out .entry)))) ⌝ }
+{
+    prune_alone(mode, mask, false, file, request, out)
+}
+
+/// The same with every field of the root requested.
+pub fn prune_all(mode: u8, mask: u16, file: &[u8], out: &mut [u8]) -> Answer
+    ensures { λ r. ⌜ AnswerIs (rules.answerAll mode mask (now (file .entry)) (now (out .entry))) r (now (out .exit)) ⌝ }
+    ensures { λ r. ⌜ (mode ≡ 1 → r .code ≡ 0 → Promise mask (now (file .entry)) (λ width. iota 0 width) (rules.answerAll mode mask (now (file .entry)) (now (out .entry)))) ⌝ }
+{
+    let nothing = [0u16; 1];
+    prune_alone(mode, mask, true, file, &nothing, out)
+}
+
+// The three numbers of an answer.
+fn put(a: Answer, answer: &mut [u64; 3])
+    ensures { λ r. ⌜ now (answer .exit) ≡ a .code ∷ a .length ∷ a .place ∷ [] ⌝ }
+{
+    *answer = [a.code as u64, a.length as u64, a.place as u64];
+}
+
+/// `prune` for C and Rust: `answer` gets the code, the length and the place.
+#[no_mangle]
+pub extern "C" fn simmerroof_prune(
+    mode: u8,
+    mask: u16,
+    file: &[u8],
+    request: &[u16],
+    out: &mut [u8],
+    answer: &mut [u64; 3],
+)
+    ensures { λ r. ⌜ NumbersAre (rules.answer mode mask (now (file .entry)) (now (request .entry)) (now (out .entry))) (now (answer .exit)) (now (out .exit)) ⌝ }
+{
+    put(prune(mode, mask, file, request, out), answer);
+}
+
+/// `prune_all` for C and Rust.
+#[no_mangle]
+pub extern "C" fn simmerroof_prune_all(
+    mode: u8,
+    mask: u16,
+    file: &[u8],
+    out: &mut [u8],
+    answer: &mut [u64; 3],
+)
+    ensures { λ r. ⌜ NumbersAre (rules.answerAll mode mask (now (file .entry)) (now (out .entry))) (now (answer .exit)) (now (out .exit)) ⌝ }
+{
+    put(prune_all(mode, mask, file, out), answer);
+}
+
+/// `simmerroof_prune` in lent arrays.
+#[no_mangle]
+pub extern "C" fn simmerroof_prune_in(
+    mode: u8,
+    mask: u16,
+    file: &[u8],
+    request: &[u16],
+    out: &mut [u8],
+    cells: &mut [u64; 12288],
+    rows: &mut [u16; 409728],
+    nodes: &mut [u64; 1792],
+    names: &mut [u16; 1040],
+    fields: &mut [u16; 65536],
+    widths: &mut [u64; 256],
+    arows: &mut [u16; 512],
+    acells: &mut [u64; 12288],
+    brows: &mut [u16; 512],
+    bcells: &mut [u64; 12288],
+    records: &mut [u64; 1536],
+    items: &mut [u16; 16896],
+    icells: &mut [u64; 12288],
+    answer: &mut [u64; 3],
+)
+    ensures { λ r. ⌜ NumbersAre (rules.answer mode mask (now (file .entry)) (now (request .entry)) (now (out .entry))) (now (answer .exit)) (now (out .exit)) ⌝ }
+{
+    let a = prune_in(
+        mode,
+        mask,
+        false,
+        file,
+        request,
+        out,
+        cells,
+        rows,
+        nodes,
+        names,
+        fields,
+        widths,
+        arows,
+        acells,
+        brows,
+        bcells,
+        records,
+        items,
+        icells,
+    );
+    put(a, answer);
+}
+
+/// `simmerroof_prune_all` in lent arrays.
+#[no_mangle]
+pub extern "C" fn simmerroof_prune_all_in(
+    mode: u8,
+    mask: u16,
+    file: &[u8],
+    out: &mut [u8],
+    cells: &mut [u64; 12288],
+    rows: &mut [u16; 409728],
+    nodes: &mut [u64; 1792],
+    names: &mut [u16; 1040],
+    fields: &mut [u16; 65536],
+    widths: &mut [u64; 256],
+    arows: &mut [u16; 512],
+    acells: &mut [u64; 12288],
+    brows: &mut [u16; 512],
+    bcells: &mut [u64; 12288],
+    records: &mut [u64; 1536],
+    items: &mut [u16; 16896],
+    icells: &mut [u64; 12288],
+    answer: &mut [u64; 3],
+)
+    ensures { λ r. ⌜ NumbersAre (rules.answerAll mode mask (now (file .entry)) (now (out .entry))) (now (answer .exit)) (now (out .exit)) ⌝ }
+{
+    let nothing = [0u16; 1];
+    let a = prune_in(
+        mode,
+        mask,
+        true,
+        file,
+        &nothing,
+        out,
+        cells,
+        rows,
+        nodes,
+        names,
+        fields,
+        widths,
+        arows,
+        acells,
+        brows,
+        bcells,
+        records,
+        items,
+        icells,
+    );
+    put(a, answer);
+}
