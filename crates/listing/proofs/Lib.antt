@@ -3,3 +3,4 @@ pub mod Digits
 pub mod Puts
 pub mod Nodes
 pub mod Files
+pub mod Program

@@ -105,21 +105,21 @@ listText file = readText (readFile file)
 -- ── the program ─────────────────────────────────────────────────────────────────────────────
 
 -- "reads one mode byte, a u16 mask and a plan file from standard input": "Numbers are little-endian"; "Missing setting bytes are 0"
-unfoldable pub modeOf : (input : List ℕ) → ℕ
-modeOf input = getD input 0 0
+unfoldable pub modeIn : (input : List ℕ) → ℕ
+modeIn input = getD input 0 0
 
-unfoldable pub maskOf : (input : List ℕ) → ℕ
-maskOf input = getD input 1 0 + 256 * getD input 2 0
+unfoldable pub maskIn : (input : List ℕ) → ℕ
+maskIn input = getD input 1 0 + 256 * getD input 2 0
 
--- what is printed of an answer: the listing of the bytes written, or the refusal
+-- what is printed of an answer, by its code: the listing of the bytes written, or the refusal
 unfoldable pub answerText : Answer → (code : ℕ) → List ℕ
 answerText a zero = listText (take (a .length) (a .out))
 answerText a (suc code) = refusedText (suc code) (a .place)
 
--- the program's answer: it "asks for all fields" and "lends an output of 65,536"
-unfoldable pub programAnswer : (input : List ℕ) → Answer
-programAnswer input = answerAll (modeOf input) (maskOf input) (drop 3 input) (replicate 65536 0)
+-- what is printed of settings and a plan file: the program "asks for all fields" and "lends an output of 65,536"
+unfoldable pub printedText : (mode mask : ℕ) (file : List ℕ) → List ℕ
+printedText mode mask file = let a = answerAll mode mask file (replicate 65536 0) in answerText a (a .code)
 
 -- all that the program prints
 unfoldable pub programText : (input : List ℕ) → List ℕ
-programText input = let a = programAnswer input in answerText a (a .code)
+programText input = printedText (modeIn input) (maskIn input) (drop 3 input)

@@ -1,11 +1,14 @@
-//! listing: the text that the program `prune` prints, made in a buffer: the nodes of a plan file's plan with their kinds and widths, or a refusal.
-ghost use Prim.Native.Nat.{_+_, _*_, _≤_};
-ghost use mathlib.Core.Path.{_≡_};
-ghost use lib.ListN.{length};
-ghost use Rattle.writer_parts.specs.Wrote.{Wrote};
-ghost use Rattle.listing.specs.Text.{decimal, lineText, listText, planText, refusedText, newline};
-ghost use Rattle.listing.specs.Lines.{Listable, Puts, lineAt, nodeText, span};
+//! listing: the text that the program `prune` prints, made in a buffer: the nodes of a plan with their kinds and widths, or a refusal.
+//!
+//! `run` makes all that the program prints, `list` the listing of a plan file as it stands; `list_in` is lent the arrays that `list` makes. The
+//! contracts determine every byte.
 ghost use mathlib.Core.List.{[], _∷_, _++_};
+ghost use mathlib.Core.Path.{_≡_};
+ghost use Prim.Native.Nat.{_+_, _*_, _<_, _≤_};
+ghost use lib.ListN.{drop, getD, length};
+ghost use Rattle.writer_parts.specs.Wrote.{Wrote};
+ghost use Rattle.listing.specs.Text.{decimal, lineText, listText, maskIn, newline, printedText, programText, refusedText};
+ghost use Rattle.listing.specs.Lines.{Listable, Puts, lineAt, nodeText, span};
 use accept::Verdict;
 use reader::Read;
 use tree::Node;
@@ -190,4 +193,63 @@ pub fn list(file: &[u8], text: &mut [u8; 16384]) -> usize
         &mut widths,
         text,
     )
+}
+
+// A byte of the input, 0 past its end.
+fn byte(input: &[u8], i: usize) -> u8
+    ensures { λ r. ⌜ r ≡ getD (now (input .entry)) i 0 ⌝ }
+{
+    if i < input.len() {
+        return input[i];
+    }
+    0
+}
+
+fn wide_setting(x: u8) -> u16
+    ensures { λ r. ⌜ (r ≡ x) × (r < 256) ⌝ }
+{
+    x as u16
+}
+
+// The mask that the input starts with.
+fn mask_in(input: &[u8]) -> u16
+    ensures { λ r. ⌜ r ≡ maskIn (now (input .entry)) ⌝ }
+{
+    let low = wide_setting(byte(input, 1));
+    let high = wide_setting(byte(input, 2));
+    low + 256 * high
+}
+
+// Where the file starts: behind the three bytes of settings, or where the input ends.
+fn file_start(input: &[u8]) -> usize
+    ensures { λ r. ⌜ (r ≤ length (now (input .entry))) × (drop r (now (input .entry)) ≡ drop 3 (now (input .entry))) ⌝ }
+{
+    if input.len() < 3 {
+        return input.len();
+    }
+    3
+}
+
+// The narrowed plan's listing, or the refusal.
+fn write_answer(mode: u8, mask: u16, file: &[u8], text: &mut [u8; 16384]) -> usize
+    ensures { λ r. ⌜ Wrote (printedText mode mask (now (file .entry))) (now (text .entry)) r (now (text .exit)) ⌝ }
+{
+    let mut out = [0u8; 65536];
+    let a = pruner::prune_all(mode, mask, file, &mut out);
+    if a.code > 0 {
+        return write_refused(text, a.code, a.place);
+    }
+    let n = a.length;
+    list(&out[..n], text)
+}
+
+/// What the program `prune` prints of its standard input, a mode byte, a mask of two bytes and a plan file; how many bytes of `text` it takes.
+/// The bytes of `text` behind them stay.
+pub fn run(input: &[u8], text: &mut [u8; 16384]) -> usize
+    ensures { λ r. ⌜ Wrote (programText (now (input .entry))) (now (text .entry)) r (now (text .exit)) ⌝ }
+{
+    let mode = byte(input, 0);
+    let mask = mask_in(input);
+    let at = file_start(input);
+    write_answer(mode, mask, &input[at..], text)
 }
