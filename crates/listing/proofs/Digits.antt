@@ -28,7 +28,8 @@ enough zero g n h i = absurd (omega arith)
 enough (suc f) zero n h i = absurd (omega arith)
 enough (suc f) (suc g) n h i = elim (decLt n 10) [
   | yes l ↦ last f n l ∙ sym (last g n l)
-  | no l ↦ more f n (omega arith) ∙ (ap (λ (ds : List ℕ). ds ++ ((48 + n % 10) ∷ [])) (enough f g (n / 10) (omega arith) (omega arith)) ∙ sym (more g n (omega arith)))
+  | no l ↦ more f n (omega arith)
+      ∙ (ap (λ (ds : List ℕ). ds ++ ((48 + n % 10) ∷ [])) (enough f g (n / 10) (omega arith) (omega arith)) ∙ sym (more g n (omega arith)))
 ]
 
 pub small : (n : ℕ) → n < 10 → decimal n ≡ (48 + n) ∷ []

@@ -4,3 +4,4 @@ pub mod Puts
 pub mod Nodes
 pub mod Files
 pub mod Program
+pub mod Samples

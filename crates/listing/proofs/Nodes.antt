@@ -61,12 +61,14 @@ pub no-lines : (text : ℕ → List ℕ) {xs : List ℕ} → Wrote (span text 0 
 unfolding span
 no-lines text = start
 
-pub next-line : {xs ys out : List ℕ} {at n : ℕ} {node : Node} (nodes widths : List ℕ) (k : ℕ) → Wrote (span (lineAt nodes widths) 0 k) xs at out → node ≡ nodeAt nodes k
+pub next-line : {xs ys out : List ℕ} {at n : ℕ} {node : Node} (nodes widths : List ℕ) (k : ℕ) → Wrote (span (lineAt nodes widths) 0 k) xs at out
+    → node ≡ nodeAt nodes k
     → Wrote (lineText k (nodeText node) (getD widths k 0)) (take (length out - at) (drop at out)) n ys
     → Wrote (span (lineAt nodes widths) 0 (k + 1)) xs (at + n) (take at out ++ (ys ++ drop (length out - at) (drop at out)))
 unfolding lineAt
 next-line nodes widths k o e l =
-    so (part o l) (ap (λ (m : Node). span (lineAt nodes widths) 0 k ++ lineText k (nodeText m) (getD widths k 0)) e ∙ sym (span-next (lineAt nodes widths) k)) refl
+    so (part o l)
+    (ap (λ (m : Node). span (lineAt nodes widths) 0 k ++ lineText k (nodeText m) (getD widths k 0)) e ∙ sym (span-next (lineAt nodes widths) k)) refl
 
 -- a turn of the loop: what holds of k lines holds of k + 1
 pub lines-again : {xs ys out : List ℕ} {at n : ℕ} {node : Node} (nodes widths : List ℕ) (k count : ℕ) → k < count → 56 * count ≤ length xs → at ≤ 56 * k
@@ -91,7 +93,8 @@ span-short text k (suc n) h =
     let b = span-short text (k + 1) n (λ j l. h j (omega arith)) in
     omega (arith, length-append (text k) (span text (k + 1) n))
 
-pub lines-short : (nodes widths : List ℕ) (count : ℕ) → count < 2 ^ 64 → ((j : ℕ) → getD widths j 0 < 2 ^ 64) → length (span (lineAt nodes widths) 0 count) ≤ 56 * count
+pub lines-short : (nodes widths : List ℕ) (count : ℕ) → count < 2 ^ 64 → ((j : ℕ) → getD widths j 0 < 2 ^ 64)
+    → length (span (lineAt nodes widths) 0 count) ≤ 56 * count
 unfolding lineAt
 lines-short nodes widths count h i = span-short (lineAt nodes widths) 0 count (λ j l. line-short j (getD widths j 0) (nodeAt nodes j) (omega arith) (i j))
 
@@ -134,10 +137,12 @@ module _ (C : Catalogue) (a : Arrays) (count : ℕ) where
   abbrev Each : ℕ → Type 0
   Each k = k < count → linesOf C (planAt a k) k ≡ span line k (planNodes (planAt a k))
 
-  at-head : (deep k right : ℕ) (h : Head) → Stands a count k right h → planNodes (planAt a k) ≤ suc deep → ((i : ℕ) → planNodes (planAt a i) ≤ deep → Each i) → Each k
+  at-head : (deep k right : ℕ) (h : Head) → Stands a count k right h → planNodes (planAt a k) ≤ suc deep
+      → ((i : ℕ) → planNodes (planAt a i) ≤ deep → Each i) → Each k
   unfolding linesOf planNodes span line
   at-head deep k right (h0 h) s d go l =
-      ap (λ p. linesOf C p k) s ∙ (sym (append-nil (lineOf C (leaf h) k)) ∙ (ap (λ p. lineOf C p k ++ []) (sym s) ∙ ap (λ p. span line k (planNodes p)) (sym s)))
+      ap (λ p. linesOf C p k) s
+      ∙ (sym (append-nil (lineOf C (leaf h) k)) ∙ (ap (λ p. lineOf C p k ++ []) (sym s) ∙ ap (λ p. span line k (planNodes p)) (sym s)))
   at-head deep k right (h1 h) s d go l =
       let size = ap planNodes (s .plan) in
       ap (λ p. linesOf C p k) (s .plan)
@@ -149,7 +154,8 @@ module _ (C : Catalogue) (a : Arrays) (count : ℕ) where
       ap (λ p. linesOf C p k) (s .plan)
       ∙ (ap₂ _++_ (ap (λ p. lineOf C p k) (sym (s .plan)))
         (ap₂ _++_ (go (k + 1) (omega (arith, nodes-pos (planAt a right))) (omega (arith, s .after, s .below)))
-          (ap (linesOf C (planAt a right)) (sym (s .ends)) ∙ (go right (omega (arith, nodes-pos first)) (s .below) ∙ ap (λ i. span line i (planNodes (planAt a right))) (s .ends)))
+          (ap (linesOf C (planAt a right)) (sym (s .ends))
+          ∙ (go right (omega (arith, nodes-pos first)) (s .below) ∙ ap (λ i. span line i (planNodes (planAt a right))) (s .ends)))
         ∙ sym (span-append line (k + 1) (planNodes first) (planNodes (planAt a right))))
       ∙ ap (λ p. span line k (planNodes p)) (sym (s .plan)))
 
@@ -180,5 +186,6 @@ module _ {C : Catalogue} {cells rows nodes fields widths : List ℕ} {count : �
       ∙ sym (lines-are C (lent cells rows nodes) count w e)
 
 -- the numbers of every node fit, and it has a width
-pub listable : {C : Catalogue} {cells rows nodes widths : List ℕ} {count : ℕ} → WfTree C (lent cells rows nodes) count → length widths ≡ 256 → Listable nodes widths count
+pub listable : {C : Catalogue} {cells rows nodes widths : List ℕ} {count : ℕ} → WfTree C (lent cells rows nodes) count → length widths ≡ 256
+    → Listable nodes widths count
 listable w e = record { each = λ k l. w .each k l .numbers; wide = omega (arith, w .few) }

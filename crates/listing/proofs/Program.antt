@@ -73,7 +73,9 @@ pub program-printed : (input : List ℕ) (at : ℕ) {mode mask n : ℕ} {xs ys :
     → Wrote (printedText mode mask (take (length input - at) (drop at input))) xs n ys → Wrote (programText input) xs n ys
 unfolding programText modeIn
 program-printed input at {mode} {mask} e f g w =
-    so w (ap₂ (λ (i : ℕ) (j : ℕ). printedText i j (take (length input - at) (drop at input))) e f ∙ ap (printedText (getD input 0 0) (maskIn input)) (rest-all at input ∙ g)) refl
+    so w
+    (ap₂ (λ (i : ℕ) (j : ℕ). printedText i j (take (length input - at) (drop at input))) e f
+    ∙ ap (printedText (getD input 0 0) (maskIn input)) (rest-all at input ∙ g)) refl
 
 -- past the end of the input
 pub no-byte : (input : List ℕ) (i : ℕ) → length input ≤ i → 0 ≡ getD input i 0

@@ -9,8 +9,8 @@ use Rattle.writer_parts.specs.Wrote.{over, Wrote, Laid}
 use Rattle.writer_parts.proofs.Over.{kept, laid, over-over, part, so, start, then}
 use Rattle.tree.specs.declared.Node.{Node}
 use Rattle.tree.specs.declared.Node.the-variants.{Projection, Filter, Sort, Limit, Aggregate, Window, SubqueryAlias, Union, Distinct, Join, Scan, Empty}
-use Rattle.listing.specs.Text.{decimal, lineText, newline, refusedText, space}
-use Rattle.listing.specs.Lines.{Puts, nodeText}
+use Rattle.listing.specs.Text.{countText, decimal, lineText, newline, refusedText, space}
+use Rattle.listing.specs.Lines.{Counts, Puts, nodeText}
 use Rattle.listing.proofs.Digits.{short, small, step, step-length}
 
 -- all of s was copied over the start of xs
@@ -44,7 +44,9 @@ unfolding over
 byte {xs} at b h = record {
   long = refl;
   size = refl;
-  ends = let e : suc at ≡ at + 1 = omega arith in set-split xs at b h ∙ ap (λ (ys : List ℕ). take at xs ++ b ∷ ys) (ap (λ i. drop i xs) e ∙ sym (drop-drop 1 at xs));
+  ends =
+      let e : suc at ≡ at + 1 = omega arith in
+      set-split xs at b h ∙ ap (λ (ys : List ℕ). take at xs ++ b ∷ ys) (ap (λ i. drop i xs) e ∙ sym (drop-drop 1 at xs));
 }
 
 -- a buffer keeps its length
@@ -54,7 +56,9 @@ put-kept {at} {r} {v} {xs} {ys} p h = kept (whole (omega arith) p) (omega (arith
 -- ── numbers ─────────────────────────────────────────────────────────────────────────────────
 
 pub number-small : {xs : List ℕ} (at n : ℕ) → n < 10 → at + length (decimal n) ≤ length xs → Puts at (decimal n) xs (at + 1) (set xs at (48 + n))
-number-small {xs} at n h l = let e = ap length (small n h) in subst⁻¹ (λ (v : List ℕ). Puts at v xs (at + 1) (set xs at (48 + n))) (small n h) (byte at (48 + n) (omega arith))
+number-small {xs} at n h l =
+    let e = ap length (small n h) in
+    subst⁻¹ (λ (v : List ℕ). Puts at v xs (at + 1) (set xs at (48 + n))) (small n h) (byte at (48 + n) (omega arith))
 
 pub number-step : {xs ys : List ℕ} {r : ℕ} (at n : ℕ) → 10 ≤ n → at + length (decimal n) ≤ length xs → Puts at (decimal (n / 10)) xs r ys
     → Puts at (decimal n) xs (r + 1) (set ys r (48 + n % 10))
@@ -63,7 +67,8 @@ number-step {xs} {ys} {r} at n h l p =
     let k = put-kept p (omega arith) in
     let d = (48 + n % 10) ∷ [] in
     subst⁻¹ (λ (v : List ℕ). Puts at v xs (r + 1) (set ys r (48 + n % 10))) (step n h)
-    (placed (omega arith) (so (then (whole (omega arith) p) (byte r (48 + n % 10) (omega (arith, p .long)))) (append-assoc (take at xs) (decimal (n / 10)) d) refl))
+    (placed (omega arith)
+    (so (then (whole (omega arith) p) (byte r (48 + n % 10) (omega (arith, p .long)))) (append-assoc (take at xs) (decimal (n / 10)) d) refl))
 
 -- ── kinds ───────────────────────────────────────────────────────────────────────────────────
 
@@ -92,15 +97,15 @@ unfolding lineText
 line-short k width n h i = simp length-append (omega (arith, short k h, short width i, kind-short n))
 
 pub line-wrote : (width : ℕ) {k m a b c d e r : ℕ} {kind x₀ x₁ x₂ x₃ x₄ x₅ x₆ : List ℕ} → m ≡ k
-    → Puts 0 (decimal m) x₀ a x₁ → Puts a space x₁ b x₂ → Puts b kind x₂ c x₃ → Puts c space x₃ d x₄ → Puts d (decimal width) x₄ e x₅ → Puts e newline x₅ r x₆
-    → Wrote (lineText k kind width) x₀ r x₆
+    → Puts 0 (decimal m) x₀ a x₁ → Puts a space x₁ b x₂ → Puts b kind x₂ c x₃ → Puts c space x₃ d x₄ → Puts d (decimal width) x₄ e x₅
+    → Puts e newline x₅ r x₆ → Wrote (lineText k kind width) x₀ r x₆
 unfolding lineText
 line-wrote width {kind = kind} q p₁ p₂ p₃ p₄ p₅ p₆ =
     so (then (then (then (then (then (then start p₁) p₂) p₃) p₄) p₅) p₆) (ap (λ i. decimal i ++ space ++ kind ++ space ++ decimal width ++ newline) q) refl
 
 pub refused-wrote : {code place m n a b c d r : ℕ} {x₀ x₁ x₂ x₃ x₄ x₅ : List ℕ} → m ≡ code → n ≡ place
-    → Puts 0 (82 ∷ 69 ∷ 70 ∷ 85 ∷ 83 ∷ 69 ∷ 68 ∷ 32 ∷ []) x₀ a x₁ → Puts a (decimal m) x₁ b x₂ → Puts b space x₂ c x₃ → Puts c (decimal n) x₃ d x₄ → Puts d newline x₄ r x₅
-    → Wrote (refusedText code place) x₀ r x₅
+    → Puts 0 (82 ∷ 69 ∷ 70 ∷ 85 ∷ 83 ∷ 69 ∷ 68 ∷ 32 ∷ []) x₀ a x₁ → Puts a (decimal m) x₁ b x₂ → Puts b space x₂ c x₃ → Puts c (decimal n) x₃ d x₄
+    → Puts d newline x₄ r x₅ → Wrote (refusedText code place) x₀ r x₅
 unfolding refusedText
 refused-wrote e f p₁ p₂ p₃ p₄ p₅ =
     so (then (then (then (then (then start p₁) p₂) p₃) p₄) p₅)
@@ -109,6 +114,20 @@ refused-wrote e f p₁ p₂ p₃ p₄ p₅ =
 -- the first line, and then the others
 pub listing-wrote : {count m a b c n : ℕ} {lines x₀ x₁ x₂ x₃ ys : List ℕ} → m ≡ count
     → Puts 0 (80 ∷ 76 ∷ 65 ∷ 78 ∷ 32 ∷ []) x₀ a x₁ → Puts a (decimal m) x₁ b x₂ → Puts b newline x₂ c x₃ → Wrote lines (take (length x₃ - c) (drop c x₃)) n ys
-    → Wrote ((80 ∷ 76 ∷ 65 ∷ 78 ∷ 32 ∷ []) ++ decimal count ++ newline ++ lines) x₀ (c + n) (take c x₃ ++ (ys ++ drop (length x₃ - c) (drop c x₃)))
+    → Wrote (countText count ++ lines) x₀ (c + n) (take c x₃ ++ (ys ++ drop (length x₃ - c) (drop c x₃)))
+unfolding countText
 listing-wrote {lines = lines} e p₁ p₂ p₃ w =
     so (part (then (then (then start p₁) p₂) p₃) w) (ap (λ i. (80 ∷ 76 ∷ 65 ∷ 78 ∷ 32 ∷ []) ++ decimal i ++ newline ++ lines) e) refl
+
+-- ── the whole text ──────────────────────────────────────────────────────────────────────────
+
+-- what was written lies in the buffer, which is as long as before
+pub counts : {w xs ys : List ℕ} {r : ℕ} → Wrote w xs r ys → length ys ≡ length xs → Counts r ys
+unfolding over
+counts {w} {xs} {ys} {r} o e =
+    let l : r ≤ length ys = omega (arith, o .long, ap length (o .ends), length-append w (drop (length w) xs)) in
+    (l, sym (length-take-le r ys l))
+
+-- two answers to the same text are the same
+pub coincide : {w xs ys zs : List ℕ} {r q : ℕ} → Wrote w xs r ys → Wrote w xs q zs → (r ≡ q) × (ys ≡ zs)
+coincide o u = (o .long ∙ sym (u .long), o .ends ∙ sym (u .ends))

@@ -1,7 +1,8 @@
 -- The lines of a listing as they follow from the numbers in the lent arrays.
+use mathlib.Core.Path.{_≡_}
 use mathlib.Core.List.{List, [], _∷_, _++_}
 use Prim.Native.Nat.{ℕ, zero, suc, _+_, _<_, _≤_}
-use lib.ListN.{length, getD}
+use lib.ListN.{length, getD, take}
 use Rattle.tree.specs.Node.{NodeFits, nodeAt}
 use Rattle.tree.specs.declared.Node.{Node}
 use Rattle.tree.specs.declared.Node.the-variants.{Projection, Filter, Sort, Limit, Aggregate, Window, SubqueryAlias, Union, Distinct, Join, Scan, Empty}
@@ -11,6 +12,10 @@ use Rattle.listing.specs.Text.{lineText}
 -- xs became ys: v was written over it from `at` on, up to r
 abbrev pub Puts : (at : ℕ) (v xs : List ℕ) (r : ℕ) (ys : List ℕ) → Type 0
 Puts at v xs r ys = Laid at v (length v) xs r ys
+
+-- the first r numbers of xs can be lent. The second part follows from the first; both are stated so that `&text[..r]` asks for no proof
+abbrev pub Counts : (r : ℕ) (xs : List ℕ) → Type 0
+Counts r xs = (r ≤ length xs) × (r ≡ length (take r xs))
 
 -- the kind of a node, in small letters
 unfoldable pub nodeText : Node → List ℕ

@@ -8,7 +8,8 @@ use lib.ListN.{length, getD, take, drop, replicate}
 use Rattle.cpl.specs.Accept.{Fault, fault, check}
 use Rattle.cpl.specs.Exprs.{planNodes}
 use Rattle.cpl.specs.Fields.{fieldsOf}
-use Rattle.cpl.specs.Plan.{Catalogue, Leaf, scan, empty, Unary, projection, filter, sort, limit, aggregate, window, subqueryAlias, distinct, Binary, union, join, Plan, leaf, unary, binary, Source}
+use Rattle.cpl.specs.Plan.{Catalogue, Leaf, scan, empty, Unary, projection, filter, sort, limit, aggregate, window, subqueryAlias, distinct}
+use Rattle.cpl.specs.Plan.{Binary, union, join, Plan, leaf, unary, binary, Source}
 use Rattle.cpl.specs.Read.{Res, ok, bad, pick}
 use Rattle.cpl.specs.ReadPlan.{readFile}
 use Rattle.rules.specs.Answer.{Answer, answerAll}
@@ -78,9 +79,13 @@ linesOf C (leaf h) k = lineOf C (leaf h) k
 linesOf C (unary h p) k = lineOf C (unary h p) k ++ linesOf C p (k + 1)
 linesOf C (binary h p q) k = lineOf C (binary h p q) k ++ (linesOf C p (k + 1) ++ linesOf C q (k + 1 + planNodes p))
 
--- "First line `PLAN` and the node count; then for each node …"
+-- "First line `PLAN` and the node count"
+unfoldable pub countText : (count : ℕ) → List ℕ
+countText count = (80 ∷ 76 ∷ 65 ∷ 78 ∷ 32 ∷ []) ++ decimal count ++ newline
+
+-- "then for each node …"
 unfoldable pub planText : Catalogue → Plan → List ℕ
-planText C p = (80 ∷ 76 ∷ 65 ∷ 78 ∷ 32 ∷ []) ++ decimal (planNodes p) ++ newline ++ linesOf C p 0
+planText C p = countText (planNodes p) ++ linesOf C p 0
 
 -- "A refusal prints one line: `REFUSED`, code, place."
 unfoldable pub refusedText : (code place : ℕ) → List ℕ

@@ -2,13 +2,13 @@
 //!
 //! `run` makes all that the program prints, `list` the listing of a plan file as it stands; `list_in` is lent the arrays that `list` makes. The
 //! contracts determine every byte.
-ghost use mathlib.Core.List.{[], _∷_, _++_};
+ghost use mathlib.Core.List.{_++_};
 ghost use mathlib.Core.Path.{_≡_};
 ghost use Prim.Native.Nat.{_+_, _*_, _<_, _≤_};
 ghost use lib.ListN.{drop, getD, length};
 ghost use Rattle.writer_parts.specs.Wrote.{Wrote};
-ghost use Rattle.listing.specs.Text.{decimal, lineText, listText, maskIn, newline, printedText, programText, refusedText};
-ghost use Rattle.listing.specs.Lines.{Listable, Puts, lineAt, nodeText, span};
+ghost use Rattle.listing.specs.Text.{countText, decimal, lineText, listText, maskIn, printedText, programText, refusedText};
+ghost use Rattle.listing.specs.Lines.{Counts, Listable, Puts, lineAt, nodeText, span};
 use accept::Verdict;
 use reader::Read;
 use tree::Node;
@@ -109,7 +109,7 @@ fn write_lines(out: &mut [u8], nodes: &[u64], widths: &[u64], count: usize) -> u
 // The number of nodes, and their lines.
 fn write_listing(out: &mut [u8], nodes: &[u64], widths: &[u64], count: usize) -> usize
     requires { ⌜ Listable (now nodes) (now widths) count × (26 + 56 * count ≤ length (now out)) ⌝ }
-    ensures { λ r. ⌜ Wrote ((80 ∷ 76 ∷ 65 ∷ 78 ∷ 32 ∷ []) ++ decimal count ++ newline ++ span (lineAt (now (nodes .entry)) (now (widths .entry))) 0 count) (now (out .entry)) r (now (out .exit)) ⌝ }
+    ensures { λ r. ⌜ Wrote (countText count ++ span (lineAt (now (nodes .entry)) (now (widths .entry))) 0 count) (now (out .entry)) r (now (out .exit)) ⌝ }
 {
     let a = put_text(out, 0, b"PLAN ");
     let b = put_number(out, a, wide(count));
@@ -142,6 +142,7 @@ pub fn list_in(
     text: &mut [u8; 16384],
 ) -> usize
     ensures { λ r. ⌜ Wrote (listText (now (file .entry))) (now (text .entry)) r (now (text .exit)) ⌝ }
+    ensures { λ r. ⌜ Counts r (now (text .exit)) ⌝ }
 {
     let read = reader::read_file(file, cells, rows, nodes, names);
     match read {
@@ -176,6 +177,7 @@ pub fn list_in(
 /// The bytes of `text` behind them stay.
 pub fn list(file: &[u8], text: &mut [u8; 16384]) -> usize
     ensures { λ r. ⌜ Wrote (listText (now (file .entry))) (now (text .entry)) r (now (text .exit)) ⌝ }
+    ensures { λ r. ⌜ Counts r (now (text .exit)) ⌝ }
 {
     let mut cells = [0u64; 12288];
     let mut rows = [0u16; 409728];
@@ -233,6 +235,7 @@ fn file_start(input: &[u8]) -> usize
 // The narrowed plan's listing, or the refusal.
 fn write_answer(mode: u8, mask: u16, file: &[u8], text: &mut [u8; 16384]) -> usize
     ensures { λ r. ⌜ Wrote (printedText mode mask (now (file .entry))) (now (text .entry)) r (now (text .exit)) ⌝ }
+    ensures { λ r. ⌜ Counts r (now (text .exit)) ⌝ }
 {
     let mut out = [0u8; 65536];
     let a = pruner::prune_all(mode, mask, file, &mut out);
@@ -247,6 +250,7 @@ fn write_answer(mode: u8, mask: u16, file: &[u8], text: &mut [u8; 16384]) -> usi
 /// The bytes of `text` behind them stay.
 pub fn run(input: &[u8], text: &mut [u8; 16384]) -> usize
     ensures { λ r. ⌜ Wrote (programText (now (input .entry))) (now (text .entry)) r (now (text .exit)) ⌝ }
+    ensures { λ r. ⌜ Counts r (now (text .exit)) ⌝ }
 {
     let mode = byte(input, 0);
     let mask = mask_in(input);

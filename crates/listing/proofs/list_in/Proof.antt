@@ -4,7 +4,10 @@ use Rattle.cpl.specs.Plan.{named}
 use Rattle.intake.proofs.Ways.{all-stand, are-bytes, got, no-faults, some-node}
 use Rattle.listing.proofs.Files.{faulty, listed, unread}
 use Rattle.listing.proofs.Nodes.{listable}
-use Rattle.listing.proofs.Puts.{whole}
+use Rattle.listing.proofs.Puts.{counts, whole}
+use Rattle.meaning.proofs.Wide.{wide}
+use Rattle.meaning.specs.Reads.{reads}
+use Rattle.writer.proofs.Fit.{few}
 use Rattle.writer_parts.proofs.Over.{kept, room}
 use borrow.Author.Needs.{needs}
 use mathlib.Core.Path.{_∙_, sym}
@@ -67,7 +70,7 @@ returns c =
     let read = c .before .before .before .read in
     let read-file = c .before .before .before .before .before .read-file in
     let write-refused = c .write-refused in
-    unread _ _ _ (rw (read .given .1) at (read-file .ensures)) (write-refused .ensures)
+    (unread _ _ _ (rw (read .given .1) at (read-file .ensures)) (write-refused .ensures), counts (write-refused .ensures) (write-refused .kept .0))
 
 returns-2 : tie.Need-returns-2
 returns-2 c =
@@ -83,7 +86,7 @@ returns-2 c =
     let write-refused2 = c .write-refused2 in
     let k = rw (v .given .1) at (accept-node .ensures) in
     let g = got (rw (read2 .given .1) at (read-file .ensures)) (are-bytes _ (λ i. omega (arith, shared-slice-known .given i))) (omega (arith, read-file-arg .given .0 .1)) (omega (arith, read-file-arg2 .given .0 .1)) (omega (arith, read-file-arg3 .given .0 .1)) (omega (arith, read-file-arg4 .given .0 .1, read-file .kept .1 .1 .1 .1 .0)) in
-    faulty _ _ _ _ _ _ _ _ (g .reads) (sym (k .says)) (write-refused2 .ensures)
+    (faulty _ _ _ _ _ _ _ _ (g .reads) (sym (k .says)) (write-refused2 .ensures), counts (write-refused2 .ensures) (write-refused2 .kept .0))
 
 returns-3 : tie.Need-returns-3
 returns-3 c =
@@ -99,7 +102,7 @@ returns-3 c =
     let write-listing = c .write-listing in
     let k = rw (enum-told .given .1) at (accept-node .ensures) in
     let g = got (rw (read2 .given .1) at (read-file .ensures)) (are-bytes _ (λ i. omega (arith, shared-slice-known .given i))) (omega (arith, read-file-arg .given .0 .1)) (omega (arith, read-file-arg2 .given .0 .1)) (omega (arith, read-file-arg3 .given .0 .1)) (omega (arith, read-file-arg4 .given .0 .1, read-file .kept .1 .1 .1 .1 .0)) in
-    listed _ g (no-faults k) (all-stand k _ (g .whole)) (write-listing .ensures)
+    (listed _ g (no-faults k) (all-stand k _ (g .whole)) (write-listing .ensures), counts (write-listing .ensures) (write-listing .kept .0))
 
 pub list-in-spec : {M : Type 1} → statement M
 list-in-spec = tie.close (tie.spec read-file-requires enum-known-read write-refused-requires enum-known-read-2 accept-node-requires enum-known-v write-refused-requires-2 enum-told write-listing-requires returns returns-2 returns-3)

@@ -1,6 +1,7 @@
 -- `listing::write_answer` meets its contract: the refusal, or the listing of the bytes written. Assumes nothing.
 use Prim.Native.Nat.{ℕ}
 use Rattle.listing.proofs.Program.{answer-fits, printed-listing, printed-refusal}
+use Rattle.listing.proofs.Puts.{counts}
 use Rattle.optimize_projections.proofs.Nodes.{left}
 use Rattle.writer.proofs.Plans.{taken}
 use Rattle.writer_parts.proofs.Over.{kept}
@@ -27,7 +28,7 @@ returns c =
     let prune-all = c .before .before .before .before .before .prune-all in
     let if1 = c .before .before .if1 in
     let write-refused = c .write-refused in
-    printed-refusal (args .mode) (args .mask) (args .file .now) (prune-all .ensures .0) (if1 .taken) (write-refused .ensures)
+    (printed-refusal (args .mode) (args .mask) (args .file .now) (prune-all .ensures .0) (if1 .taken) (write-refused .ensures), counts (write-refused .ensures) (write-refused .kept .0))
 
 array-share-prefix-out : tie.Need-array-share-prefix-out
 array-share-prefix-out c =
@@ -50,7 +51,7 @@ returns-2 c =
     let prune-all = c .before .before .before .before .before .before .prune-all in
     let if1 = c .before .before .before .if1 in
     let list = c .list in
-    printed-listing (args .mode) (args .mask) (args .file .now) (prune-all .ensures .0) (omega (arith, if1 .left)) (list .ensures)
+    (printed-listing (args .mode) (args .mask) (args .file .now) (prune-all .ensures .0) (omega (arith, if1 .left)) (list .ensures .0), list .ensures .1)
 
 pub write-answer-spec : {M : Type 1} → statement M
 write-answer-spec = tie.close (tie.spec slice-aggregate-prune-all prune-all-requires write-refused-requires returns array-share-prefix-out slice-aggregate-list list-requires returns-2)
