@@ -75,7 +75,7 @@ pub lines-again : {xs ys out : List ℕ} {at n : ℕ} {node : Node} (nodes width
     → Wrote (span (lineAt nodes widths) 0 k) xs at out → node ≡ nodeAt nodes k → k < 2 ^ 64 → getD widths k 0 < 2 ^ 64
     → Wrote (lineText k (nodeText node) (getD widths k 0)) (take (length out - at) (drop at out)) n ys
     → (k + 1 ≤ count) × (at + n ≤ 56 * (k + 1)) × (length (take at out ++ (ys ++ drop (length out - at) (drop at out))) ≡ length xs)
-      × Wrote (span (lineAt nodes widths) 0 (k + 1)) xs (at + n) (take at out ++ (ys ++ drop (length out - at) (drop at out)))
+    × Wrote (span (lineAt nodes widths) 0 (k + 1)) xs (at + n) (take at out ++ (ys ++ drop (length out - at) (drop at out)))
 lines-again {node = node} nodes widths k count h room a o e b c l =
     let w = next-line nodes widths k o e l in
     let s = line-short k (getD widths k 0) node b c in
@@ -153,10 +153,10 @@ module _ (C : Catalogue) (a : Arrays) (count : ℕ) where
       let first = planAt a (k + 1) in
       ap (λ p. linesOf C p k) (s .plan)
       ∙ (ap₂ _++_ (ap (λ p. lineOf C p k) (sym (s .plan)))
-        (ap₂ _++_ (go (k + 1) (omega (arith, nodes-pos (planAt a right))) (omega (arith, s .after, s .below)))
-          (ap (linesOf C (planAt a right)) (sym (s .ends))
-          ∙ (go right (omega (arith, nodes-pos first)) (s .below) ∙ ap (λ i. span line i (planNodes (planAt a right))) (s .ends)))
-        ∙ sym (span-append line (k + 1) (planNodes first) (planNodes (planAt a right))))
+      (ap₂ _++_ (go (k + 1) (omega (arith, nodes-pos (planAt a right))) (omega (arith, s .after, s .below)))
+      (ap (linesOf C (planAt a right)) (sym (s .ends))
+      ∙ (go right (omega (arith, nodes-pos first)) (s .below) ∙ ap (λ i. span line i (planNodes (planAt a right))) (s .ends)))
+      ∙ sym (span-append line (k + 1) (planNodes first) (planNodes (planAt a right))))
       ∙ ap (λ p. span line k (planNodes p)) (sym (s .plan)))
 
   module _ (w : WfTree C a count) where

@@ -100,4 +100,5 @@ module _ (t : ℕ) where
 pub +put-number-spec : {M : Type 1} → statement M
 +put-number-spec = close μ λ t.
     lts.spec (callees t) (given t) put-number.Post
-    (add-out t) (cast-out t) (slice-write-out t) (add-result t) (same-length t) (returns t) (put-number-requires t) (add-out-2 t) (cast-out-2 t) (slice-write-out-2 t) (add-result-2 t) (same-length-2 t) (returns-2 t)
+    (add-out t) (cast-out t) (slice-write-out t) (add-result t) (same-length t) (returns t) (put-number-requires t) (add-out-2 t) (cast-out-2 t)
+    (slice-write-out-2 t) (add-result-2 t) (same-length-2 t) (returns-2 t)

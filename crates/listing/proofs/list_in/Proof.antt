@@ -30,16 +30,25 @@ enum-known-read-2 c = search needs
 accept-node-requires : tie.Need-accept-node-requires
 accept-node-requires c κs =
     let read2 = c .before .before .before .before .before .before .before .before .before .before .before .read2 in
-    let read-file = c .before .before .before .before .before .before .before .before .before .before .before .before .before .read-file in
-    let shared-slice-known = c .before .before .before .before .before .before .before .before .before .before .before .before .before .before .before .before .before .before .shared-slice-known in
-    let read-file-arg = c .before .before .before .before .before .before .before .before .before .before .before .before .before .before .before .before .before .read-file-arg in
-    let read-file-arg2 = c .before .before .before .before .before .before .before .before .before .before .before .before .before .before .before .before .read-file-arg2 in
-    let read-file-arg3 = c .before .before .before .before .before .before .before .before .before .before .before .before .before .before .before .read-file-arg3 in
-    let read-file-arg4 = c .before .before .before .before .before .before .before .before .before .before .before .before .before .before .read-file-arg4 in
+    let s10 = c .before .before .before .before .before .before .before .before .before .before in
+    let read-file = s10 .before .before .before .read-file in
+    let shared-slice-known = s10 .before .before .before .before .before .before .before .before .shared-slice-known in
+    let read-file-arg = s10 .before .before .before .before .before .before .before .read-file-arg in
+    let read-file-arg2 = s10 .before .before .before .before .before .before .read-file-arg2 in
+    let read-file-arg3 = s10 .before .before .before .before .before .read-file-arg3 in
+    let read-file-arg4 = s10 .before .before .before .before .read-file-arg4 in
     let accept-node-arg9 = c .before .accept-node-arg9 in
     let accept-node-arg10 = c .accept-node-arg10 in
-    let g = got (rw (read2 .given .1) at (read-file .ensures)) (are-bytes _ (λ i. omega (arith, shared-slice-known .given i))) (omega (arith, read-file-arg .given .0 .1)) (omega (arith, read-file-arg2 .given .0 .1)) (omega (arith, read-file-arg3 .given .0 .1)) (omega (arith, read-file-arg4 .given .0 .1, read-file .kept .1 .1 .1 .1 .0)) in
-    record { tree = g .tree; here = some-node g; named = g .named; room = omega (arith, accept-node-arg9 .given .0 .1); wide = omega (arith, accept-node-arg10 .given .0 .1) }
+    let g = got (rw (read2 .given .1) at (read-file .ensures)) (are-bytes _ (λ i. omega (arith, shared-slice-known .given i)))
+    (omega (arith, read-file-arg .given .0 .1)) (omega (arith, read-file-arg2 .given .0 .1)) (omega (arith, read-file-arg3 .given .0 .1))
+    (omega (arith, read-file-arg4 .given .0 .1, read-file .kept .1 .1 .1 .1 .0)) in
+    record {
+      tree = g .tree;
+      here = some-node g;
+      named = g .named;
+      room = omega (arith, accept-node-arg9 .given .0 .1);
+      wide = omega (arith, accept-node-arg10 .given .0 .1);
+    }
 
 enum-known-v : tie.Need-enum-known-v
 enum-known-v c = search needs
@@ -52,18 +61,24 @@ enum-told c = search needs
 
 write-listing-requires : tie.Need-write-listing-requires
 write-listing-requires c κs =
-    let read2 = c .before .before .before .before .before .before .before .before .before .before .before .before .before .before .before .before .before .before .before .read2 in
-    let read-file = c .before .before .before .before .before .before .before .before .before .before .before .before .before .before .before .before .before .before .before .before .before .read-file in
-    let shared-slice-known = c .before .before .before .before .before .before .before .before .before .before .before .before .before .before .before .before .before .before .before .before .before .before .before .before .before .before .shared-slice-known in
-    let read-file-arg = c .before .before .before .before .before .before .before .before .before .before .before .before .before .before .before .before .before .before .before .before .before .before .before .before .before .read-file-arg in
-    let read-file-arg2 = c .before .before .before .before .before .before .before .before .before .before .before .before .before .before .before .before .before .before .before .before .before .before .before .before .read-file-arg2 in
-    let read-file-arg3 = c .before .before .before .before .before .before .before .before .before .before .before .before .before .before .before .before .before .before .before .before .before .before .before .read-file-arg3 in
-    let read-file-arg4 = c .before .before .before .before .before .before .before .before .before .before .before .before .before .before .before .before .before .before .before .before .before .before .read-file-arg4 in
+    let s10 = c .before .before .before .before .before .before .before .before .before .before in
+    let read2 = s10 .before .before .before .before .before .before .before .before .before .read2 in
+    let s20 = s10 .before .before .before .before .before .before .before .before .before .before in
+    let read-file = s20 .before .read-file in
+    let shared-slice-known = s20 .before .before .before .before .before .before .shared-slice-known in
+    let read-file-arg = s20 .before .before .before .before .before .read-file-arg in
+    let read-file-arg2 = s20 .before .before .before .before .read-file-arg2 in
+    let read-file-arg3 = s20 .before .before .before .read-file-arg3 in
+    let read-file-arg4 = s20 .before .before .read-file-arg4 in
     let accept-node = c .before .before .before .before .before .before .before .accept-node in
     let accept-node-arg10 = c .before .before .before .before .before .before .before .before .accept-node-arg10 in
     let write-listing-arg = c .before .before .before .before .write-listing-arg in
-    let g = got (rw (read2 .given .1) at (read-file .ensures)) (are-bytes _ (λ i. omega (arith, shared-slice-known .given i))) (omega (arith, read-file-arg .given .0 .1)) (omega (arith, read-file-arg2 .given .0 .1)) (omega (arith, read-file-arg3 .given .0 .1)) (omega (arith, read-file-arg4 .given .0 .1, read-file .kept .1 .1 .1 .1 .0)) in
-    (listable (g .tree) (accept-node .kept .1 .1 .1 .1 .1 .1 .1 .0 ∙ accept-node-arg10 .given .0 .1), omega (arith, g .tree .few, write-listing-arg .given .0 .1))
+    let g = got (rw (read2 .given .1) at (read-file .ensures)) (are-bytes _ (λ i. omega (arith, shared-slice-known .given i)))
+    (omega (arith, read-file-arg .given .0 .1)) (omega (arith, read-file-arg2 .given .0 .1)) (omega (arith, read-file-arg3 .given .0 .1))
+    (omega (arith, read-file-arg4 .given .0 .1, read-file .kept .1 .1 .1 .1 .0)) in (
+      listable (g .tree) (accept-node .kept .1 .1 .1 .1 .1 .1 .1 .0 ∙ accept-node-arg10 .given .0 .1),
+      omega (arith, g .tree .few, write-listing-arg .given .0 .1),
+    )
 
 returns : tie.Need-returns
 returns c =
@@ -76,33 +91,43 @@ returns-2 : tie.Need-returns-2
 returns-2 c =
     let v = c .before .before .before .v in
     let accept-node = c .before .before .before .before .before .accept-node in
-    let read2 = c .before .before .before .before .before .before .before .before .before .before .before .before .before .before .before .before .before .read2 in
-    let read-file = c .before .before .before .before .before .before .before .before .before .before .before .before .before .before .before .before .before .before .before .read-file in
-    let shared-slice-known = c .before .before .before .before .before .before .before .before .before .before .before .before .before .before .before .before .before .before .before .before .before .before .before .before .shared-slice-known in
-    let read-file-arg = c .before .before .before .before .before .before .before .before .before .before .before .before .before .before .before .before .before .before .before .before .before .before .before .read-file-arg in
-    let read-file-arg2 = c .before .before .before .before .before .before .before .before .before .before .before .before .before .before .before .before .before .before .before .before .before .before .read-file-arg2 in
-    let read-file-arg3 = c .before .before .before .before .before .before .before .before .before .before .before .before .before .before .before .before .before .before .before .before .before .read-file-arg3 in
-    let read-file-arg4 = c .before .before .before .before .before .before .before .before .before .before .before .before .before .before .before .before .before .before .before .before .read-file-arg4 in
+    let s10 = c .before .before .before .before .before .before .before .before .before .before in
+    let read2 = s10 .before .before .before .before .before .before .before .read2 in
+    let read-file = s10 .before .before .before .before .before .before .before .before .before .read-file in
+    let s20 = s10 .before .before .before .before .before .before .before .before .before .before in
+    let shared-slice-known = s20 .before .before .before .before .shared-slice-known in
+    let read-file-arg = s20 .before .before .before .read-file-arg in
+    let read-file-arg2 = s20 .before .before .read-file-arg2 in
+    let read-file-arg3 = s20 .before .read-file-arg3 in
+    let read-file-arg4 = s20 .read-file-arg4 in
     let write-refused2 = c .write-refused2 in
     let k = rw (v .given .1) at (accept-node .ensures) in
-    let g = got (rw (read2 .given .1) at (read-file .ensures)) (are-bytes _ (λ i. omega (arith, shared-slice-known .given i))) (omega (arith, read-file-arg .given .0 .1)) (omega (arith, read-file-arg2 .given .0 .1)) (omega (arith, read-file-arg3 .given .0 .1)) (omega (arith, read-file-arg4 .given .0 .1, read-file .kept .1 .1 .1 .1 .0)) in
+    let g = got (rw (read2 .given .1) at (read-file .ensures)) (are-bytes _ (λ i. omega (arith, shared-slice-known .given i)))
+    (omega (arith, read-file-arg .given .0 .1)) (omega (arith, read-file-arg2 .given .0 .1)) (omega (arith, read-file-arg3 .given .0 .1))
+    (omega (arith, read-file-arg4 .given .0 .1, read-file .kept .1 .1 .1 .1 .0)) in
     (faulty _ _ _ _ _ _ _ _ (g .reads) (sym (k .says)) (write-refused2 .ensures), counts (write-refused2 .ensures) (write-refused2 .kept .0))
 
 returns-3 : tie.Need-returns-3
 returns-3 c =
     let enum-told = c .before .before .before .before .before .before .enum-told in
     let accept-node = c .before .before .before .before .before .before .before .before .accept-node in
-    let read2 = c .before .before .before .before .before .before .before .before .before .before .before .before .before .before .before .before .before .before .before .before .read2 in
-    let read-file = c .before .before .before .before .before .before .before .before .before .before .before .before .before .before .before .before .before .before .before .before .before .before .read-file in
-    let shared-slice-known = c .before .before .before .before .before .before .before .before .before .before .before .before .before .before .before .before .before .before .before .before .before .before .before .before .before .before .before .shared-slice-known in
-    let read-file-arg = c .before .before .before .before .before .before .before .before .before .before .before .before .before .before .before .before .before .before .before .before .before .before .before .before .before .before .read-file-arg in
-    let read-file-arg2 = c .before .before .before .before .before .before .before .before .before .before .before .before .before .before .before .before .before .before .before .before .before .before .before .before .before .read-file-arg2 in
-    let read-file-arg3 = c .before .before .before .before .before .before .before .before .before .before .before .before .before .before .before .before .before .before .before .before .before .before .before .before .read-file-arg3 in
-    let read-file-arg4 = c .before .before .before .before .before .before .before .before .before .before .before .before .before .before .before .before .before .before .before .before .before .before .before .read-file-arg4 in
+    let s10 = c .before .before .before .before .before .before .before .before .before .before in
+    let s20 = s10 .before .before .before .before .before .before .before .before .before .before in
+    let read2 = s20 .read2 in
+    let read-file = s20 .before .before .read-file in
+    let shared-slice-known = s20 .before .before .before .before .before .before .before .shared-slice-known in
+    let read-file-arg = s20 .before .before .before .before .before .before .read-file-arg in
+    let read-file-arg2 = s20 .before .before .before .before .before .read-file-arg2 in
+    let read-file-arg3 = s20 .before .before .before .before .read-file-arg3 in
+    let read-file-arg4 = s20 .before .before .before .read-file-arg4 in
     let write-listing = c .write-listing in
     let k = rw (enum-told .given .1) at (accept-node .ensures) in
-    let g = got (rw (read2 .given .1) at (read-file .ensures)) (are-bytes _ (λ i. omega (arith, shared-slice-known .given i))) (omega (arith, read-file-arg .given .0 .1)) (omega (arith, read-file-arg2 .given .0 .1)) (omega (arith, read-file-arg3 .given .0 .1)) (omega (arith, read-file-arg4 .given .0 .1, read-file .kept .1 .1 .1 .1 .0)) in
+    let g = got (rw (read2 .given .1) at (read-file .ensures)) (are-bytes _ (λ i. omega (arith, shared-slice-known .given i)))
+    (omega (arith, read-file-arg .given .0 .1)) (omega (arith, read-file-arg2 .given .0 .1)) (omega (arith, read-file-arg3 .given .0 .1))
+    (omega (arith, read-file-arg4 .given .0 .1, read-file .kept .1 .1 .1 .1 .0)) in
     (listed _ g (no-faults k) (all-stand k _ (g .whole)) (write-listing .ensures), counts (write-listing .ensures) (write-listing .kept .0))
 
 pub list-in-spec : {M : Type 1} → statement M
-list-in-spec = tie.close (tie.spec read-file-requires enum-known-read write-refused-requires enum-known-read-2 accept-node-requires enum-known-v write-refused-requires-2 enum-told write-listing-requires returns returns-2 returns-3)
+list-in-spec = tie.close
+    (tie.spec read-file-requires enum-known-read write-refused-requires enum-known-read-2 accept-node-requires enum-known-v write-refused-requires-2
+    enum-told write-listing-requires returns returns-2 returns-3)

@@ -235,4 +235,11 @@ returns-12 c =
     kind-put (ap nodeText (enum-told12 .given .1)) (put-text12 .ensures)
 
 pub put-kind-spec : {M : Type 1} → statement M
-put-kind-spec = tie.close (tie.spec enum-told slice-aggregate-put-text put-text-requires enum-told-2 slice-aggregate-put-text-2 put-text-requires-2 enum-told-3 slice-aggregate-put-text-3 put-text-requires-3 enum-told-4 slice-aggregate-put-text-4 put-text-requires-4 enum-told-5 slice-aggregate-put-text-5 put-text-requires-5 enum-told-6 slice-aggregate-put-text-6 put-text-requires-6 enum-told-7 slice-aggregate-put-text-7 put-text-requires-7 enum-told-8 slice-aggregate-put-text-8 put-text-requires-8 enum-told-9 slice-aggregate-put-text-9 put-text-requires-9 enum-told-10 slice-aggregate-put-text-10 put-text-requires-10 enum-told-11 slice-aggregate-put-text-11 put-text-requires-11 enum-told-12 slice-aggregate-put-text-12 put-text-requires-12 same-length returns same-length-2 returns-2 same-length-3 returns-3 same-length-4 returns-4 same-length-5 returns-5 same-length-6 returns-6 same-length-7 returns-7 same-length-8 returns-8 same-length-9 returns-9 same-length-10 returns-10 same-length-11 returns-11 same-length-12 returns-12)
+put-kind-spec = tie.close
+    (tie.spec enum-told slice-aggregate-put-text put-text-requires enum-told-2 slice-aggregate-put-text-2 put-text-requires-2 enum-told-3
+    slice-aggregate-put-text-3 put-text-requires-3 enum-told-4 slice-aggregate-put-text-4 put-text-requires-4 enum-told-5 slice-aggregate-put-text-5
+    put-text-requires-5 enum-told-6 slice-aggregate-put-text-6 put-text-requires-6 enum-told-7 slice-aggregate-put-text-7 put-text-requires-7 enum-told-8
+    slice-aggregate-put-text-8 put-text-requires-8 enum-told-9 slice-aggregate-put-text-9 put-text-requires-9 enum-told-10 slice-aggregate-put-text-10
+    put-text-requires-10 enum-told-11 slice-aggregate-put-text-11 put-text-requires-11 enum-told-12 slice-aggregate-put-text-12 put-text-requires-12
+    same-length returns same-length-2 returns-2 same-length-3 returns-3 same-length-4 returns-4 same-length-5 returns-5 same-length-6 returns-6 same-length-7
+    returns-7 same-length-8 returns-8 same-length-9 returns-9 same-length-10 returns-10 same-length-11 returns-11 same-length-12 returns-12)

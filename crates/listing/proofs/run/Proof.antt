@@ -32,8 +32,11 @@ returns c =
     let file-start = c .before .before .before .file-start in
     let byte = c .before .before .before .before .before .byte in
     let mask-in = c .before .before .before .before .mask-in in
-    let write-answer = c .write-answer in
-    (program-printed (args .input .now) (file-start .result) (byte .ensures) (mask-in .ensures) (file-start .ensures .1) (write-answer .ensures .0), write-answer .ensures .1)
+    let write-answer = c .write-answer in (
+      program-printed (args .input .now) (file-start .result) (byte .ensures) (mask-in .ensures) (file-start .ensures .1) (write-answer .ensures .0),
+      write-answer .ensures .1,
+    )
 
 pub run-spec : {M : Type 1} → statement M
-run-spec = tie.close (tie.spec byte-requires mask-in-requires file-start-requires sub-write-answer part-write-answer-start part-write-answer-end write-answer-requires returns)
+run-spec = tie.close (tie.spec byte-requires mask-in-requires file-start-requires sub-write-answer part-write-answer-start part-write-answer-end
+    write-answer-requires returns)

@@ -27,8 +27,11 @@ returns c =
     let args = c .before .before .before .before .before .before .before .before .args in
     let prune-all = c .before .before .before .before .before .prune-all in
     let if1 = c .before .before .if1 in
-    let write-refused = c .write-refused in
-    (printed-refusal (args .mode) (args .mask) (args .file .now) (prune-all .ensures .0) (if1 .taken) (write-refused .ensures), counts (write-refused .ensures) (write-refused .kept .0))
+    let write-refused = c .write-refused in (
+      printed-refusal (args .mode) (args .mask) (args .file .now) (prune-all .ensures .0) (if1 .taken) (write-refused .ensures),
+      counts
+          (write-refused .ensures) (write-refused .kept .0),
+    )
 
 array-share-prefix-out : tie.Need-array-share-prefix-out
 array-share-prefix-out c =
@@ -54,4 +57,5 @@ returns-2 c =
     (printed-listing (args .mode) (args .mask) (args .file .now) (prune-all .ensures .0) (omega (arith, if1 .left)) (list .ensures .0), list .ensures .1)
 
 pub write-answer-spec : {M : Type 1} → statement M
-write-answer-spec = tie.close (tie.spec slice-aggregate-prune-all prune-all-requires write-refused-requires returns array-share-prefix-out slice-aggregate-list list-requires returns-2)
+write-answer-spec = tie.close
+    (tie.spec slice-aggregate-prune-all prune-all-requires write-refused-requires returns array-share-prefix-out slice-aggregate-list list-requires returns-2)

@@ -13,7 +13,8 @@ use Rattle.listing.proofs.write_lines.Statement.{statement}
 use Rattle.listing.proofs.write_lines.Tie as tie
 
 abbrev Inv-loop : tie.InvT-loop
-Inv-loop out₀ nodes widths count at₀ k₀ out at k = (k ≤ count) × (at ≤ 56 * k) × (length out ≡ length out₀) × Wrote (span (lineAt nodes widths) 0 k) out₀ at out
+Inv-loop out₀ nodes widths count at₀ k₀ out at k = (k ≤ count) × (at ≤ 56 * k) × (length out ≡ length out₀) × Wrote (span (lineAt nodes widths) 0 k) out₀ at
+    out
 
 abbrev μ-loop : tie.MeasureT-loop
 μ-loop out₀ nodes widths count at₀ k₀ out at k = count - k
@@ -71,7 +72,9 @@ add-at c =
     let good = c .before .before .before .before .before .before .before .before .before .before .before .good in
     let shared-slice-known2 = c .before .before .before .before .before .before .before .before .shared-slice-known2 in
     let write-line = c .before .before .write-line in
-    let h = lines-again (args .nodes .now) (args .widths .now) (loop .k) (args .count) (loop-test .taken) (pre .1) (loop .inv .1) (loop .inv .3) (node-at .ensures .is) (omega (arith, loop-test .taken, good .1 .1 .1 .0)) (omega (arith, shared-slice-known2 .given (loop .k))) (write-line .ensures) in omega (arith, h .0, h .1, pre .1, good .0 .0)
+    let h = lines-again (args .nodes .now) (args .widths .now) (loop .k) (args .count) (loop-test .taken) (pre .1) (loop .inv .1) (loop .inv .3)
+    (node-at .ensures .is) (omega (arith, loop-test .taken, good .1 .1 .1 .0)) (omega (arith, shared-slice-known2 .given (loop .k)))
+    (write-line .ensures) in omega (arith, h .0, h .1, pre .1, good .0 .0)
 
 add-k : tie.Need-add-k Inv-loop μ-loop
 add-k c = search needs
@@ -89,7 +92,8 @@ loop-again c =
     let good = c .before .before .before .before .before .before .before .before .before .before .before .good in
     let shared-slice-known2 = c .before .before .before .before .before .before .before .before .shared-slice-known2 in
     let write-line = c .before .before .write-line in
-    lines-again (args .nodes .now) (args .widths .now) (loop .k) (args .count) (loop-test .taken) (pre .1) (loop .inv .1) (loop .inv .3) (node-at .ensures .is) (omega (arith, loop-test .taken, good .1 .1 .1 .0)) (omega (arith, shared-slice-known2 .given (loop .k))) (write-line .ensures)
+    lines-again (args .nodes .now) (args .widths .now) (loop .k) (args .count) (loop-test .taken) (pre .1) (loop .inv .1) (loop .inv .3)
+    (node-at .ensures .is) (omega (arith, loop-test .taken, good .1 .1 .1 .0)) (omega (arith, shared-slice-known2 .given (loop .k))) (write-line .ensures)
 
 same-length : tie.Need-same-length Inv-loop μ-loop
 same-length c =
@@ -103,4 +107,6 @@ returns c =
     lines-done _ (omega (arith, loop .inv .0, loop-test .left)) (loop .inv .3)
 
 pub write-lines-spec : {M : Type 1} → statement M
-write-lines-spec = tie.close (tie.spec Inv-loop μ-loop loop-holds node-at-requires sub-write-line part-write-line-start part-write-line-end mul-write-line shared-slice-read-write-line write-line-requires add-at add-k loop-less loop-again same-length returns)
+write-lines-spec = tie.close
+    (tie.spec Inv-loop μ-loop loop-holds node-at-requires sub-write-line part-write-line-start part-write-line-end mul-write-line
+    shared-slice-read-write-line write-line-requires add-at add-k loop-less loop-again same-length returns)
