@@ -1,0 +1,7 @@
+-- The laws of listings, bottom up.
+pub mod Digits
+pub mod Puts
+pub mod Nodes
+pub mod Files
+pub mod Program
+pub mod Samples

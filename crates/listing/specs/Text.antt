@@ -1,0 +1,130 @@
+-- The text that the program of document 01 prints, byte by byte. "First line `PLAN` and the node count; then for each node its number, kind in small
+-- letters, field count. A refusal prints one line: `REFUSED`, code, place." A text is a list of the numbers of its letters.
+use mathlib.Core.List.{List, [], _∷_, _++_}
+use mathlib.Core.Option.{Option, none, some}
+use Prim.Native.Nat.{ℕ, zero, suc, _+_, _*_, _/_, _%_}
+use lib.Dec.{ltb}
+use lib.ListN.{length, getD, take, drop, replicate}
+use Rattle.cpl.specs.Accept.{Fault, fault, check}
+use Rattle.cpl.specs.Exprs.{planNodes}
+use Rattle.cpl.specs.Fields.{fieldsOf}
+use Rattle.cpl.specs.Plan.{Catalogue, Leaf, scan, empty, Unary, projection, filter, sort, limit, aggregate, window, subqueryAlias, distinct}
+use Rattle.cpl.specs.Plan.{Binary, union, join, Plan, leaf, unary, binary, Source}
+use Rattle.cpl.specs.Read.{Res, ok, bad, pick}
+use Rattle.cpl.specs.ReadPlan.{readFile}
+use Rattle.rules.specs.Answer.{Answer, answerAll}
+
+-- ── numbers ─────────────────────────────────────────────────────────────────────────────────
+
+-- the last digits of n, at most as many as `most`, without leading zeros; 0 is one digit
+unfoldable pub digitsTo : (most n : ℕ) → List ℕ
+digitsTo zero n = []
+digitsTo (suc most) n =
+    let before = digitsTo most (n / 10) in
+    pick (ltb n 10) [] before ++ ((48 + n % 10) ∷ [])
+
+-- the decimal digits of n: no number has more digits than itself and one
+unfoldable pub decimal : ℕ → List ℕ
+decimal n = digitsTo (suc n) n
+
+-- ── words ───────────────────────────────────────────────────────────────────────────────────
+
+abbrev pub space : List ℕ
+space = 32 ∷ []
+
+-- "Every line ends in a newline"
+abbrev pub newline : List ℕ
+newline = 10 ∷ []
+
+-- "kind in small letters": scan, empty
+unfoldable pub leafKind : Leaf → List ℕ
+leafKind (scan t q is) = 115 ∷ 99 ∷ 97 ∷ 110 ∷ []
+leafKind (empty b cs) = 101 ∷ 109 ∷ 112 ∷ 116 ∷ 121 ∷ []
+
+-- projection, filter, sort, limit, aggregate, window, subqueryalias, distinct
+unfoldable pub unaryKind : Unary → List ℕ
+unaryKind (projection is) = 112 ∷ 114 ∷ 111 ∷ 106 ∷ 101 ∷ 99 ∷ 116 ∷ 105 ∷ 111 ∷ 110 ∷ []
+unaryKind (filter e) = 102 ∷ 105 ∷ 108 ∷ 116 ∷ 101 ∷ 114 ∷ []
+unaryKind (sort ks) = 115 ∷ 111 ∷ 114 ∷ 116 ∷ []
+unaryKind (limit s n) = 108 ∷ 105 ∷ 109 ∷ 105 ∷ 116 ∷ []
+unaryKind (aggregate gs vs) = 97 ∷ 103 ∷ 103 ∷ 114 ∷ 101 ∷ 103 ∷ 97 ∷ 116 ∷ 101 ∷ []
+unaryKind (window ws) = 119 ∷ 105 ∷ 110 ∷ 100 ∷ 111 ∷ 119 ∷ []
+unaryKind (subqueryAlias q) = 115 ∷ 117 ∷ 98 ∷ 113 ∷ 117 ∷ 101 ∷ 114 ∷ 121 ∷ 97 ∷ 108 ∷ 105 ∷ 97 ∷ 115 ∷ []
+unaryKind distinct = 100 ∷ 105 ∷ 115 ∷ 116 ∷ 105 ∷ 110 ∷ 99 ∷ 116 ∷ []
+
+-- union, join
+unfoldable pub binaryKind : Binary → List ℕ
+binaryKind union = 117 ∷ 110 ∷ 105 ∷ 111 ∷ 110 ∷ []
+binaryKind (join t os c) = 106 ∷ 111 ∷ 105 ∷ 110 ∷ []
+
+-- the kind of a plan's top node
+unfoldable pub kindText : Plan → List ℕ
+kindText (leaf h) = leafKind h
+kindText (unary h p) = unaryKind h
+kindText (binary h p q) = binaryKind h
+
+-- ── lines ───────────────────────────────────────────────────────────────────────────────────
+
+-- "for each node its number, kind in small letters, field count"
+unfoldable pub lineText : (number : ℕ) (kind : List ℕ) (width : ℕ) → List ℕ
+lineText number kind width = decimal number ++ space ++ kind ++ space ++ decimal width ++ newline
+
+-- the line of a plan's top node, whose number is k
+unfoldable pub lineOf : Catalogue → Plan → (k : ℕ) → List ℕ
+lineOf C p k = lineText k (kindText p) (length (fieldsOf C p))
+
+-- the lines of a plan whose top node has the number k. "Nodes are numbered in prefix order from 0."
+unfoldable pub linesOf : Catalogue → Plan → (k : ℕ) → List ℕ
+linesOf C (leaf h) k = lineOf C (leaf h) k
+linesOf C (unary h p) k = lineOf C (unary h p) k ++ linesOf C p (k + 1)
+linesOf C (binary h p q) k = lineOf C (binary h p q) k ++ (linesOf C p (k + 1) ++ linesOf C q (k + 1 + planNodes p))
+
+-- "First line `PLAN` and the node count"
+unfoldable pub countText : (count : ℕ) → List ℕ
+countText count = (80 ∷ 76 ∷ 65 ∷ 78 ∷ 32 ∷ []) ++ decimal count ++ newline
+
+-- "then for each node …"
+unfoldable pub planText : Catalogue → Plan → List ℕ
+planText C p = countText (planNodes p) ++ linesOf C p 0
+
+-- "A refusal prints one line: `REFUSED`, code, place."
+unfoldable pub refusedText : (code place : ℕ) → List ℕ
+refusedText code place = (82 ∷ 69 ∷ 70 ∷ 85 ∷ 83 ∷ 69 ∷ 68 ∷ 32 ∷ []) ++ decimal code ++ space ++ decimal place ++ newline
+
+-- ── files ───────────────────────────────────────────────────────────────────────────────────
+
+-- a plan that was read, by its first fault
+unfoldable pub checkedText : Catalogue → Plan → Option Fault → List ℕ
+checkedText C p none = planText C p
+checkedText C p (some (fault code node)) = refusedText code node
+
+-- a file, by what it reads as
+unfoldable pub readText : Res Source → List ℕ
+readText (ok s next tags nodes) = checkedText (s .catalogue) (s .plan) (check (s .catalogue) (s .plan) 0)
+readText (bad code place) = refusedText code place
+
+-- the listing of a plan file's plan, or of what is wrong with the file
+unfoldable pub listText : (file : List ℕ) → List ℕ
+listText file = readText (readFile file)
+
+-- ── the program ─────────────────────────────────────────────────────────────────────────────
+
+-- "reads one mode byte, a u16 mask and a plan file from standard input": "Numbers are little-endian"; "Missing setting bytes are 0"
+unfoldable pub modeIn : (input : List ℕ) → ℕ
+modeIn input = getD input 0 0
+
+unfoldable pub maskIn : (input : List ℕ) → ℕ
+maskIn input = getD input 1 0 + 256 * getD input 2 0
+
+-- what is printed of an answer, by its code: the listing of the bytes written, or the refusal
+unfoldable pub answerText : Answer → (code : ℕ) → List ℕ
+answerText a zero = listText (take (a .length) (a .out))
+answerText a (suc code) = refusedText (suc code) (a .place)
+
+-- what is printed of settings and a plan file: the program "asks for all fields" and "lends an output of 65,536"
+unfoldable pub printedText : (mode mask : ℕ) (file : List ℕ) → List ℕ
+printedText mode mask file = let a = answerAll mode mask file (replicate 65536 0) in answerText a (a .code)
+
+-- all that the program prints
+unfoldable pub programText : (input : List ℕ) → List ℕ
+programText input = printedText (modeIn input) (maskIn input) (drop 3 input)
