@@ -1,13 +1,12 @@
 -- The lines of a plan's nodes, from the numbers in the lent arrays. Assumes nothing.
-use mathlib.Core.Path.{_≡_, refl, sym, ap, ap₂, subst, _∙_}
-use mathlib.Core.List.{List, [], _∷_, _++_, append-assoc, append-nil}
+use mathlib.Core.Path.{_≡_, refl, sym, ap, ap₂, _∙_}
+use mathlib.Core.List.{List, [], _++_, append-assoc, append-nil}
 use Prim.Native.Nat.{ℕ, zero, suc, _+_, _*_, _-_, _^_, _<_, _≤_}
 use native.Mathlib.Omega.{arith}
-use native.Mathlib.Numerals.{add-one}
 use lib.ListN.{length, getD, take, drop, length-append}
 use Rattle.cpl.specs.Exprs.{planNodes}
 use Rattle.cpl.specs.Fields.{fieldsOf}
-use Rattle.cpl.specs.Plan.{Catalogue, Plan, leaf, unary, binary}
+use Rattle.cpl.specs.Plan.{Catalogue, leaf}
 use Rattle.cpl.specs.ReadPlan.{Head, h0, h1, h2}
 use Rattle.tree.specs.Node.{nodeAt}
 use Rattle.tree.specs.Rows.{one}

@@ -1,10 +1,10 @@
 -- The laws of texts that are put at a place, and of lines made of them. Assumes nothing.
 use mathlib.Core.Path.{_≡_, refl, sym, ap, ap₂, subst⁻¹, _∙_}
 use mathlib.Core.List.{List, [], _∷_, _++_, append-assoc}
-use Prim.Native.Nat.{ℕ, zero, suc, _+_, _-_, _/_, _%_, _^_, _<_, _≤_}
+use Prim.Native.Nat.{ℕ, suc, _+_, _-_, _/_, _%_, _^_, _<_, _≤_}
 use native.Mathlib.Omega.{arith}
 use lib.ListN.{length, take, drop, set, length-append, take-append-drop}
-use lib.Seq.{take-at, drop-at, take-all, drop-drop, length-take-le, set-split}
+use lib.Seq.{take-all, drop-drop, length-take-le, set-split}
 use Rattle.writer_parts.specs.Wrote.{over, Wrote, Laid}
 use Rattle.writer_parts.proofs.Over.{kept, laid, over-over, part, so, start, then}
 use Rattle.tree.specs.declared.Node.{Node}
