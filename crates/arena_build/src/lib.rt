@@ -63,7 +63,7 @@ pub const REPLACE: usize = 1;
 
 /// Builds the expression of node `i` of `src` behind the nodes in use. At level COPY it is a copy; at any other level each column is
 /// replaced by its definition, which is copied: the expression of the row of the list (items, first, count, cells) with its pair.
-/// The node, the list's rows and the nodes in use are well formed.
+/// The node, the list's rows and the nodes in use are well formed. Rust: `rewrite_expr`.
 pub fn subst(
     src: &[u64],
     i: usize,

@@ -392,7 +392,7 @@ pub fn width_at(widths: &[u64], k: usize) -> usize
     0
 }
 
-/// The job of a node that is no Projection: `node` is node `k` of an accepted plan, asked with `r`.
+/// The job of a node that is no Projection: `node` is node `k` of an accepted plan, asked with `r`. Rust: the arms of `optimize_projections`.
 pub fn job_at(
     node: Node,
     k: usize,
