@@ -4,6 +4,7 @@
 # @thing in a term stands for the path to that thing at that need. A need that is not named gets `search needs`. `NEED* = TERM` answers each
 # need NEED, NEED-2, .. that has no line of its own. `use` lines are found by the names in the text.
 import re,sys,subprocess,os,glob
+import paths
 args=[a for a in sys.argv[1:] if not a.startswith('--')]
 crate,file=args[:2]; only=args[2:]
 FIXED={
@@ -80,24 +81,7 @@ def build(fn,lines):
         else:
             last,t=l.split(' = ',1); last=last.strip(); answers[last]=t.strip()
     proof=f'crates/{crate}/proofs/{fn}/Proof.antt'; skel=f'target/skel-{crate}-{fn}.antt'; lts=f'target/lts-{crate}-{fn}.antt'
-    s=open(skel).read(); L=open(lts).read(); ls=L.split('\n'); recs={}; i=0
-    while i<len(ls):
-        m=re.match(r'(\s*)pub record (\S+) : Type 0 where',ls[i])
-        if m:
-            ind=len(m.group(1)); fs=[]; i+=1
-            while i<len(ls) and (ls[i].strip()=='' or len(ls[i])-len(ls[i].lstrip())>ind):
-                k=re.match(r'\s*pub (\S+) :\s*(.*)',ls[i])
-                if k: fs.append((k.group(1),k.group(2)))
-                i+=1
-            recs[m.group(2)]=fs
-        else: i+=1
-    def paths(n,pre,out):
-        fs=dict(recs.get(n,[]))
-        for f in fs:
-            if f!='before': out.setdefault(f,pre+' .'+f)
-        if 'before' in fs: paths(fs['before'].split()[0],pre+' .before',out)
-        return out
-    place={m.group(1):m.group(2) for m in re.finditer(r'(Need-\S+) =\s*\n?\s*\(c : (\S+)\)',L)}
+    s=open(skel).read(); L=open(lts).read(); recs=paths.records(L); place=paths.needs(L)
     cyc=fn.startswith('+'); body=''
     if cyc:
         f=re.search(r'abbrev μ-(\S+) :',s).group(1); k=re.search(r'Measures (\d+) ',s).group(1)
@@ -120,7 +104,8 @@ def build(fn,lines):
         key=n if n in answers else (base+'*' if base+'*' in answers else None)
         if key: used.add(key)
         t=answers[key] if key else 'search needs'
-        P=paths(place[N],'c',{}); names=[]
+        P={}; names=[]
+        for field,path,_ in paths.paths(recs,place[N[5:]]): P.setdefault(field,path)
         for x in re.findall(r'@([\w-]*\w)',t):
             assert x in P,(fn,n,x,list(P))
             if x not in names: names.append(x)
