@@ -10,7 +10,7 @@ use Rattle.cpl.specs.Exprs.{planNodes, planTags}
 use Rattle.cpl.specs.Fields.{fieldsOf}
 use Rattle.cpl.specs.Limits.{maxNodes, maxTags}
 use Rattle.cpl.specs.Lists.{Fit}
-use Rattle.cpl.specs.Plan.{Catalogue, Item, Pair, Plan, itemPair}
+use Rattle.cpl.specs.Plan.{Catalogue, Plan, itemPair}
 use Rattle.rules.specs.Mask.{Mask}
 use Rattle.rules.specs.Merge.{Merge, mergeStep}
 use Rattle.rules.specs.Rewrite as rules

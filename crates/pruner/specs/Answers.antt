@@ -1,13 +1,11 @@
 -- What the entries answer: document 01's "Numbers returned", and the plan as it is handed on from step to step.
 use mathlib.Core.Path.{_≡_}
 use mathlib.Core.List.{List, [], _∷_, _++_}
-use mathlib.Core.Bool.{Bool}
 use Prim.Native.Nat.{ℕ, _*_, _≤_}
 use lib.Dec.{ltb}
 use lib.ListN.{length, take}
 use Rattle.cpl.specs.Bytes.{bytesOf, planBytes}
 use Rattle.cpl.specs.Codes.{LARGE}
-use Rattle.cpl.specs.Exprs.{planTags}
 use Rattle.cpl.specs.Limits.{maxNodes, maxTags}
 use Rattle.cpl.specs.Plan.{Catalogue, Plan}
 use Rattle.cpl.specs.Read.{pick}
