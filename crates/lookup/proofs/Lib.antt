@@ -3,3 +3,4 @@ pub mod Lists
 pub mod Rows
 pub mod Known
 pub mod Clash
+pub mod Marks
