@@ -1,6 +1,6 @@
 /* Simmerroof: column pruning for query plans.
  *
- * Link target/staticlib/libpruner.a, which `rt staticlib pruner` proves and writes (x86-64 Linux).
+ * Link target/staticlib/libsimmerroof.a, which `rt staticlib simmerroof` proves and writes (x86-64 Linux).
  *
  * A plan file and a request go in; a plan file comes out whose scans read only the columns that are needed. The file's
  * form, the rules and the codes are those of the project's document 01; README.md has a worked example.

@@ -1,4 +1,4 @@
-//! Links libpruner.a from the directory SIMMERROOF_LIB, or from ../target/staticlib, where `rt staticlib pruner` puts it.
+//! Links libsimmerroof.a from the directory SIMMERROOF_LIB, or from ../target/staticlib, where `rt staticlib simmerroof` puts it.
 use std::env;
 use std::path::PathBuf;
 
@@ -8,13 +8,13 @@ fn main() {
         Ok(dir) => PathBuf::from(dir),
         Err(_) => PathBuf::from(env::var("CARGO_MANIFEST_DIR").unwrap()).join("../target/staticlib"),
     };
-    let archive = dir.join("libpruner.a");
+    let archive = dir.join("libsimmerroof.a");
     assert!(
         archive.is_file(),
-        "{} is not there: run `rt staticlib pruner`, or set SIMMERROOF_LIB to the directory of libpruner.a",
+        "{} is not there: run `rt staticlib simmerroof`, or set SIMMERROOF_LIB to the directory of libsimmerroof.a",
         archive.display()
     );
     println!("cargo:rerun-if-changed={}", archive.display());
     println!("cargo:rustc-link-search=native={}", dir.display());
-    println!("cargo:rustc-link-lib=static=pruner");
+    println!("cargo:rustc-link-lib=static=simmerroof");
 }
