@@ -6,7 +6,14 @@ fn main() {
     println!("cargo:rerun-if-env-changed=SIMMERROOF_LIB");
     let dir = match env::var("SIMMERROOF_LIB") {
         Ok(dir) => PathBuf::from(dir),
-        Err(_) => PathBuf::from(env::var("CARGO_MANIFEST_DIR").unwrap()).join("../target/staticlib"),
+        Err(_) => {
+            let arch = env::var("CARGO_CFG_TARGET_ARCH").unwrap();
+            assert!(
+                arch == "x86_64",
+                "the library is for x86-64, not {arch}: set SIMMERROOF_LIB to the directory of one for it"
+            );
+            PathBuf::from(env::var("CARGO_MANIFEST_DIR").unwrap()).join("../target/staticlib")
+        }
     };
     let archive = dir.join("libsimmerroof.a");
     assert!(
