@@ -25,7 +25,7 @@ library() { # COMMAND [cross]
     if [ -n "${SIMMERROOF_LIB-}" ]; then
         [ -f "$SIMMERROOF_LIB/libsimmerroof.a" ] || refuse "$1: there is no libsimmerroof.a in $SIMMERROOF_LIB (SIMMERROOF_LIB)"
     elif [ "$(uname -m)" != x86_64 ] && [ "${2-}" != cross ]; then
-        refuse "$1: needs x86-64, and this is $(uname -m): run it there, or set SIMMERROOF_LIB to the folder of a libsimmerroof.a for this processor"
+        refuse "$1: needs x86-64, and this is $(uname -m): run it there, or set SIMMERROOF_LIB to the folder of a libsimmerroof.a for this processor (for tests: oracle/arm-library $1)"
     else
         "$root/tools/build" library simmerroof
         SIMMERROOF_LIB=$root/target/staticlib
