@@ -1,8 +1,8 @@
--- `pruner::simmerroof_prune` meets its contract: what `prune` answers, as three numbers. Assumes nothing.
-use Rattle.pruner.proofs.Entries.{numbers}
+-- `simmerroof::simmerroof_prune` meets its contract: what `prune` answers, as three numbers. Assumes nothing.
+use Rattle.simmerroof.proofs.Numbers.{numbers}
 use borrow.Author.Needs.{needs}
-use Rattle.pruner.proofs.simmerroof_prune.Statement.{statement}
-use Rattle.pruner.proofs.simmerroof_prune.Tie as tie
+use Rattle.simmerroof.proofs.simmerroof_prune.Statement.{statement}
+use Rattle.simmerroof.proofs.simmerroof_prune.Tie as tie
 
 prune-requires : tie.Need-prune-requires
 prune-requires c κs = search needs
@@ -17,7 +17,7 @@ returns : tie.Need-returns
 returns c =
     let prune = c .before .before .before .before .prune in
     let put = c .put in
-    numbers (prune .ensures .0) (put .ensures)
+    numbers _ _ _ _ _ (prune .ensures) (put .ensures)
 
 pub simmerroof-prune-spec : {M : Type 1} → statement M
 simmerroof-prune-spec = tie.close (tie.spec prune-requires put-requires same-length returns)

@@ -1,0 +1,18 @@
+-- An answer as three numbers. Assumes nothing.
+use mathlib.Core.Path.{_≡_, sym, ap, _∙_}
+use mathlib.Core.List.{List, [], _∷_}
+use Prim.Native.Nat.{ℕ}
+use Rattle.rules.specs.Answer.{reply}
+use Rattle.pruner.specs.Answers.{Promised}
+use Rattle.pruner.specs.declared.Answer.{Answer}
+use Rattle.pruner.proofs.Entries.{Meets}
+use Rattle.simmerroof.specs.Numbers.{NumbersAre, codeIn}
+
+-- what an entry answers, put into an array
+pub numbers : (mode mask : ℕ) (file : List ℕ) (request : ℕ → List ℕ) (out : List ℕ) {r : Answer} {out′ three : List ℕ} → Meets mode mask file request out r out′
+    → three ≡ r .code ∷ r .length ∷ r .place ∷ []
+    → NumbersAre (reply mode mask file request out) three out′ × Promised mode mask file request out (codeIn three)
+numbers mode mask file request out h e = (
+  record { numbers-are = rw (← h .0 .code-is, ← h .0 .length-is, ← h .0 .place-is) e; out-is = h .0 .out-is },
+  λ house z. h .1 house (sym (ap codeIn e) ∙ z),
+)
