@@ -38,7 +38,7 @@ written-fits bytes out = go (leb (length bytes) (length out)) refl
     go true e = leb-true _ _ e
     go false e = omega arith
 
-deliver-fits : (v : Verdict) (out : List ℕ) → deliver v out .length ≤ length out
+pub deliver-fits : (v : Verdict) (out : List ℕ) → deliver v out .length ≤ length out
 unfolding deliver refusal
 deliver-fits (refused code place) out = omega arith
 deliver-fits (narrowed s) out = written-fits (bytesOf s) out

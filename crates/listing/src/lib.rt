@@ -25,8 +25,8 @@ fn wide_byte(x: u8) -> u64
     x as u64
 }
 
-// A text from `at` on; the place after it.
-fn put_text(out: &mut [u8], at: usize, s: &[u8]) -> usize
+/// A text from `at` on; the place after it.
+pub fn put_text(out: &mut [u8], at: usize, s: &[u8]) -> usize
     requires { ⌜ at + length (now s) ≤ length (now out) ⌝ }
     ensures { λ r. ⌜ Puts at (now (s .entry)) (now (out .entry)) r (now (out .exit)) ⌝ }
 {
@@ -34,8 +34,8 @@ fn put_text(out: &mut [u8], at: usize, s: &[u8]) -> usize
     at + n
 }
 
-// The decimal digits of n from `at` on; the place after them.
-fn put_number(out: &mut [u8], at: usize, n: u64) -> usize
+/// The decimal digits of n from `at` on; the place after them.
+pub fn put_number(out: &mut [u8], at: usize, n: u64) -> usize
     requires { ⌜ at + length (decimal n) ≤ length (now out) ⌝ }
     ensures { λ r. ⌜ Puts at (decimal n) (now (out .entry)) r (now (out .exit)) ⌝ }
 {
@@ -197,8 +197,8 @@ pub fn list(file: &[u8], text: &mut [u8; 16384]) -> usize
     )
 }
 
-// A byte of the input, 0 past its end.
-fn byte(input: &[u8], i: usize) -> u8
+/// A byte of the input, 0 past its end.
+pub fn byte(input: &[u8], i: usize) -> u8
     ensures { λ r. ⌜ r ≡ getD (now (input .entry)) i 0 ⌝ }
 {
     if i < input.len() {
