@@ -18,7 +18,7 @@ use Rattle.listing.specs.Text.{checkedText, countText, listText, planTex
 use Rattle.listing.specs.Lines.{lineAt, span}
 use Rattle.listing.proofs.Nodes.{stored-lines}
 
-fine : (file : List ℕ) (C : Catalogue) (p : Plan) (next tags nodes : ℕ) → readFile file ≡ ok (sourceOf C p) next tags nodes → check C p 0 ≡ none
+pub fine : (file : List ℕ) (C : Catalogue) (p : Plan) (next tags nodes : ℕ) → readFile file ≡ ok (sourceOf C p) next tags nodes → check C p 0 ≡ none
     → listText file ≡ planText C p
 unfolding listText readText checkedText
 fine file C p next tags nodes e f = ap readText e ∙ ap (checkedText C p) f

@@ -3,7 +3,7 @@
 use mathlib.Core.List.{List, [], _∷_, _++_}
 use mathlib.Core.Option.{Option, none, some}
 use Prim.Native.Nat.{ℕ, zero, suc, _+_, _*_, _/_, _%_}
-use lib.Dec.{ltb}
+use lib.Dec.{eqb, ltb}
 use lib.ListN.{length, getD, take, drop, replicate}
 use Rattle.cpl.specs.Accept.{Fault, fault, check}
 use Rattle.cpl.specs.Exprs.{planNodes}
@@ -12,7 +12,8 @@ use Rattle.cpl.specs.Plan.{Catalogue, Leaf, scan, empty, Unary, projection, fil
 use Rattle.cpl.specs.Plan.{Binary, union, join, Plan, leaf, unary, binary, Source}
 use Rattle.cpl.specs.Read.{Res, ok, bad, pick}
 use Rattle.cpl.specs.ReadPlan.{readFile}
-use Rattle.rules.specs.Answer.{Answer, answerAll}
+use Rattle.cpl.specs.Tests.{iota}
+use Rattle.rules.specs.Answer.{Answer, Verdict, answerAll, narrowed, refused, verdict}
 
 -- ── numbers ─────────────────────────────────────────────────────────────────────────────────
 
@@ -116,15 +117,26 @@ modeIn input = getD input 0 0
 unfoldable pub maskIn : (input : List ℕ) → ℕ
 maskIn input = getD input 1 0 + 256 * getD input 2 0
 
--- what is printed of an answer, by its code: the listing of the bytes written, or the refusal
-unfoldable pub answerText : Answer → (code : ℕ) → List ℕ
-answerText a zero = listText (take (a .length) (a .out))
-answerText a (suc code) = refusedText (suc code) (a .place)
+-- "it reads at most 65,536 plan bytes": what is behind them is not looked at
+abbrev pub mostRead : ℕ
+mostRead = 65536
 
--- what is printed of settings and a plan file: the program "asks for all fields" and "lends an output of 65,536"
+unfoldable pub fileIn : (input : List ℕ) → List ℕ
+fileIn input = take mostRead (drop 3 input)
+
+-- "and lends an output of 65,536"
+abbrev pub lentOut : List ℕ
+lentOut = replicate 65536 0
+
+-- what is printed of the rules' verdict and of the answer that was delivered: the rewritten plan, node by node, where the code is 0; else the refusal
+unfoldable pub answerText : Verdict → Answer → List ℕ
+answerText (refused code place) a = refusedText (a .code) (a .place)
+answerText (narrowed s) a = pick (eqb (a .code) 0) (planText (s .catalogue) (s .plan)) (refusedText (a .code) (a .place))
+
+-- what is printed of settings and a plan file: the program "asks for all fields"
 unfoldable pub printedText : (mode mask : ℕ) (file : List ℕ) → List ℕ
-printedText mode mask file = let a = answerAll mode mask file (replicate 65536 0) in answerText a (a .code)
+printedText mode mask file = answerText (verdict mode mask file (λ width. iota 0 width)) (answerAll mode mask file lentOut)
 
 -- all that the program prints
 unfoldable pub programText : (input : List ℕ) → List ℕ
-programText input = printedText (modeIn input) (maskIn input) (drop 3 input)
+programText input = printedText (modeIn input) (maskIn input) (fileIn input)

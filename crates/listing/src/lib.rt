@@ -4,10 +4,10 @@
 //! contracts determine every byte.
 ghost use mathlib.Core.List.{_++_};
 ghost use mathlib.Core.Path.{_≡_};
-ghost use Prim.Native.Nat.{_+_, _*_, _<_, _≤_};
-ghost use lib.ListN.{drop, getD, length};
+ghost use Prim.Native.Nat.{_+_, _*_, _-_, _<_, _≤_};
+ghost use lib.ListN.{drop, getD, length, take};
 ghost use Rattle.writer_parts.specs.Wrote.{Wrote};
-ghost use Rattle.listing.specs.Text.{countText, decimal, lineText, listText, maskIn, printedText, programText, refusedText};
+ghost use Rattle.listing.specs.Text.{countText, decimal, lineText, listText, maskIn, mostRead, printedText, programText, refusedText};
 ghost use Rattle.listing.specs.Lines.{Counts, Listable, Puts, lineAt, nodeText, span};
 use accept::Verdict;
 use reader::Read;
@@ -25,8 +25,8 @@ fn wide_byte(x: u8) -> u64
     x as u64
 }
 
-// A text from `at` on; the place after it.
-fn put_text(out: &mut [u8], at: usize, s: &[u8]) -> usize
+/// A text from `at` on; the place after it.
+pub fn put_text(out: &mut [u8], at: usize, s: &[u8]) -> usize
     requires { ⌜ at + length (now s) ≤ length (now out) ⌝ }
     ensures { λ r. ⌜ Puts at (now (s .entry)) (now (out .entry)) r (now (out .exit)) ⌝ }
 {
@@ -34,8 +34,8 @@ fn put_text(out: &mut [u8], at: usize, s: &[u8]) -> usize
     at + n
 }
 
-// The decimal digits of n from `at` on; the place after them.
-fn put_number(out: &mut [u8], at: usize, n: u64) -> usize
+/// The decimal digits of n from `at` on; the place after them.
+pub fn put_number(out: &mut [u8], at: usize, n: u64) -> usize
     requires { ⌜ at + length (decimal n) ≤ length (now out) ⌝ }
     ensures { λ r. ⌜ Puts at (decimal n) (now (out .entry)) r (now (out .exit)) ⌝ }
 {
@@ -197,8 +197,8 @@ pub fn list(file: &[u8], text: &mut [u8; 16384]) -> usize
     )
 }
 
-// A byte of the input, 0 past its end.
-fn byte(input: &[u8], i: usize) -> u8
+/// A byte of the input, 0 past its end.
+pub fn byte(input: &[u8], i: usize) -> u8
     ensures { λ r. ⌜ r ≡ getD (now (input .entry)) i 0 ⌝ }
 {
     if i < input.len() {
@@ -232,6 +232,17 @@ fn file_start(input: &[u8]) -> usize
     3
 }
 
+// Where the plan bytes that are looked at end: 65,536 bytes behind `at`, or where the input ends.
+fn file_end(input: &[u8], at: usize) -> usize
+    requires { ⌜ at ≤ length (now input) ⌝ }
+    ensures { λ r. ⌜ (at ≤ r) × (r ≤ length (now (input .entry))) × (take (r - at) (drop at (now (input .entry))) ≡ take mostRead (drop at (now (input .entry)))) ⌝ }
+{
+    if input.len() - at > 65536 {
+        return at + 65536;
+    }
+    input.len()
+}
+
 // The narrowed plan's listing, or the refusal.
 fn write_answer(mode: u8, mask: u16, file: &[u8], text: &mut [u8; 16384]) -> usize
     ensures { λ r. ⌜ Wrote (printedText mode mask (now (file .entry))) (now (text .entry)) r (now (text .exit)) ⌝ }
@@ -246,8 +257,8 @@ fn write_answer(mode: u8, mask: u16, file: &[u8], text: &mut [u8; 16384]) -> usi
     list(&out[..n], text)
 }
 
-/// What the program `prune` prints of its standard input, a mode byte, a mask of two bytes and a plan file; how many bytes of `text` it takes.
-/// The bytes of `text` behind them stay.
+/// What the program `prune` prints of its standard input, a mode byte, a mask of two bytes and a plan file of which at most 65,536 bytes are looked
+/// at; how many bytes of `text` it takes. The bytes of `text` behind them stay.
 pub fn run(input: &[u8], text: &mut [u8; 16384]) -> usize
     ensures { λ r. ⌜ Wrote (programText (now (input .entry))) (now (text .entry)) r (now (text .exit)) ⌝ }
     ensures { λ r. ⌜ Counts r (now (text .exit)) ⌝ }
@@ -255,5 +266,6 @@ pub fn run(input: &[u8], text: &mut [u8; 16384]) -> usize
     let mode = byte(input, 0);
     let mask = mask_in(input);
     let at = file_start(input);
-    write_answer(mode, mask, &input[at..], text)
+    let end = file_end(input, at);
+    write_answer(mode, mask, &input[at..end], text)
 }

@@ -89,15 +89,24 @@ clash-append (x ∷ xs) ys =
 
 -- ── a row, field by field ───────────────────────────────────────────────────────────────────
 
+or-false : (c : Bool) → c || false ≡ c
+or-false true = refl
+or-false false = refl
+
+-- a test of a row's fields, one field more
+pub any-row-none : (p : Pair → Bool) (s : List ℕ) (k : ℕ) → false ≡ anyB p (rowAt s k 0)
+unfolding anyB listAt
+any-row-none p s k = refl
+
+pub any-row-more : (p : Pair → Bool) (s : List ℕ) (k i : ℕ) → anyB p (rowAt s k i) || p (fieldAt s (k * 128 + i)) ≡ anyB p (rowAt s k (i + 1))
+unfolding anyB
+any-row-more p s k i = sym (ap (anyB p) (row-more s k i) ∙ any-append p (rowAt s k i) _ ∙ ap (anyB p (rowAt s k i) ||_) (or-false (p (fieldAt s (k * 128 + i)))))
+
 module _ (s : List ℕ) (k w i : ℕ) where
   one-more : (b : Bool) → b ≡ anyB (conflict (fieldAt s (k * 128 + i))) (rowAt s k i) → clash (rowAt s k i) ≡ false → clash (rowAt s k (i + 1)) ≡ b
   unfolding clash anyB across
   one-more b e h =
       ap clash (row-more s k i) ∙ clash-append (rowAt s k i) _ ∙ ap (λ c. (c || false) || (anyB (conflict (fieldAt s (k * 128 + i))) (rowAt s k i) || false)) h ∙ or-false _ ∙ sym e
-    where
-      or-false : (c : Bool) → c || false ≡ c
-      or-false true = refl
-      or-false false = refl
 
   pub clear-more : false ≡ anyB (conflict (fieldAt s (k * 128 + i))) (rowAt s k i) → clash (rowAt s k i) ≡ false → clash (rowAt s k (i + 1)) ≡ false
   clear-more e h = one-more false e h

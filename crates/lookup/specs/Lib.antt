@@ -2,3 +2,4 @@
 pub mod Fields
 pub mod Answers
 pub mod Standing
+pub mod Marks

@@ -1,4 +1,4 @@
-//! The fields of nodes in lent arrays: lookup, known columns, clashes, and rows that are filled.
+//! The fields of nodes in lent arrays: how many there are, lookup, known columns, clashes, and rows that are filled.
 //!
 //! Field j is two numbers of `fields`, its qualifier and its name, at 2 * j. Node k's fields are those from 128 * k on.
 ghost use mathlib.Core.Bool.{Bool, false};
@@ -13,7 +13,8 @@ ghost use Rattle.cpl.specs.Fields.{requalify};
 ghost use Rattle.cpl.specs.Plan.{pair};
 ghost use Rattle.cpl.specs.Tests.{anyB};
 ghost use Rattle.lookup.specs.Answers.{placeOf};
-ghost use Rattle.lookup.specs.Fields.{fieldAt, Filled, Kept, leftRow, pairOf, rightRow, rowAt, RowIn, SidesIn};
+ghost use Rattle.lookup.specs.Marks.{Marked, Marks, slotOf, slots};
+ghost use Rattle.lookup.specs.Fields.{fieldAt, Filled, Kept, leftRow, pairOf, rightRow, rowAt, RowIn, SidesIn, widthAt};
 use arena::View;
 
 /// A field: a qualifier, 0 for none, and a name.
@@ -57,6 +58,16 @@ pub fn put_field(fields: &mut [u16], j: usize, f: Field)
     let at = j * 2;
     fields[at] = f.qualifier;
     fields[at + 1] = f.name;
+}
+
+/// How many fields node `k` has; 0 past the last node.
+pub fn width_at(widths: &[u64], k: usize) -> usize
+    ensures { λ r. ⌜ r ≡ widthAt (now (widths .entry)) k ⌝ }
+{
+    if k < widths.len() {
+        return widths[k] as usize;
+    }
+    0
 }
 
 /// The place of a column among the first `width` fields of node `k`, which lie in the array.
@@ -138,15 +149,55 @@ fn conflicts(fields: &[u16], k: usize, width: usize, f: Field) -> bool
     requires { ⌜ RowIn (now fields) k width ⌝ }
     ensures { λ r. ⌜ r ≡ anyB (conflict (pairOf f)) (rowAt (now (fields .entry)) k width) ⌝ }
 {
+    let mut hit = false;
     let mut i = 0;
     while i < width {
         let g = field_at(fields, k * 128 + i);
-        if in_conflict(f, g) {
-            return true;
-        }
+        hit = hit | in_conflict(f, g);
         i += 1;
     }
-    false
+    hit
+}
+
+/// The slot of a field's name in a table of marks.
+fn slot(f: Field) -> usize
+    ensures { λ r. ⌜ r ≡ slotOf (f .name) ⌝ }
+{
+    (f.name % 256) as usize
+}
+
+/// The slot of a field's name is marked.
+fn mark(seen: &mut [u8; 256], f: Field)
+    requires { ⌜ length (now seen) ≡ slots ⌝ }
+    ensures { λ r. ⌜ Marks (f .name) (now (seen .entry)) (now (seen .exit)) ⌝ }
+{
+    let s = slot(f);
+    seen[s] = 1;
+}
+
+/// The slots of the names of the first `width` fields of node `k`, which lie in the array, are marked.
+fn mark_row(seen: &mut [u8; 256], fields: &[u16], k: usize, width: usize)
+    requires { ⌜ (length (now seen) ≡ slots) × RowIn (now fields) k width ⌝ }
+    ensures { λ r. ⌜ Marked (now (seen .exit)) (now (fields .entry)) k width ⌝ }
+{
+    let mut i = 0;
+    while i < width {
+        let f = field_at(fields, k * 128 + i);
+        mark(seen, f);
+        i += 1;
+    }
+}
+
+/// `conflicts`, where the names of the fields are marked: a field whose name's slot is not marked is in conflict with none.
+fn conflicts_marked(seen: &[u8; 256], fields: &[u16], k: usize, width: usize, f: Field) -> bool
+    requires { ⌜ RowIn (now fields) k width × Marked (now seen) (now fields) k width ⌝ }
+    ensures { λ r. ⌜ r ≡ anyB (conflict (pairOf f)) (rowAt (now (fields .entry)) k width) ⌝ }
+{
+    let s = slot(f);
+    if seen[s] == 0 {
+        return false;
+    }
+    conflicts(fields, k, width, f)
 }
 
 /// Do the first `width` fields of node `k`, which lie in the array, clash? The first `start` of them do not.
@@ -155,12 +206,18 @@ pub fn clash_from(fields: &[u16], k: usize, start: usize, width: usize) -> bool
     requires { ⌜ (start ≤ width) × (clash (rowAt (now fields) k start) ≡ false) ⌝ }
     ensures { λ r. ⌜ r ≡ clash (rowAt (now (fields .entry)) k width) ⌝ }
 {
+    if start == width {
+        return false;
+    }
+    let mut seen = [0u8; 256];
+    mark_row(&mut seen, fields, k, start);
     let mut i = start;
     while i < width {
         let f = field_at(fields, k * 128 + i);
-        if conflicts(fields, k, i, f) {
+        if conflicts_marked(&seen, fields, k, i, f) {
             return true;
         }
+        mark(&mut seen, f);
         i += 1;
     }
     false
@@ -172,12 +229,16 @@ pub fn sides_clash(fields: &[u16], sides: Sides) -> bool
     requires { ⌜ (clash (leftRow (now fields) sides) ≡ false) × (clash (rightRow (now fields) sides) ≡ false) ⌝ }
     ensures { λ r. ⌜ r ≡ clash (leftRow (now (fields .entry)) sides ++ rightRow (now (fields .entry)) sides) ⌝ }
 {
+    let left = sides.left;
+    let lwidth = sides.lwidth;
     let right = sides.right;
     let width = sides.rwidth;
+    let mut seen = [0u8; 256];
+    mark_row(&mut seen, fields, left, lwidth);
     let mut i = 0;
     while i < width {
         let f = field_at(fields, right * 128 + i);
-        if conflicts(fields, sides.left, sides.lwidth, f) {
+        if conflicts_marked(&seen, fields, left, lwidth, f) {
             return true;
         }
         i += 1;

@@ -1,40 +1,48 @@
--- What the entries say of a request of these fields, of one of all fields, and of an answer as three numbers. Assumes nothing.
+-- What the entries say of a request of these fields and of one of all fields, and that two answers that meet a contract are the same. Assumes nothing.
 use mathlib.Core.Path.{_≡_, sym, subst, _∙_}
 use mathlib.Core.Bool.{true, false}
-use mathlib.Core.List.{List, [], _∷_}
+use mathlib.Core.List.{List}
 use Prim.Native.Nat.{ℕ}
 use Rattle.cpl.specs.AreBytes.{AreBytes}
+use Rattle.cpl.specs.Tests.{iota}
 use Rattle.rules.specs.Answer as rules
-use Rattle.rules.specs.Answer.{answer, answerAll, reply}
+use Rattle.rules.specs.Answer.{reply}
 use Rattle.meaning.specs.Promise.{Promise}
 use Rattle.meaning.proofs.Files.{promise}
 use Rattle.intake.specs.Intake.{wanted}
-use Rattle.pruner.specs.Answers.{AnswerIs, NumbersAre}
+use Rattle.pruner.specs.Answers.{AnswerIs, Promised}
 use Rattle.pruner.specs.declared.Answer.{Answer}
+
+-- an entry's contract: the answer, and what house mode promises of it
+abbrev pub Meets : (mode mask : ℕ) (file : List ℕ) (request : ℕ → List ℕ) (out : List ℕ) (r : Answer) (out′ : List ℕ) → Type 0
+Meets mode mask file request out r out′ = AnswerIs (reply mode mask file request out) r out′ × Promised mode mask file request out (r .code)
+
+-- "Narrow" of the very bytes, in house mode
+pub promised : (mode mask : ℕ) (file : List ℕ) (request : ℕ → List ℕ) (out : List ℕ) {r : Answer} {out′ : List ℕ} → AreBytes file
+    → AnswerIs (reply mode mask file request out) r out′ → Meets mode mask file request out r out′
+promised mode mask file request out b h =
+    let p : (m : ℕ) → 1 ≡ m → reply m mask file request out .code ≡ 0 → Promise mask file request (reply m mask file request out) =
+    λ m d. subst (λ (n : ℕ). reply n mask file request out .code ≡ 0 → Promise mask file request (reply n mask file request out)) d
+    (promise mask file request out b) in
+    (h, λ e z. p mode (sym e) (sym (h .code-is) ∙ z))
 
 -- ── which fields are asked for ──────────────────────────────────────────────────────────────
 
 module _ (mode mask : ℕ) (file request out : List ℕ) {r : Answer} {out′ : List ℕ} where
-  pub of-these : AnswerIs (reply mode mask file (wanted false request) out) r out′ → AnswerIs (answer mode mask file request out) r out′
+  pub of-these : Meets mode mask file (wanted false request) out r out′ → Meets mode mask file (λ width. request) out r out′
   unfolding wanted
   of-these h = h
 
-  pub of-all : AnswerIs (reply mode mask file (wanted true request) out) r out′ → AnswerIs (answerAll mode mask file out) r out′
+  pub of-all : Meets mode mask file (wanted true request) out r out′ → Meets mode mask file (λ width. iota 0 width) out r out′
   unfolding wanted
   of-all h = h
 
--- ── "Narrow" of the very bytes, in house mode ───────────────────────────────────────────────
+-- ── "two conforming results coincide" ───────────────────────────────────────────────────────
 
-pub promised : (mode mask : ℕ) (file : List ℕ) (request : ℕ → List ℕ) (out : List ℕ) {r : Answer} {out′ : List ℕ} → AreBytes file
-    → AnswerIs (reply mode mask file request out) r out′ → mode ≡ 1 → r .code ≡ 0 → Promise mask file request (reply mode mask file request out)
-promised mode mask file request out b h e z =
-    let p : (m : ℕ) → 1 ≡ m → reply m mask file request out .code ≡ 0 → Promise mask file request (reply m mask file request out) =
-    λ m d. subst (λ (n : ℕ). reply n mask file request out .code ≡ 0 → Promise mask file request (reply n mask file request out)) d
-    (promise mask file request out b) in
-    p mode (sym e) (sym (h .code-is) ∙ z)
-
--- ── three numbers ───────────────────────────────────────────────────────────────────────────
-
-pub numbers : {a : rules.Answer} {r : Answer} {out′ numbers′ : List ℕ} → AnswerIs a r out′
-    → numbers′ ≡ r .code ∷ r .length ∷ r .place ∷ [] → NumbersAre a numbers′ out′
-numbers h e = record { numbers-are = rw (← h .code-is, ← h .length-is, ← h .place-is) e; out-is = h .out-is }
+-- for each entry: two results, and the buffers that they leave, that both are what the definition says
+pub coincide : {a : rules.Answer} {r r′ : Answer} {out out′ : List ℕ} → AnswerIs a r out → AnswerIs a r′ out′ → (r ≡ r′) × (out ≡ out′)
+coincide h k =
+    let code = h .code-is ∙ sym (k .code-is) in
+    let length = h .length-is ∙ sym (k .length-is) in
+    let place = h .place-is ∙ sym (k .place-is) in
+    (λ i. record { code = code i; length = length i; place = place i }, h .out-is ∙ sym (k .out-is))

@@ -1,6 +1,6 @@
 -- What the entries answer: document 01's "Numbers returned", and the plan as it is handed on from step to step.
 use mathlib.Core.Path.{_≡_}
-use mathlib.Core.List.{List, [], _∷_, _++_}
+use mathlib.Core.List.{List, _++_}
 use Prim.Native.Nat.{ℕ, _*_, _≤_}
 use lib.Dec.{ltb}
 use lib.ListN.{length, take}
@@ -12,6 +12,7 @@ use Rattle.cpl.specs.Read.{pick}
 use Rattle.rules.specs.Answer as rules
 use Rattle.rules.specs.Rewrite as rewriting
 use Rattle.rules.specs.Success.{sourceOf}
+use Rattle.meaning.specs.Promise.{Promise}
 use Rattle.required_indices.specs.declared.RequiredIndices.{RequiredIndices}
 use Rattle.tree.specs.Tree.{lent}
 use Rattle.lookup.specs.Standing.{Standing}
@@ -29,10 +30,9 @@ pub record AnswerIs (a : rules.Answer) (r : Answer) (out′ : List ℕ) : Type 0
   pub place-is : r .place ≡ a .place
   pub out-is : out′ ≡ a .out
 
--- the same of three numbers: code, length, place
-pub record NumbersAre (a : rules.Answer) (numbers out′ : List ℕ) : Type 0 where
-  pub numbers-are : numbers ≡ a .code ∷ a .length ∷ a .place ∷ []
-  pub out-is : out′ ≡ a .out
+-- "Narrow": in house mode an answer of code 0 keeps the rows, of the very bytes
+abbrev pub Promised : (mode mask : ℕ) (file : List ℕ) (request : ℕ → List ℕ) (out : List ℕ) (code : ℕ) → Type 0
+Promised mode mask file request out code = mode ≡ 1 → code ≡ 0 → Promise mask file request (rules.reply mode mask file request out)
 
 -- ── a rewritten plan on its way to the buffer ───────────────────────────────────────────────
 

@@ -1,19 +1,18 @@
 //! pruner: the public entries. A plan file and a request in, a narrowed plan file or a refusal out.
 //!
 //! `prune` and `prune_all` make the arrays that a plan is read into and rewritten in; `prune_in` is lent them, and says nothing of what they held or
-//! hold. The `simmerroof_` functions are the same for C and Rust.
+//! hold.
 ghost use mathlib.Core.Path.{_≡_};
-ghost use mathlib.Core.List.{[], _∷_, _++_};
+ghost use mathlib.Core.List.{_++_};
 ghost use Prim.Native.Nat.{_≤_};
 ghost use lib.ListN.{length, take};
 ghost use Rattle.cpl.specs.Bytes.{planBytes};
 ghost use Rattle.cpl.specs.Exprs.{planTags};
 ghost use Rattle.cpl.specs.Tests.{iota};
 ghost use Rattle.rules.specs.Answer as rules;
-ghost use Rattle.meaning.specs.Promise.{Promise};
 ghost use Rattle.intake.specs.Intake.{wanted};
 ghost use Rattle.writer.specs.Plans.{Writes, planOf};
-ghost use Rattle.pruner.specs.Answers.{AnswerIs, NumbersAre, Rewritten, delivered};
+ghost use Rattle.pruner.specs.Answers.{AnswerIs, Promised, Rewritten, delivered};
 use optimize_projections::Settings;
 use walk_steps::End;
 use walk_steps::Used;
@@ -158,6 +157,7 @@ pub fn prune_in(
     icells: &mut [u64; 12288],
 ) -> Answer
     ensures { λ r. ⌜ AnswerIs (rules.reply mode mask (now (file .entry)) (wanted all (now (request .entry))) (now (out .entry))) r (now (out .exit)) ⌝ }
+    ensures { λ r. ⌜ Promised mode mask (now (file .entry)) (wanted all (now (request .entry))) (now (out .entry)) (r .code) ⌝ }
 {
     if mode > 1 {
         return refuse(1, 0);
@@ -234,6 +234,7 @@ fn prune_alone(
     out: &mut [u8],
 ) -> Answer
     ensures { λ r. ⌜ AnswerIs (rules.reply mode mask (now (file .entry)) (wanted all (now (request .entry))) (now (out .entry))) r (now (out .exit)) ⌝ }
+    ensures { λ r. ⌜ Promised mode mask (now (file .entry)) (wanted all (now (request .entry))) (now (out .entry)) (r .code) ⌝ }
 {
     let mut cells = [0u64; 12288];
     let mut rows = [0u16; 409728];
@@ -277,7 +278,7 @@ fn prune_alone(
 /// the plan that was read at each field that it keeps.
 pub fn prune(mode: u8, mask: u16, file: &[u8], request: &[u16], out: &mut [u8]) -> Answer
     ensures { λ r. ⌜ AnswerIs (rules.answer mode mask (now (file .entry)) (now (request .entry)) (now (out .entry))) r (now (out .exit)) ⌝ }
-    ensures { λ r. ⌜ (mode ≡ 1 → r .code ≡ 0 → Promise mask (now (file .entry)) (λ width. now (request .entry)) (rules.answer mode mask (now (file .entry)) (now (request .entry)) (now (out .entry)))) ⌝ }
+    ensures { λ r. ⌜ Promised mode mask (now (file .entry)) (λ width. now (request .entry)) (now (out .entry)) (r .code) ⌝ }
 {
     prune_alone(mode, mask, false, file, request, out)
 }
@@ -285,142 +286,8 @@ pub fn prune(mode: u8, mask: u16, file: &[u8], request: &[u16], out: &mut [u8]) 
 /// The same with every field of the root requested.
 pub fn prune_all(mode: u8, mask: u16, file: &[u8], out: &mut [u8]) -> Answer
     ensures { λ r. ⌜ AnswerIs (rules.answerAll mode mask (now (file .entry)) (now (out .entry))) r (now (out .exit)) ⌝ }
-    ensures { λ r. ⌜ (mode ≡ 1 → r .code ≡ 0 → Promise mask (now (file .entry)) (λ width. iota 0 width) (rules.answerAll mode mask (now (file .entry)) (now (out .entry)))) ⌝ }
+    ensures { λ r. ⌜ Promised mode mask (now (file .entry)) (λ width. iota 0 width) (now (out .entry)) (r .code) ⌝ }
 {
     let nothing = [0u16; 1];
     prune_alone(mode, mask, true, file, &nothing, out)
-}
-
-// The three numbers of an answer.
-fn put(a: Answer, answer: &mut [u64; 3])
-    ensures { λ r. ⌜ now (answer .exit) ≡ a .code ∷ a .length ∷ a .place ∷ [] ⌝ }
-{
-    *answer = [a.code as u64, a.length as u64, a.place as u64];
-}
-
-/// `prune` for C and Rust: `answer` gets the code, the length and the place.
-#[no_mangle]
-pub extern "C" fn simmerroof_prune(
-    mode: u8,
-    mask: u16,
-    file: &[u8],
-    request: &[u16],
-    out: &mut [u8],
-    answer: &mut [u64; 3],
-)
-    ensures { λ r. ⌜ NumbersAre (rules.answer mode mask (now (file .entry)) (now (request .entry)) (now (out .entry))) (now (answer .exit)) (now (out .exit)) ⌝ }
-{
-    put(prune(mode, mask, file, request, out), answer);
-}
-
-/// `prune_all` for C and Rust.
-#[no_mangle]
-pub extern "C" fn simmerroof_prune_all(
-    mode: u8,
-    mask: u16,
-    file: &[u8],
-    out: &mut [u8],
-    answer: &mut [u64; 3],
-)
-    ensures { λ r. ⌜ NumbersAre (rules.answerAll mode mask (now (file .entry)) (now (out .entry))) (now (answer .exit)) (now (out .exit)) ⌝ }
-{
-    put(prune_all(mode, mask, file, out), answer);
-}
-
-/// `simmerroof_prune` in lent arrays.
-#[no_mangle]
-pub extern "C" fn simmerroof_prune_in(
-    mode: u8,
-    mask: u16,
-    file: &[u8],
-    request: &[u16],
-    out: &mut [u8],
-    cells: &mut [u64; 12288],
-    rows: &mut [u16; 409728],
-    nodes: &mut [u64; 1792],
-    names: &mut [u16; 1040],
-    fields: &mut [u16; 65536],
-    widths: &mut [u64; 256],
-    arows: &mut [u16; 512],
-    acells: &mut [u64; 12288],
-    brows: &mut [u16; 512],
-    bcells: &mut [u64; 12288],
-    records: &mut [u64; 1536],
-    items: &mut [u16; 16896],
-    icells: &mut [u64; 12288],
-    answer: &mut [u64; 3],
-)
-    ensures { λ r. ⌜ NumbersAre (rules.answer mode mask (now (file .entry)) (now (request .entry)) (now (out .entry))) (now (answer .exit)) (now (out .exit)) ⌝ }
-{
-    let a = prune_in(
-        mode,
-        mask,
-        false,
-        file,
-        request,
-        out,
-        cells,
-        rows,
-        nodes,
-        names,
-        fields,
-        widths,
-        arows,
-        acells,
-        brows,
-        bcells,
-        records,
-        items,
-        icells,
-    );
-    put(a, answer);
-}
-
-/// `simmerroof_prune_all` in lent arrays.
-#[no_mangle]
-pub extern "C" fn simmerroof_prune_all_in(
-    mode: u8,
-    mask: u16,
-    file: &[u8],
-    out: &mut [u8],
-    cells: &mut [u64; 12288],
-    rows: &mut [u16; 409728],
-    nodes: &mut [u64; 1792],
-    names: &mut [u16; 1040],
-    fields: &mut [u16; 65536],
-    widths: &mut [u64; 256],
-    arows: &mut [u16; 512],
-    acells: &mut [u64; 12288],
-    brows: &mut [u16; 512],
-    bcells: &mut [u64; 12288],
-    records: &mut [u64; 1536],
-    items: &mut [u16; 16896],
-    icells: &mut [u64; 12288],
-    answer: &mut [u64; 3],
-)
-    ensures { λ r. ⌜ NumbersAre (rules.answerAll mode mask (now (file .entry)) (now (out .entry))) (now (answer .exit)) (now (out .exit)) ⌝ }
-{
-    let nothing = [0u16; 1];
-    let a = prune_in(
-        mode,
-        mask,
-        true,
-        file,
-        &nothing,
-        out,
-        cells,
-        rows,
-        nodes,
-        names,
-        fields,
-        widths,
-        arows,
-        acells,
-        brows,
-        bcells,
-        records,
-        items,
-        icells,
-    );
-    put(a, answer);
 }

@@ -4,7 +4,7 @@ use mathlib.Core.Path.{_≡_, refl, sym, ap, _∙_}
 use mathlib.Core.Bool.{Bool, true, false}
 use mathlib.Core.List.{List}
 use native.Mathlib.Omega.{arith}
-use native.Mathlib.Nat.{pow-succ', pow-le-pow-right}
+use native.Mathlib.Nat.{add-assoc, pow-succ', pow-le-pow-right}
 use native.Mathlib.Numerals.{sub-one}
 use lib.ListN.{length, getD}
 use lib.Dec.{leb}
@@ -37,6 +37,25 @@ more-bytes k file at low high h e l f m = (omega (arith, little-more k file at h
 
 pub few-bytes : (k high : ℕ) → k ≤ 8 → high < 256 ^ (k - 1) → high < 256 ^ 7
 few-bytes k high h l = let g : 256 ^ (k - 1) ≤ 256 ^ 7 = pow-le-pow-right {n = 256} (omega arith) {i = k - 1} {j = 7} (omega arith) in omega arith
+
+-- a number that one half of its bytes and the other spell
+module _ (file : List ℕ) (at low high : ℕ) where
+  pub one-byte : low ≡ getD file at 0 → low < 256 → (low ≡ little 1 file at) × (low < 256 ^ 1)
+  unfolding little
+  one-byte e l = (omega arith, omega arith)
+
+  pub two-bytes : low ≡ getD file at 0 → low < 256 → high ≡ getD file (at + 1) 0 → high < 256 → (low + 256 * high ≡ little 2 file at) × (low + 256 * high < 256 ^ 2)
+  unfolding little
+  two-bytes e l f m = (omega arith, omega arith)
+
+  pub four-bytes : low ≡ little 2 file at → low < 256 ^ 2 → high ≡ little 2 file (at + 2) → high < 256 ^ 2 → (low + 65536 * high ≡ little 4 file at) × (low + 65536 * high < 256 ^ 4)
+  unfolding little
+  four-bytes e l f m = (simp add-assoc (omega (arith, simp add-assoc at f)), omega arith)
+
+  pub eight-bytes : low ≡ little 4 file at → low < 256 ^ 4 → high ≡ little 4 file (at + 4) → high < 256 ^ 4 →
+      (low + 4294967296 * high ≡ little 8 file at) × (low + 4294967296 * high < 256 ^ 8)
+  unfolding little
+  eight-bytes e l f m = (simp add-assoc (omega (arith, simp add-assoc at e, simp add-assoc at f)), omega arith)
 
 -- ── fields ──────────────────────────────────────────────────────────────────────────────────
 

@@ -43,8 +43,32 @@ pub fn byte(file: &[u8], at: usize) -> u64
     file[at] as u64
 }
 
-// The number that k bytes spell, the lowest first.
-fn number(file: &[u8], at: usize, k: usize) -> u64
+// The number that two bytes spell, the lowest first.
+fn two(file: &[u8], at: usize) -> u64
+    requires { ⌜ at + 2 ≤ length (now file) ⌝ }
+    ensures { λ r. ⌜ (r ≡ little 2 (now (file .entry)) at) × (r < 256 ^ 2) ⌝ }
+{
+    byte(file, at) + 256 * byte(file, at + 1)
+}
+
+// The number that four bytes spell.
+fn four(file: &[u8], at: usize) -> u64
+    requires { ⌜ at + 4 ≤ length (now file) ⌝ }
+    ensures { λ r. ⌜ (r ≡ little 4 (now (file .entry)) at) × (r < 256 ^ 4) ⌝ }
+{
+    two(file, at) + 65536 * two(file, at + 2)
+}
+
+// The number that eight bytes spell.
+fn eight(file: &[u8], at: usize) -> u64
+    requires { ⌜ at + 8 ≤ length (now file) ⌝ }
+    ensures { λ r. ⌜ (r ≡ little 8 (now (file .entry)) at) × (r < 256 ^ 8) ⌝ }
+{
+    four(file, at) + 4294967296 * four(file, at + 4)
+}
+
+// The number that k bytes spell, byte by byte: for a width that no field has.
+fn any(file: &[u8], at: usize, k: usize) -> u64
     requires { ⌜ (at + k ≤ length (now file)) × (k ≤ 8) ⌝ }
     ensures { λ r. ⌜ (r ≡ little k (now (file .entry)) at) × (r < 256 ^ k) ⌝ }
 {
@@ -52,8 +76,22 @@ fn number(file: &[u8], at: usize, k: usize) -> u64
         return 0;
     }
     let low = byte(file, at);
-    let high = number(file, at + 1, k - 1);
+    let high = any(file, at + 1, k - 1);
     low + 256 * high
+}
+
+// The number that k bytes spell, the lowest first.
+fn number(file: &[u8], at: usize, k: usize) -> u64
+    requires { ⌜ (at + k ≤ length (now file)) × (k ≤ 8) ⌝ }
+    ensures { λ r. ⌜ (r ≡ little k (now (file .entry)) at) × (r < 256 ^ k) ⌝ }
+{
+    match k {
+        1 => byte(file, at),
+        2 => two(file, at),
+        4 => four(file, at),
+        8 => eight(file, at),
+        _ => any(file, at, k),
+    }
 }
 
 // A field of k bytes.

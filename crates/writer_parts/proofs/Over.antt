@@ -90,6 +90,30 @@ unfolding bytes
 put-none zero x h = start
 put-none (suc k) x h = absurd (omega arith)
 
+-- one byte, and two
+pub put-one : (xs : List ℕ) (x : ℕ) → 1 ≤ length xs → Wrote (bytes 1 x) xs 1 (set xs 0 (x % 256))
+unfolding bytes
+put-one xs x h = first (x % 256) h
+
+pub put-both : (xs : List ℕ) (x : ℕ) → 2 ≤ length xs → Wrote (bytes 2 x) xs 2 (set (set xs 0 (x % 256)) 1 (x / 256 % 256))
+unfolding bytes over
+put-both [] x h = absurd (omega arith)
+put-both (a ∷ []) x h = absurd (omega arith)
+put-both (a ∷ b ∷ xs) x h = record { long = refl; ends = refl }
+
+-- the bytes of a number are those of its two halves
+pub halves-of-four : (x : ℕ) → bytes 2 x ++ bytes 2 (x / 65536) ≡ bytes 4 x
+unfolding bytes
+halves-of-four x =
+    let e : x / 65536 ≡ x / 256 / 256 = omega arith in
+    rw e
+
+pub halves-of-eight : (x : ℕ) → bytes 4 x ++ bytes 4 (x / 4294967296) ≡ bytes 8 x
+unfolding bytes
+halves-of-eight x =
+    let e : x / 4294967296 ≡ x / 256 / 256 / 256 / 256 = omega arith in
+    rw e
+
 -- the part from `at` on came back with v over its start
 pub laid : {v out ys : List ℕ} {n : ℕ} (at : ℕ) → Wrote v (take (length out - at) (drop at out)) n ys →
     Laid at v n out (at + n) (take at out ++ (ys ++ drop (length out - at) (drop at out)))

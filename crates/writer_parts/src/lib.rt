@@ -60,14 +60,77 @@ fn wide(x: u16) -> u64
     x as u64
 }
 
-/// The k lowest bytes of x, the lowest first, at the start of out.
-pub fn put(out: &mut [u8], k: usize, x: u64)
+// The two lowest bytes of x, the lowest first, at the start of out.
+fn put_two(out: &mut [u8], x: u64)
+    requires { ⌜ 2 ≤ length (now out) ⌝ }
+    ensures { λ _. ⌜ Wrote (bytes 2 x) (now (out .entry)) 2 (now (out .exit)) ⌝ }
+{
+    out[0] = (x % 256) as u8;
+    out[1] = (x / 256 % 256) as u8;
+}
+
+// The four lowest bytes of x.
+fn put_four(out: &mut [u8], x: u64)
+    requires { ⌜ 4 ≤ length (now out) ⌝ }
+    ensures { λ _. ⌜ Wrote (bytes 4 x) (now (out .entry)) 4 (now (out .exit)) ⌝ }
+{
+    put_two(out, x);
+    put_two(&mut out[2..], x / 65536);
+}
+
+// The eight bytes of x.
+fn put_eight(out: &mut [u8], x: u64)
+    requires { ⌜ 8 ≤ length (now out) ⌝ }
+    ensures { λ _. ⌜ Wrote (bytes 8 x) (now (out .entry)) 8 (now (out .exit)) ⌝ }
+{
+    put_four(out, x);
+    put_four(&mut out[4..], x / 4294967296);
+}
+
+// The three lowest bytes of x.
+fn put_three(out: &mut [u8], x: u64)
+    requires { ⌜ 3 ≤ length (now out) ⌝ }
+    ensures { λ _. ⌜ Wrote (bytes 3 x) (now (out .entry)) 3 (now (out .exit)) ⌝ }
+{
+    out[0] = (x % 256) as u8;
+    put_two(&mut out[1..], x / 256);
+}
+
+// The five lowest bytes of x.
+fn put_five(out: &mut [u8], x: u64)
+    requires { ⌜ 5 ≤ length (now out) ⌝ }
+    ensures { λ _. ⌜ Wrote (bytes 5 x) (now (out .entry)) 5 (now (out .exit)) ⌝ }
+{
+    out[0] = (x % 256) as u8;
+    put_four(&mut out[1..], x / 256);
+}
+
+// The k lowest bytes of x, byte by byte: for a width that nothing written has.
+fn put_any(out: &mut [u8], k: usize, x: u64)
     requires { ⌜ k ≤ length (now out) ⌝ }
     ensures { λ _. ⌜ Wrote (bytes k x) (now (out .entry)) k (now (out .exit)) ⌝ }
 {
     if k > 0 {
         out[0] = (x % 256) as u8;
-        put(&mut out[1..], k - 1, x / 256);
+        put_any(&mut out[1..], k - 1, x / 256);
+    }
+}
+
+/// The k lowest bytes of x, the lowest first, at the start of out.
+pub fn put(out: &mut [u8], k: usize, x: u64)
+    requires { ⌜ k ≤ length (now out) ⌝ }
+    ensures { λ _. ⌜ Wrote (bytes k x) (now (out .entry)) k (now (out .exit)) ⌝ }
+{
+    match k {
+        1 => {
+            out[0] = (x % 256) as u8;
+        }
+        2 => put_two(out, x),
+        3 => put_three(out, x),
+        4 => put_four(out, x),
+        5 => put_five(out, x),
+        8 => put_eight(out, x),
+        _ => put_any(out, k, x),
     }
 }
 

@@ -14,6 +14,9 @@ mask-in-requires c κs = search needs
 file-start-requires : tie.Need-file-start-requires
 file-start-requires c κs = search needs
 
+file-end-requires : tie.Need-file-end-requires
+file-end-requires c κs = search needs
+
 sub-write-answer : tie.Need-sub-write-answer
 sub-write-answer c = search needs
 
@@ -28,15 +31,17 @@ write-answer-requires c κs = search needs
 
 returns : tie.Need-returns
 returns c =
-    let args = c .before .before .before .before .before .before .before .args in
-    let file-start = c .before .before .before .file-start in
-    let byte = c .before .before .before .before .before .byte in
-    let mask-in = c .before .before .before .before .mask-in in
+    let args = c .before .before .before .before .before .before .before .before .args in
+    let file-start = c .before .before .before .before .file-start in
+    let file-end = c .before .before .before .file-end in
+    let byte = c .before .before .before .before .before .before .byte in
+    let mask-in = c .before .before .before .before .before .mask-in in
     let write-answer = c .write-answer in (
-      program-printed (args .input .now) (file-start .result) (byte .ensures) (mask-in .ensures) (file-start .ensures .1) (write-answer .ensures .0),
+      program-printed (args .input .now) (file-start .result) (byte .ensures) (mask-in .ensures) (file-start .ensures .1) (file-end .ensures .2)
+          (write-answer .ensures .0),
       write-answer .ensures .1,
     )
 
 pub run-spec : {M : Type 1} → statement M
-run-spec = tie.close (tie.spec byte-requires mask-in-requires file-start-requires sub-write-answer part-write-answer-start part-write-answer-end
+run-spec = tie.close (tie.spec byte-requires mask-in-requires file-start-requires file-end-requires sub-write-answer part-write-answer-start part-write-answer-end
     write-answer-requires returns)

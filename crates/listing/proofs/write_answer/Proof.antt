@@ -1,6 +1,7 @@
 -- `listing::write_answer` meets its contract: the refusal, or the listing of the bytes written. Assumes nothing.
 use Prim.Native.Nat.{ℕ}
-use Rattle.listing.proofs.Program.{answer-fits, printed-listing, printed-refusal}
+use Rattle.intake.proofs.Ways.{are-bytes}
+use Rattle.listing.proofs.Answers.{answer-fits, printed-listing, printed-refusal}
 use Rattle.listing.proofs.Puts.{counts}
 use Rattle.optimize_projections.proofs.Nodes.{left}
 use Rattle.writer.proofs.Plans.{taken}
@@ -54,7 +55,11 @@ returns-2 c =
     let prune-all = c .before .before .before .before .before .before .prune-all in
     let if1 = c .before .before .before .if1 in
     let list = c .list in
-    (printed-listing (args .mode) (args .mask) (args .file .now) (prune-all .ensures .0) (omega (arith, if1 .left)) (list .ensures .0), list .ensures .1)
+    let shared-slice-known = c .before .before .before .before .before .before .before .before .shared-slice-known in (
+      printed-listing (args .mode) (args .mask) (args .file .now) (prune-all .ensures .0) (are-bytes _ (λ i. omega (arith, shared-slice-known .given i)))
+          (omega (arith, if1 .left)) (list .ensures .0),
+      list .ensures .1,
+    )
 
 pub write-answer-spec : {M : Type 1} → statement M
 write-answer-spec = tie.close

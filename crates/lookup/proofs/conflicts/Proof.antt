@@ -1,23 +1,26 @@
--- `lookup::conflicts` meets its contract: none of the fields passed is in conflict. Assumes nothing.
-use Prim.Native.Nat.{_*_, _-_}
+-- `lookup::conflicts` meets its contract: the answer so far is that for the fields passed. Assumes nothing.
+use Prim.Native.Nat.{_-_, _≤_}
 use Rattle.cpl.specs.Accept.{conflict}
-use Rattle.lookup.proofs.Lists.{Missed, left-none, missed-all, missed-hit, missed-more}
-use Rattle.lookup.specs.Fields.{fieldAt, pairOf}
-use Rattle.tree.proofs.Plans.{taken}
+use Rattle.cpl.specs.Tests.{anyB}
+use Rattle.lookup.proofs.Clash.{any-row-more, any-row-none}
+use Rattle.lookup.specs.Fields.{pairOf, rowAt}
 use borrow.Author.Needs.{needs}
-use mathlib.Core.Path.{_∙_, ap, sym}
+use mathlib.Core.Bool.{_||_}
+use mathlib.Core.Path.{_∙_, _≡_, ap, ap₂}
 use native.Mathlib.Omega.{arith}
 use Rattle.lookup.proofs.conflicts.Statement.{statement}
 use Rattle.lookup.proofs.conflicts.Tie as tie
 
 abbrev Inv-loop : tie.InvT-loop
-Inv-loop fields k width f i₀ i = Missed (conflict (pairOf f)) (fieldAt fields) (k * 128) width i
+Inv-loop fields k width f hit₀ i₀ hit i = (i ≤ width) × (hit ≡ anyB (conflict (pairOf f)) (rowAt fields k i))
 
 abbrev μ-loop : tie.MeasureT-loop
-μ-loop fields k width f i₀ i = width - i
+μ-loop fields k width f hit₀ i₀ hit i = width - i
 
 loop-holds : tie.Need-loop-holds Inv-loop μ-loop
-loop-holds c = left-none _ _ _ _
+loop-holds c =
+    let args = c .before .args in
+    (omega arith, any-row-none _ (args .fields .now) (args .k))
 
 mul-field-at : tie.Need-mul-field-at Inv-loop μ-loop
 mul-field-at c = omega arith
@@ -31,16 +34,6 @@ field-at-requires c κs = omega arith
 in-conflict-requires : tie.Need-in-conflict-requires Inv-loop μ-loop
 in-conflict-requires c κs = search needs
 
-returns : tie.Need-returns Inv-loop μ-loop
-returns c =
-    let loop = c .before .before .before .before .loop in
-    let loop-test = c .before .before .before .loop-test in
-    let if1 = c .if1 in
-    let in-conflict = c .before .in-conflict in
-    let args = c .before .before .before .before .before .before .args in
-    let field-at = c .before .before .field-at in
-    missed-hit _ _ _ _ _ (loop .inv) (loop-test .taken) (sym (if1 .taken) ∙ in-conflict .ensures ∙ ap (conflict (pairOf (args .f))) (field-at .ensures))
-
 add-i : tie.Need-add-i Inv-loop μ-loop
 add-i c = search needs
 
@@ -49,19 +42,18 @@ loop-less c = search needs
 
 loop-again : tie.Need-loop-again Inv-loop μ-loop
 loop-again c =
-    let loop = c .before .before .before .before .loop in
-    let loop-test = c .before .before .before .loop-test in
-    let if1 = c .if1 in
-    let in-conflict = c .before .in-conflict in
-    let args = c .before .before .before .before .before .before .args in
-    let field-at = c .before .before .field-at in
-    missed-more _ _ _ _ _ (loop .inv) (loop-test .taken) (sym (if1 .left) ∙ in-conflict .ensures ∙ ap (conflict (pairOf (args .f))) (field-at .ensures))
+    let args = c .before .before .before .before .before .args in
+    let loop = c .before .before .before .loop in
+    let field-at = c .before .field-at in
+    let in-conflict = c .in-conflict in
+    (omega arith, ap₂ _||_ (loop .inv .1) (in-conflict .ensures ∙ ap (conflict (pairOf (args .f))) (field-at .ensures)) ∙ any-row-more _ (args .fields .now) (args .k) (loop .i))
 
-returns-2 : tie.Need-returns-2 Inv-loop μ-loop
-returns-2 c =
+returns : tie.Need-returns Inv-loop μ-loop
+returns c =
     let loop = c .before .loop in
-    let loop-test = c .loop-test in
-    missed-all _ _ _ _ _ (loop .inv) (loop-test .left)
+    let args = c .before .before .before .args in
+    let e : loop .i ≡ args .width = omega (arith, loop .inv .0) in
+    rw e at (loop .inv .1)
 
 pub conflicts-spec : {M : Type 1} → statement M
-conflicts-spec = tie.close (tie.spec Inv-loop μ-loop loop-holds mul-field-at add-field-at field-at-requires in-conflict-requires returns add-i loop-less loop-again returns-2)
+conflicts-spec = tie.close (tie.spec Inv-loop μ-loop loop-holds mul-field-at add-field-at field-at-requires in-conflict-requires add-i loop-less loop-again returns)

@@ -1,9 +1,6 @@
--- `pruner::prune_all` meets its contract: a request of all fields, and the promise of house mode. Assumes nothing.
-use Rattle.cpl.specs.Tests.{iota}
-use Rattle.intake.proofs.Ways.{are-bytes}
-use Rattle.pruner.proofs.Entries.{of-all, promised}
+-- `pruner::prune_all` meets its contract: a request of all fields. Assumes nothing.
+use Rattle.pruner.proofs.Entries.{of-all}
 use borrow.Author.Needs.{needs}
-use native.Mathlib.Omega.{arith}
 use Rattle.pruner.proofs.prune_all.Statement.{statement}
 use Rattle.pruner.proofs.prune_all.Tie as tie
 
@@ -19,9 +16,7 @@ same-length c = search needs
 returns : tie.Need-returns
 returns c =
     let prune-alone = c .before .before .prune-alone in
-    let shared-slice-known = c .before .before .before .before .before .before .shared-slice-known in
-    let h = of-all _ _ _ _ _ (prune-alone .ensures) in
-    (h, promised _ _ _ (λ width. iota 0 width) _ (are-bytes _ (λ i. omega (arith, shared-slice-known .given i))) h)
+    of-all _ _ _ _ _ (prune-alone .ensures)
 
 pub prune-all-spec : {M : Type 1} → statement M
 prune-all-spec = tie.close (tie.spec slice-aggregate-prune-alone prune-alone-requires same-length returns)

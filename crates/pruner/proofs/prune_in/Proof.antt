@@ -1,6 +1,9 @@
--- `pruner::prune_in` meets its contract: refused for its settings or by the intake, or what the walk left is delivered. Assumes nothing.
+-- `pruner::prune_in` meets its contract: refused for its settings or by the intake, or what the walk left is delivered; with the promise of house
+-- mode. Assumes nothing.
 use Rattle.intake.proofs.Ways.{are-bytes}
+use Rattle.intake.specs.Intake.{wanted}
 use Rattle.pruner.proofs.Ends.{answered, handed-on, high-mask, high-mode, refused-early, taken-in}
+use Rattle.pruner.proofs.Entries.{promised}
 use Rattle.pruner.proofs.Plans.{scratch, walk-starts}
 use borrow.Author.Needs.{needs}
 use mathlib.Core.Path.{_∙_, refl}
@@ -15,7 +18,10 @@ returns : tie.Need-returns
 returns c =
     let if1 = c .before .if1 in
     let refuse = c .refuse in
-    high-mode _ _ _ _ _ (if1 .taken) (refuse .ensures)
+    let args = c .before .before .before .before .before .args in
+    let shared-slice-known = c .before .before .before .before .shared-slice-known in
+    promised _ _ _ (wanted (args .all) (args .request .now)) _ (are-bytes _ (λ i. omega (arith, shared-slice-known .given i)))
+    (high-mode _ _ _ _ _ (if1 .taken) (refuse .ensures))
 
 refuse-requires-2 : tie.Need-refuse-requires-2
 refuse-requires-2 c κs = search needs
@@ -25,7 +31,10 @@ returns-2 c =
     let if1 = c .before .before .if1 in
     let if2 = c .before .if2 in
     let refuse2 = c .refuse2 in
-    high-mask _ _ _ _ _ (if1 .left) (if2 .taken) (refuse2 .ensures)
+    let args = c .before .before .before .before .before .before .args in
+    let shared-slice-known = c .before .before .before .before .before .shared-slice-known in
+    promised _ _ _ (wanted (args .all) (args .request .now)) _ (are-bytes _ (λ i. omega (arith, shared-slice-known .given i)))
+    (high-mask _ _ _ _ _ (if1 .left) (if2 .taken) (refuse2 .ensures))
 
 take-in-requires : tie.Need-take-in-requires
 take-in-requires c κs = search needs
@@ -40,7 +49,10 @@ returns-3 c =
     let if3 = c .before .if3 in
     let take-in = c .before .before .before .take-in in
     let refuse3 = c .refuse3 in
-    refused-early _ _ _ _ (if1 .left) (if2 .left) _ _ _ _ _ _ _ (if3 .taken) (take-in .ensures) (refuse3 .ensures)
+    let args = c .before .before .before .before .before .before .before .before .before .before .before .before .before .before .before .args in
+    let shared-slice-known = c .before .before .before .before .before .before .before .before .before .before .before .before .before .before .shared-slice-known in
+    promised _ _ _ (wanted (args .all) (args .request .now)) _ (are-bytes _ (λ i. omega (arith, shared-slice-known .given i)))
+    (refused-early _ _ _ _ (if1 .left) (if2 .left) _ _ _ _ _ _ _ (if3 .taken) (take-in .ensures) (refuse3 .ensures))
 
 optimize-projections-requires : tie.Need-optimize-projections-requires
 optimize-projections-requires c κs =
@@ -99,12 +111,15 @@ returns-4 c =
     let optimize-projections-arg16 = c .before .before .before .before .before .before .before .before .before .before .before .before .before .before .before .before .before .before .before .before .before .before .optimize-projections-arg16 in
     let optimize-projections-arg17 = c .before .before .before .before .before .before .before .before .before .before .before .before .before .before .before .before .before .before .before .before .before .optimize-projections-arg17 in
     let optimize-projections = c .before .before .before .before .before .before .before .before .before .before .before .before .before .before .before .before .before .before .before .before .optimize-projections in
+    let args = c .before .before .before .before .before .before .before .before .before .before .before .before .before .before .before .before .before .before .before .before .before .before .before .before .before .before .before .before .before .before .before .before .before .before .before .before .before .before .before .before .before .before .before .before .before .before .before .before .before .before .before .before .before .args in
     let q = taken-in (if3 .left) (take-in .ensures) in
-    answered _ _ _ _ (if1 .left) (if2 .left) _ q refl refl
-    (deliver .ensures (handed-on (are-bytes _ (λ i. omega (arith, shared-slice-known .given i))) q
+    let bytes = are-bytes (args .file .now) (λ i. omega (arith, shared-slice-known .given i)) in
+    promised _ _ _ (wanted (args .all) (args .request .now)) _ bytes
+    (answered _ _ _ _ (if1 .left) (if2 .left) _ q refl refl
+    (deliver .ensures (handed-on bytes q
     (take-in .kept .1 .1 .1 .1 .1 .1 .1 .0 ∙ take-in-arg5 .given .0 .1) (take-in .kept .1 .1 .1 .1 .1 .1 .1 .1 .0 ∙ take-in-arg6 .given .0 .1)
     (optimize-projections-arg15 .given .0 .1) (optimize-projections-arg16 .given .0 .1) (optimize-projections-arg17 .given .0 .1)
-    (optimize-projections .kept .1 .1 .1 .1 .1 .1 .1 .1 .1 .1 .1 .1 .0 ∙ optimize-projections-arg15 .given .0 .1) (optimize-projections .ensures)))
+    (optimize-projections .kept .1 .1 .1 .1 .1 .1 .1 .1 .1 .1 .1 .1 .0 ∙ optimize-projections-arg15 .given .0 .1) (optimize-projections .ensures))))
 
 pub prune-in-spec : {M : Type 1} → statement M
 prune-in-spec = tie.close (tie.spec refuse-requires returns refuse-requires-2 returns-2 take-in-requires refuse-requires-3 returns-3

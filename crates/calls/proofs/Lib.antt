@@ -1,0 +1,7 @@
+-- The laws of calls, bottom up.
+pub mod Input
+pub mod Requests
+pub mod Numbers
+pub mod Texts
+pub mod Listings
+pub mod Samples

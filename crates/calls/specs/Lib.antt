@@ -1,0 +1,3 @@
+-- What a call writes.
+pub mod Calls
+pub mod Computes

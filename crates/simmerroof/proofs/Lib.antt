@@ -1,0 +1,2 @@
+-- Laws of answers as three numbers.
+pub mod Numbers

@@ -1,0 +1,23 @@
+-- An answer as three numbers: what is known of it, and that two that meet a contract are the same. Assumes nothing.
+use mathlib.Core.Path.{_≡_, sym, ap, _∙_}
+use mathlib.Core.List.{List, [], _∷_}
+use Prim.Native.Nat.{ℕ}
+use Rattle.rules.specs.Answer as rules
+use Rattle.rules.specs.Answer.{reply}
+use Rattle.pruner.specs.Answers.{Promised}
+use Rattle.pruner.specs.declared.Answer.{Answer}
+use Rattle.pruner.proofs.Entries.{Meets}
+use Rattle.simmerroof.specs.Numbers.{NumbersAre, codeIn}
+
+-- what an entry answers, put into an array
+pub numbers : (mode mask : ℕ) (file : List ℕ) (request : ℕ → List ℕ) (out : List ℕ) {r : Answer} {out′ three : List ℕ} → Meets mode mask file request out r out′
+    → three ≡ r .code ∷ r .length ∷ r .place ∷ []
+    → NumbersAre (reply mode mask file request out) three out′ × Promised mode mask file request out (codeIn three)
+numbers mode mask file request out h e = (
+  record { numbers-are = rw (← h .0 .code-is, ← h .0 .length-is, ← h .0 .place-is) e; out-is = h .0 .out-is },
+  λ house z. h .1 house (sym (ap codeIn e) ∙ z),
+)
+
+-- "two conforming results coincide", for each exported function
+pub coincide : {a : rules.Answer} {three three′ out out′ : List ℕ} → NumbersAre a three out → NumbersAre a three′ out′ → (three ≡ three′) × (out ≡ out′)
+coincide h k = (h .numbers-are ∙ sym (k .numbers-are), h .out-is ∙ sym (k .out-is))

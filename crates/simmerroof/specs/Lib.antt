@@ -1,0 +1,2 @@
+-- An answer as three numbers.
+pub mod Numbers

@@ -1,0 +1,146 @@
+//! simmerroof: the functions that C and Rust programs link, and nothing else: those of pruner, with the answer as three numbers in a lent array.
+ghost use mathlib.Core.Path.{_≡_};
+ghost use mathlib.Core.List.{[], _∷_};
+ghost use Rattle.cpl.specs.Tests.{iota};
+ghost use Rattle.rules.specs.Answer as rules;
+ghost use Rattle.pruner.specs.Answers.{Promised};
+ghost use Rattle.simmerroof.specs.Numbers.{NumbersAre, codeIn};
+use pruner::Answer;
+
+// The three numbers of an answer.
+fn put(a: Answer, answer: &mut [u64; 3])
+    ensures { λ r. ⌜ now (answer .exit) ≡ a .code ∷ a .length ∷ a .place ∷ [] ⌝ }
+{
+    *answer = [a.code as u64, a.length as u64, a.place as u64];
+}
+
+/// `prune` for C and Rust: `answer` gets the code, the length and the place.
+#[no_mangle]
+pub extern "C" fn simmerroof_prune(
+    mode: u8,
+    mask: u16,
+    file: &[u8],
+    request: &[u16],
+    out: &mut [u8],
+    answer: &mut [u64; 3],
+)
+    ensures { λ r. ⌜ NumbersAre (rules.answer mode mask (now (file .entry)) (now (request .entry)) (now (out .entry))) (now (answer .exit)) (now (out .exit)) ⌝ }
+    ensures { λ r. ⌜ Promised mode mask (now (file .entry)) (λ width. now (request .entry)) (now (out .entry)) (codeIn (now (answer .exit))) ⌝ }
+{
+    put(pruner::prune(mode, mask, file, request, out), answer);
+}
+
+/// `prune_all` for C and Rust.
+#[no_mangle]
+pub extern "C" fn simmerroof_prune_all(
+    mode: u8,
+    mask: u16,
+    file: &[u8],
+    out: &mut [u8],
+    answer: &mut [u64; 3],
+)
+    ensures { λ r. ⌜ NumbersAre (rules.answerAll mode mask (now (file .entry)) (now (out .entry))) (now (answer .exit)) (now (out .exit)) ⌝ }
+    ensures { λ r. ⌜ Promised mode mask (now (file .entry)) (λ width. iota 0 width) (now (out .entry)) (codeIn (now (answer .exit))) ⌝ }
+{
+    put(pruner::prune_all(mode, mask, file, out), answer);
+}
+
+/// `simmerroof_prune` in lent arrays.
+#[no_mangle]
+pub extern "C" fn simmerroof_prune_in(
+    mode: u8,
+    mask: u16,
+    file: &[u8],
+    request: &[u16],
+    out: &mut [u8],
+    cells: &mut [u64; 12288],
+    rows: &mut [u16; 409728],
+    nodes: &mut [u64; 1792],
+    names: &mut [u16; 1040],
+    fields: &mut [u16; 65536],
+    widths: &mut [u64; 256],
+    arows: &mut [u16; 512],
+    acells: &mut [u64; 12288],
+    brows: &mut [u16; 512],
+    bcells: &mut [u64; 12288],
+    records: &mut [u64; 1536],
+    items: &mut [u16; 16896],
+    icells: &mut [u64; 12288],
+    answer: &mut [u64; 3],
+)
+    ensures { λ r. ⌜ NumbersAre (rules.answer mode mask (now (file .entry)) (now (request .entry)) (now (out .entry))) (now (answer .exit)) (now (out .exit)) ⌝ }
+    ensures { λ r. ⌜ Promised mode mask (now (file .entry)) (λ width. now (request .entry)) (now (out .entry)) (codeIn (now (answer .exit))) ⌝ }
+{
+    let a = pruner::prune_in(
+        mode,
+        mask,
+        false,
+        file,
+        request,
+        out,
+        cells,
+        rows,
+        nodes,
+        names,
+        fields,
+        widths,
+        arows,
+        acells,
+        brows,
+        bcells,
+        records,
+        items,
+        icells,
+    );
+    put(a, answer);
+}
+
+/// `simmerroof_prune_all` in lent arrays.
+#[no_mangle]
+pub extern "C" fn simmerroof_prune_all_in(
+    mode: u8,
+    mask: u16,
+    file: &[u8],
+    out: &mut [u8],
+    cells: &mut [u64; 12288],
+    rows: &mut [u16; 409728],
+    nodes: &mut [u64; 1792],
+    names: &mut [u16; 1040],
+    fields: &mut [u16; 65536],
+    widths: &mut [u64; 256],
+    arows: &mut [u16; 512],
+    acells: &mut [u64; 12288],
+    brows: &mut [u16; 512],
+    bcells: &mut [u64; 12288],
+    records: &mut [u64; 1536],
+    items: &mut [u16; 16896],
+    icells: &mut [u64; 12288],
+    answer: &mut [u64; 3],
+)
+    ensures { λ r. ⌜ NumbersAre (rules.answerAll mode mask (now (file .entry)) (now (out .entry))) (now (answer .exit)) (now (out .exit)) ⌝ }
+    ensures { λ r. ⌜ Promised mode mask (now (file .entry)) (λ width. iota 0 width) (now (out .entry)) (codeIn (now (answer .exit))) ⌝ }
+{
+    let nothing = [0u16; 1];
+    let a = pruner::prune_in(
+        mode,
+        mask,
+        true,
+        file,
+        &nothing,
+        out,
+        cells,
+        rows,
+        nodes,
+        names,
+        fields,
+        widths,
+        arows,
+        acells,
+        brows,
+        bcells,
+        records,
+        items,
+        icells,
+    );
+    put(a, answer);
+}
