@@ -8,34 +8,28 @@ use borrow.Author.Tests.{eqb-true, eqb-false}
 use lib.Bits.{bitOr}
 use lib.Dec.{eqb}
 use lib.ListN.{drop, length, length-append, length-map}
-use Rattle.cpl.specs.Exprs.{aggExprs, unaryExprs, usesAny}
+use Rattle.cpl.specs.Exprs.{aggExprs, unaryExprs}
 use Rattle.cpl.specs.Fields.{unaryFields}
 use Rattle.cpl.specs.Lists.{Fit, _z∷_}
-use Rattle.cpl.specs.Plan.{Agg, Catalogue, Expr, Item, Pair, aggPair, aggregate, itemExpr, itemPair, unary}
+use Rattle.cpl.specs.Plan.{Agg, Catalogue, Item, Pair, aggPair, aggregate, itemExpr, itemPair, unary}
 use Rattle.cpl.specs.Tests.{concatMap}
 use Rattle.cpl.proofs.Lists.{Fit-++, Fit-length, Fit-map, Fit-maps, Fit-sym, Fit-trans, fit-self}
-use Rattle.rules.specs.Mask.{Mask, count, orM, select}
+use Rattle.rules.specs.Mask.{Mask, count, select}
 use Rattle.rules.specs.Mask as mask
 use Rattle.rules.specs.Rules as rules
-use Rattle.rules.specs.Rules.{aggregateJob, plus, unaryJob, used}
+use Rattle.rules.specs.Rules.{aggregateJob, unaryJob, used}
 use Rattle.rules.proofs.Asked.{aggregate-fields, used-fit}
 use Rattle.rules.proofs.Masks.{length-select, select-ones}
 use Rattle.required_indices.specs.Request.{Asks, Holds, flagOf, requestMask, setOf, wordsN}
 use Rattle.required_indices.specs.declared.RequiredIndices.{RequiredIndices}
-use Rattle.required_indices.proofs.Methods.{all-asks, empty-mask, follow-asks, follow-fits, new-asks, rest-asks}
+use Rattle.required_indices.proofs.Methods.{all-asks, empty-mask, follow-asks, follow-fits, rest-asks}
 use Rattle.requests.specs.Asked.{Adds}
-use Rattle.requests.proofs.Adding.{adds-then}
+use Rattle.requests.proofs.Adding.{adds-alone, adds-then}
 use Rattle.result.specs.Result.{nothingLeft, unaryPart}
 use Rattle.jobs.specs.Job.{InputIs, NothingIs, Posed}
 use Rattle.jobs.specs.declared.Todo.the-variants as todos
 use Rattle.jobs.specs.declared.Rest.the-variants as rests
 use Rattle.jobs.proofs.Plain.{asks-mask, job}
-
--- columns alone
-plus-zeros : (es : List Expr) (fs : List Pair) → plus es fs (mask.zeros fs) ≡ used es fs
-unfolding plus used mask.zeros orM
-plus-zeros es [] = refl
-plus-zeros es (f ∷ fs) = ap (usesAny es f ∷_) (plus-zeros es fs)
 
 -- ── which job it is ─────────────────────────────────────────────────────────────────────────
 
@@ -129,7 +123,7 @@ module _ (gs : List Item) (vs : List Agg) {n : ℕ} {fs : List Pair} {r set all 
   pub aggregate-is : (C : Catalogue) {m : ℕ} {none by q : RequiredIndices} → m ≡ length vs → eqb (setOf kept) 0 ≡ false → Holds none 0 false
       → Adds (map itemExpr (select (requestMask n all) gs)) fs none by → Adds (concatMap aggExprs (select (requestMask m set) vs)) fs by q
       → InputIs C (aggregate gs vs) fs (flagOf r) R true (unary (unaryPart (setOf set) (aggregate gs vs))) (job (todos.One true) rests.Own q none set kept)
-  unfolding unaryJob unaryExprs unaryPart mask.zeros
+  unfolding unaryJob unaryExprs unaryPart
   aggregate-is C {m} {none} {by} {q} em e n₀ d₁ d₂ =
       let own = set-asks gs vs en (t .set-is) p in
       let long = Fit-length (rest-fit gs vs en (t .set-is) p) in
@@ -144,7 +138,7 @@ module _ (gs : List Item) (vs : List Agg) {n : ℕ} {fs : List Pair} {r set all 
         job =
             some-left gs (select A′ vs) fs K (λ z. eqb-false (count K) 0 (sym (empty-mask kept-asks) ∙ e) (count-kept ∙ z))
             ∙ ap₂ (λ x M. rules.ask x (used es fs) true (unary (aggregate gs (select M vs))) (λ L. K)) (sym (d .flag ∙ n₀ .flag)) (sym (asks-mask own long));
-        asks = subst (Asks q) (plus-zeros es fs) (d .asks (mask.zeros fs) (p .clear) (length-map fs (λ x. false)) (new-asks fs n₀));
+        asks = adds-alone es fs n₀ d (p .clear);
         fit = used-fit es fs;
         set = subst (λ x. setOf set < 2 ^ x) long (own .within);
         rest = record { L = K; asks = kept-asks; is = λ L. refl };

@@ -2,7 +2,7 @@
 use mathlib.Core.Path.{_≡_, refl, sym, ap, subst, _∙_}
 use mathlib.Core.Bool.{Bool}
 use mathlib.Core.List.{List}
-use Prim.Native.Nat.{ℕ, _+_, _*_, _<_, _≤_}
+use Prim.Native.Nat.{ℕ, _+_, _<_, _≤_}
 use native.Mathlib.Omega.{arith}
 use lib.ListN.{length}
 use Rattle.cpl.specs.Fields.{binaryFields, fieldsOf, leafFields, unaryFields}
@@ -10,7 +10,7 @@ use Rattle.cpl.specs.Limits.{maxFields}
 use Rattle.cpl.specs.Lists.{Fit}
 use Rattle.cpl.specs.Plan.{Binary, Catalogue, Leaf, Pair, Unary, empty}
 use Rattle.cpl.specs.ReadPlan.{h0, h1, h2}
-use Rattle.cpl.proofs.Accepted.{Accepted, distinct-fields, few-fields}
+use Rattle.cpl.proofs.Accepted.{Accepted, distinct-fields}
 use Rattle.cpl.proofs.Clash.{no-clash}
 use Rattle.rules.specs.Mask.{Mask}
 use Rattle.required_indices.specs.Request.{flagOf}
@@ -22,9 +22,11 @@ use Rattle.tree.specs.Tree.{Arrays, PartsOk, headOf, lent, planAt, rightOf}
 use Rattle.tree.specs.declared.Node.{Node}
 use Rattle.tree.specs.declared.Node.the-variants.{Empty}
 use Rattle.tree.proofs.Plans.{taken}
-use Rattle.lookup.specs.Fields.{fieldAt, fieldsAt, rowAt, widthAt}
+use Rattle.lookup.specs.Fields.{rowAt, widthAt}
 use Rattle.lookup.proofs.Lists.{list-length}
+use Rattle.lookup.proofs.Standing.{fields-clear, fields-few, row-is}
 use Rattle.requests.specs.Asked.{Below}
+use Rattle.requests.proofs.Rows.{row-below}
 use Rattle.jobs.specs.Asked.{Asked}
 use Rattle.jobs.specs.Job.{AtNode, LeafJob, NoProjection, OneIs, OneJob, Posed, PosedTwo, TwoJob}
 use Rattle.jobs.specs.declared.Job.{Job}
@@ -50,22 +52,9 @@ module _ {cells rows fields widths : List ℕ} {node : Node} {k : ℕ} {r : Requ
   abbrev arrays : Arrays
   arrays = lent cells rows (q .nodes)
 
-  -- the fields of node j, and those of its row
+  -- the fields of node j
   abbrev fieldsN : ℕ → List Pair
   fieldsN j = fieldsOf C (planAt arrays j)
-
-  row-is : (j : ℕ) {w : ℕ} → j < count → w ≡ widthAt widths j → rowAt fields j w ≡ fieldsN j
-  unfolding fieldsAt
-  row-is j l e = ap (rowAt fields j) e ∙ q .standing .stand j l
-
-  few-at : (j : ℕ) → j < count → length (fieldsN j) ≤ maxFields
-  few-at j l = few-fields C (planAt arrays j) (q .standing .accepted j l)
-
-  row-below : (j : ℕ) {w : ℕ} → j < count → w ≡ widthAt widths j → Below fields j w
-  row-below j {w} l e =
-      let long : w ≡ length (fieldsN j) = sym (list-length (fieldAt fields) one (j * 128) w) ∙ ap length (row-is j l e) in
-      let few = few-at j l in
-      record { inside = omega (arith, q .standing .fields-long, q .standing .tree .few); few = omega arith }
 
   -- ── the node ──────────────────────────────────────────────────────────────────────────────
 
@@ -90,7 +79,7 @@ module _ {cells rows fields widths : List ℕ} {node : Node} {k : ℕ} {r : Requ
     leaf-fields = ap (fieldsOf C) leaf-plan
 
     pub leaf-few : length (leafFields C h) ≤ maxFields
-    leaf-few = subst (λ x. length x ≤ maxFields) leaf-fields (few-at k (q .within))
+    leaf-few = subst (λ x. length x ≤ maxFields) leaf-fields (fields-few (q .standing) k (q .within))
 
     pub leaf-at : {j : Job} → LeafJob h r j → AtNode C arrays count k node (flagOf r) (q .R) j (j .todo)
     leaf-at {j} o =
@@ -120,14 +109,14 @@ module _ {cells rows fields widths : List ℕ} {node : Node} {k : ℕ} {r : Requ
 
     module _ {w : ℕ} (ew : w ≡ widthAt widths (k + 1)) where
       pub one-below : Below fields (k + 1) w
-      one-below = row-below (k + 1) (one-input .below) ew
+      one-below = row-below (q .standing) (k + 1) (one-input .below) ew
 
       pub one-posed : Posed (rowAt fields (k + 1) w) (unaryFields h (rowAt fields (k + 1) w)) r (q .R)
       one-posed =
-          subst (λ fs. Posed fs (unaryFields h fs) r (q .R)) (sym (row-is (k + 1) (one-input .below) ew))
+          subst (λ fs. Posed fs (unaryFields h fs) r (q .R)) (sym (row-is (q .standing) (k + 1) (one-input .below) ew))
           (record {
-            clear = no-clash (distinct-fields C (planAt arrays (k + 1)) (q .standing .accepted (k + 1) (one-input .below)));
-            few = subst (λ x. length x ≤ maxFields) one-fields (few-at k (q .within));
+            clear = fields-clear (q .standing) (k + 1) (one-input .below);
+            few = subst (λ x. length x ≤ maxFields) one-fields (fields-few (q .standing) k (q .within));
             fit = subst (λ x. Fit (q .R) x) one-fields (q .fit);
             asks = q .asks;
           })
@@ -135,7 +124,7 @@ module _ {cells rows fields widths : List ℕ} {node : Node} {k : ℕ} {r : Requ
       pub one-at : {j : Job} → NoProjection h → OneJob h (rowAt fields (k + 1) w) r j → AtNode C arrays count k node (flagOf r) (q .R) j (j .todo)
       one-at {j} o job =
           by-todo C arrays node (flagOf r) (q .R) j (ap (headOf arrays) e ∙ p) one-input o (j .todo)
-          (subst (λ fs. OneIs C h fs (flagOf r) (q .R) j (j .todo)) (row-is (k + 1) (one-input .below) ew) (job .is C (q .R) one-posed))
+          (subst (λ fs. OneIs C h fs (flagOf r) (q .R) j (j .todo)) (row-is (q .standing) (k + 1) (one-input .below) ew) (job .is C (q .R) one-posed))
 
   -- ── two inputs ────────────────────────────────────────────────────────────────────────────
 
@@ -168,13 +157,13 @@ module _ {cells rows fields widths : List ℕ} {node : Node} {k : ℕ} {r : Requ
 
     module _ {w v : ℕ} (ew : w ≡ widthAt widths (k + 1)) (ev : v ≡ widthAt widths right) where
       pub left-row : Below fields (k + 1) w
-      left-row = row-below (k + 1) left-below ew
+      left-row = row-below (q .standing) (k + 1) left-below ew
 
       pub right-row : Below fields right v
-      right-row = row-below right (two-inputs .below) ev
+      right-row = row-below (q .standing) right (two-inputs .below) ev
 
       pub two-posed : PosedTwo h (rowAt fields (k + 1) w) (rowAt fields right v) r (q .R)
-      two-posed = rw (row-is (k + 1) left-below ew, row-is right (two-inputs .below) ev) both
+      two-posed = rw (row-is (q .standing) (k + 1) left-below ew, row-is (q .standing) right (two-inputs .below) ev) both
 
       pub two-at : {j : Job} → TwoJob h (rowAt fields (k + 1) w) (rowAt fields right v) r right j → AtNode C arrays count k node (flagOf r) (q .R) j (j .todo)
       two-at {j} job =
@@ -183,5 +172,5 @@ module _ {cells rows fields widths : List ℕ} {node : Node} {k : ℕ} {r : Requ
             h = h;
             head = ap (headOf arrays) e ∙ p;
             inputs = two-inputs;
-            job = rw (row-is (k + 1) left-below ew, row-is right (two-inputs .below) ev) at (job .is (q .R) two-posed);
+            job = rw (row-is (q .standing) (k + 1) left-below ew, row-is (q .standing) right (two-inputs .below) ev) at (job .is (q .R) two-posed);
           })

@@ -18,7 +18,7 @@ ghost use Rattle.arena.specs.Rows.{itemsAt, RowsOk};
 ghost use Rattle.tree.specs.Node.{joinIs};
 ghost use Rattle.tree.specs.Rows.{AggOk, AllAt, EachOk, KeyOk, OnOk, WinOk, aggsAt, keysAt, onsAt, winSize, winsAt};
 ghost use Rattle.tree.specs.Tree.{if?};
-ghost use Rattle.lookup.specs.Fields.{rowAt, widthAt};
+ghost use Rattle.lookup.specs.Fields.{rowAt};
 ghost use Rattle.requests.specs.Asked.{Below, RootsOk, rootsAt};
 ghost use Rattle.jobs.specs.Asked.{Asked, KindIs};
 ghost use Rattle.jobs.specs.Job.{JobAt, Joinable, Joined, KeptOf, LeafJob, Leftover, OneJob, Posed, PosedTwo, Sided, Through, TwoJob};
@@ -382,16 +382,6 @@ fn empty_job(r: RequiredIndices, n: usize) -> Job
     }
 }
 
-/// How many fields node `k` has; 0 past the last node.
-pub fn width_at(widths: &[u64], k: usize) -> usize
-    ensures { λ r. ⌜ r ≡ widthAt (now (widths .entry)) k ⌝ }
-{
-    if k < widths.len() {
-        return widths[k] as usize;
-    }
-    0
-}
-
 /// The job of a node that is no Projection: `node` is node `k` of an accepted plan, asked with `r`. Rust: the arms of `optimize_projections`.
 pub fn job_at(
     node: Node,
@@ -406,7 +396,7 @@ pub fn job_at(
     ensures { λ j. ⌜ JobAt (now (cells .entry)) (now (rows .entry)) (now (fields .entry)) (now (widths .entry)) node k r j ⌝ }
 {
     let i = k + 1;
-    let w = width_at(widths, i);
+    let w = lookup::width_at(widths, i);
     match node {
         Node::Projection { first: _, n: _ } => limit_job(r),
         Node::Filter { root } => filter_job(r, root, cells, fields, i, w),
@@ -421,7 +411,16 @@ pub fn job_at(
         Node::SubqueryAlias { qualifier: _ } => alias_job(r),
         Node::Union { right } => union_job(r, right),
         Node::Distinct => distinct_job(r, fields, i, w),
-        Node::Join(j) => join_job(r, j, cells, rows, fields, i, w, width_at(widths, j.right)),
+        Node::Join(j) => join_job(
+            r,
+            j,
+            cells,
+            rows,
+            fields,
+            i,
+            w,
+            lookup::width_at(widths, j.right),
+        ),
         Node::Scan(_) => scan_job(r),
         Node::Empty {
             one_row: _,

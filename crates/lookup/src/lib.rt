@@ -1,4 +1,4 @@
-//! The fields of nodes in lent arrays: lookup, known columns, clashes, and rows that are filled.
+//! The fields of nodes in lent arrays: how many there are, lookup, known columns, clashes, and rows that are filled.
 //!
 //! Field j is two numbers of `fields`, its qualifier and its name, at 2 * j. Node k's fields are those from 128 * k on.
 ghost use mathlib.Core.Bool.{Bool, false};
@@ -14,7 +14,7 @@ ghost use Rattle.cpl.specs.Plan.{pair};
 ghost use Rattle.cpl.specs.Tests.{anyB};
 ghost use Rattle.lookup.specs.Answers.{placeOf};
 ghost use Rattle.lookup.specs.Marks.{Marked, Marks, slotOf, slots};
-ghost use Rattle.lookup.specs.Fields.{fieldAt, Filled, Kept, leftRow, pairOf, rightRow, rowAt, RowIn, SidesIn};
+ghost use Rattle.lookup.specs.Fields.{fieldAt, Filled, Kept, leftRow, pairOf, rightRow, rowAt, RowIn, SidesIn, widthAt};
 use arena::View;
 
 /// A field: a qualifier, 0 for none, and a name.
@@ -58,6 +58,16 @@ pub fn put_field(fields: &mut [u16], j: usize, f: Field)
     let at = j * 2;
     fields[at] = f.qualifier;
     fields[at + 1] = f.name;
+}
+
+/// How many fields node `k` has; 0 past the last node.
+pub fn width_at(widths: &[u64], k: usize) -> usize
+    ensures { λ r. ⌜ r ≡ widthAt (now (widths .entry)) k ⌝ }
+{
+    if k < widths.len() {
+        return widths[k] as usize;
+    }
+    0
 }
 
 /// The place of a column among the first `width` fields of node `k`, which lie in the array.

@@ -1,11 +1,11 @@
--- Rows of small plans, by computation: each operator once, and three stories of the pass.
+-- Rows of small plans, by computation: each operator, function, node and join type once, and three stories of the pass.
 use mathlib.Core.Path.{_≡_, refl}
 use mathlib.Core.List.{[], _∷_, map}
 use mathlib.Core.Bool.{true, false}
 use mathlib.Core.Option.{none, some}
 use Prim.Native.Nat.{ℕ}
-use lib.IntN.{pos}
-use Rattle.cpl.specs.Plan.{Pair, pair, o-not, o-missing, o-add, o-eq, o-lt, o-and, o-or, Expr, col, lit, miss, un, bin, bare, named, key, f-sum, f-min, rows, over, agg, win, JoinType, j-inner, j-right, j-full, j-lanti, j-rsemi, on, scan, projection, filter, sort, limit, aggregate, window, distinct, union, join, Plan, leaf, unary, binary, Catalogue}
+use lib.IntN.{pos, negsuc}
+use Rattle.cpl.specs.Plan.{Pair, pair, o-not, o-missing, o-add, o-sub, o-mul, o-eq, o-lt, o-and, o-or, Expr, col, lit, miss, un, bin, bare, named, key, f-count, f-sum, f-min, f-max, rows, over, agg, win, JoinType, j-inner, j-left, j-right, j-full, j-lsemi, j-lanti, j-rsemi, j-ranti, on, scan, empty, projection, filter, sort, limit, aggregate, window, subqueryAlias, distinct, union, join, Plan, leaf, unary, binary, Catalogue}
 use Rattle.rules.specs.Mask.{Mask}
 use Rattle.rules.specs.Merge.{mergeStep}
 use Rattle.rules.specs.Rewrite.{Walked, rewrite}
@@ -41,6 +41,9 @@ x = pair 0 7
 abbrev y : Pair
 y = pair 0 8
 
+abbrev z : Pair
+z = pair 0 9
+
 abbrev S : Plan
 S = leaf (scan 0 1 none)
 
@@ -52,7 +55,7 @@ AB = leaf (scan 0 1 (some (0 ∷ 1 ∷ [])))
 abbrev J : JoinType → Plan
 J t = binary (join t (on (col a) (col (pair 2 4)) ∷ []) none) AB (leaf (scan 1 2 none))
 
--- ── each operator ───────────────────────────────────────────────────────────────────────────
+-- ── each operator, function, node and join type ─────────────────────────────────────────────
 
 abbrev one : Expr
 one = lit (pos 1)
@@ -60,50 +63,105 @@ one = lit (pos 1)
 abbrev nought : Expr
 nought = lit (pos 0)
 
+abbrev two : Expr
+two = lit (pos 2)
+
+abbrev three : Expr
+three = lit (pos 3)
+
 record Rows : Type 0 where
+  -- 2 + 3, 2 - 3, 2 * 3, and with a missing operand
+  counted : evalAll [] [] (bin o-add two three ∷ bin o-sub two three ∷ bin o-mul two three ∷ bin o-add two miss ∷ bin o-sub miss two ∷ bin o-mul miss miss ∷ []) ≡ n 5 ∷ num (negsuc 0) ∷ n 6 ∷ missing ∷ missing ∷ missing ∷ []
+  -- 2 = 2, 2 = 3; 2 < 3, 3 < 2, 2 < missing; not 0, not 3; is-missing 0
+  compared : evalAll [] [] (bin o-eq two two ∷ bin o-eq two three ∷ bin o-lt two three ∷ bin o-lt three two ∷ bin o-lt two miss ∷ un o-not nought ∷ un o-not three ∷ un o-missing nought ∷ []) ≡ n 1 ∷ n 0 ∷ n 1 ∷ n 0 ∷ missing ∷ n 1 ∷ n 0 ∷ n 0 ∷ []
   -- 0 and missing, 5 and missing, 5 and 1; 5 or missing, 0 or missing, 0 or 0
   three-valued : evalAll [] [] (bin o-and nought miss ∷ bin o-and (lit (pos 5)) miss ∷ bin o-and (lit (pos 5)) one ∷ bin o-or (lit (pos 5)) miss ∷ bin o-or nought miss ∷ bin o-or nought nought ∷ [])
       ≡ n 0 ∷ missing ∷ n 1 ∷ n 1 ∷ missing ∷ n 0 ∷ []
   -- missing = missing, not missing, is-missing missing
   with-missing : evalAll [] [] (bin o-eq miss miss ∷ un o-not miss ∷ un o-missing miss ∷ []) ≡ missing ∷ missing ∷ n 1 ∷ []
+  -- a scan's columns, in the order in which it names them
+  scanned : meaning C D (leaf (scan 1 2 (some (1 ∷ 0 ∷ [])))) ≡ (n 70 ∷ n 1 ∷ []) ∷ (n 80 ∷ n 9 ∷ []) ∷ (n 90 ∷ n 1 ∷ []) ∷ []
+  -- an Empty with a row, and one without
+  one-row : meaning C D (leaf (empty true (a ∷ b ∷ []))) ≡ (missing ∷ missing ∷ []) ∷ []
+  no-row : meaning C D (leaf (empty false (a ∷ b ∷ []))) ≡ []
+  projected : meaning C D (unary (projection (named x (bin o-add (col b) one) ∷ bare a ∷ [])) AB) ≡ (n 31 ∷ n 1 ∷ []) ∷ (missing ∷ n 2 ∷ []) ∷ (n 11 ∷ n 1 ∷ []) ∷ (n 6 ∷ missing ∷ []) ∷ []
+  -- under a new qualifier
+  aliased : meaning C D (unary (filter (un o-missing (col (pair 9 1)))) (unary (subqueryAlias 9) AB)) ≡ (missing ∷ n 5 ∷ []) ∷ []
   filtered : meaning C D (unary (filter (bin o-lt (col b) (lit (pos 20)))) AB) ≡ (n 1 ∷ n 10 ∷ []) ∷ (missing ∷ n 5 ∷ []) ∷ []
-  -- descending, missing first; and ascending, where missings come last and equal keys stay in order
+  -- the four flags: descending, missing first; descending, missing last; ascending, missing first; ascending, missing last, where equal keys stay in order
   sorted : meaning C D (unary (sort (key true true (col b) ∷ [])) AB) ≡ (n 2 ∷ missing ∷ []) ∷ (n 1 ∷ n 30 ∷ []) ∷ (n 1 ∷ n 10 ∷ []) ∷ (missing ∷ n 5 ∷ []) ∷ []
+  descending : meaning C D (unary (sort (key true false (col b) ∷ [])) AB) ≡ (n 1 ∷ n 30 ∷ []) ∷ (n 1 ∷ n 10 ∷ []) ∷ (missing ∷ n 5 ∷ []) ∷ (n 2 ∷ missing ∷ []) ∷ []
+  ascending : meaning C D (unary (sort (key false true (col b) ∷ [])) AB) ≡ (n 2 ∷ missing ∷ []) ∷ (missing ∷ n 5 ∷ []) ∷ (n 1 ∷ n 10 ∷ []) ∷ (n 1 ∷ n 30 ∷ []) ∷ []
   stable : meaning C D (unary (sort (key false false (col a) ∷ [])) AB) ≡ (n 1 ∷ n 30 ∷ []) ∷ (n 1 ∷ n 10 ∷ []) ∷ (n 2 ∷ missing ∷ []) ∷ (missing ∷ n 5 ∷ []) ∷ []
+  -- the second key decides where the first does not
+  two-keys : meaning C D (unary (sort (key false false (col a) ∷ key false false (col b) ∷ [])) AB) ≡ (n 1 ∷ n 10 ∷ []) ∷ (n 1 ∷ n 30 ∷ []) ∷ (n 2 ∷ missing ∷ []) ∷ (missing ∷ n 5 ∷ []) ∷ []
   paged : meaning C D (unary (limit 1 (some 2)) AB) ≡ (n 2 ∷ missing ∷ []) ∷ (n 1 ∷ n 10 ∷ []) ∷ []
+  -- sum and number of rows; then number of present values, least and greatest
   grouped : meaning C D (unary (aggregate (bare a ∷ []) (agg x (over f-sum (col b)) ∷ agg y rows ∷ [])) AB) ≡ (n 1 ∷ n 40 ∷ n 2 ∷ []) ∷ (n 2 ∷ missing ∷ n 1 ∷ []) ∷ (missing ∷ n 5 ∷ n 1 ∷ []) ∷ []
+  measured : meaning C D (unary (aggregate (bare a ∷ []) (agg x (over f-count (col b)) ∷ agg y (over f-min (col b)) ∷ agg z (over f-max (col b)) ∷ [])) AB) ≡ (n 1 ∷ n 2 ∷ n 10 ∷ n 30 ∷ []) ∷ (n 2 ∷ n 0 ∷ missing ∷ missing ∷ []) ∷ (missing ∷ n 1 ∷ n 5 ∷ n 5 ∷ []) ∷ []
   -- no groups over no rows: one row
   ungrouped : meaning C D (unary (aggregate [] (agg x (over f-min (col b)) ∷ agg y rows ∷ [])) (unary (limit 9 none) AB)) ≡ (missing ∷ n 0 ∷ []) ∷ []
   -- the sum over the partition, beside each row
   covered : meaning C D (unary (window (win x (over f-sum (col b)) (col a ∷ []) [] ∷ [])) AB) ≡ (n 1 ∷ n 30 ∷ n 40 ∷ []) ∷ (n 2 ∷ missing ∷ missing ∷ []) ∷ (n 1 ∷ n 10 ∷ n 40 ∷ []) ∷ (missing ∷ n 5 ∷ n 5 ∷ []) ∷ []
+  -- the row number by b within a
+  numbered : meaning C D (unary (window (win x rows (col a ∷ []) (key false false (col b) ∷ []) ∷ [])) AB) ≡ (n 1 ∷ n 30 ∷ n 2 ∷ []) ∷ (n 2 ∷ missing ∷ n 1 ∷ []) ∷ (n 1 ∷ n 10 ∷ n 1 ∷ []) ∷ (missing ∷ n 5 ∷ n 1 ∷ []) ∷ []
+  -- number of present values, least and greatest over the partition
+  spread : meaning C D (unary (window (win x (over f-count (col b)) (col a ∷ []) [] ∷ win y (over f-min (col b)) (col a ∷ []) [] ∷ win z (over f-max (col b)) (col a ∷ []) [] ∷ [])) AB)
+      ≡ (n 1 ∷ n 30 ∷ n 2 ∷ n 10 ∷ n 30 ∷ []) ∷ (n 2 ∷ missing ∷ n 0 ∷ missing ∷ missing ∷ []) ∷ (n 1 ∷ n 10 ∷ n 2 ∷ n 10 ∷ n 30 ∷ []) ∷ (missing ∷ n 5 ∷ n 1 ∷ n 5 ∷ n 5 ∷ []) ∷ []
+  -- the first input's rows, then the second's
+  appended : meaning C D (binary union (unary (limit 3 none) AB) (leaf (scan 1 2 none))) ≡ (missing ∷ n 5 ∷ []) ∷ (n 1 ∷ n 70 ∷ []) ∷ (n 9 ∷ n 80 ∷ []) ∷ (n 1 ∷ n 90 ∷ []) ∷ []
   unique : meaning C D (unary distinct (unary (projection (bare a ∷ [])) (binary union AB AB))) ≡ (n 1 ∷ []) ∷ (n 2 ∷ []) ∷ (missing ∷ []) ∷ []
   inner : meaning C D (J j-inner) ≡ (n 1 ∷ n 30 ∷ n 1 ∷ n 70 ∷ []) ∷ (n 1 ∷ n 30 ∷ n 1 ∷ n 90 ∷ []) ∷ (n 1 ∷ n 10 ∷ n 1 ∷ n 70 ∷ []) ∷ (n 1 ∷ n 10 ∷ n 1 ∷ n 90 ∷ []) ∷ []
+  left : meaning C D (J j-left)
+      ≡ (n 1 ∷ n 30 ∷ n 1 ∷ n 70 ∷ []) ∷ (n 1 ∷ n 30 ∷ n 1 ∷ n 90 ∷ []) ∷ (n 2 ∷ missing ∷ missing ∷ missing ∷ []) ∷ (n 1 ∷ n 10 ∷ n 1 ∷ n 70 ∷ []) ∷ (n 1 ∷ n 10 ∷ n 1 ∷ n 90 ∷ []) ∷ (missing ∷ n 5 ∷ missing ∷ missing ∷ []) ∷ []
   right : meaning C D (J j-right)
       ≡ (n 1 ∷ n 30 ∷ n 1 ∷ n 70 ∷ []) ∷ (n 1 ∷ n 10 ∷ n 1 ∷ n 70 ∷ []) ∷ (missing ∷ missing ∷ n 9 ∷ n 80 ∷ []) ∷ (n 1 ∷ n 30 ∷ n 1 ∷ n 90 ∷ []) ∷ (n 1 ∷ n 10 ∷ n 1 ∷ n 90 ∷ []) ∷ []
   full : meaning C D (J j-full)
       ≡ (n 1 ∷ n 30 ∷ n 1 ∷ n 70 ∷ []) ∷ (n 1 ∷ n 30 ∷ n 1 ∷ n 90 ∷ []) ∷ (n 2 ∷ missing ∷ missing ∷ missing ∷ []) ∷ (n 1 ∷ n 10 ∷ n 1 ∷ n 70 ∷ []) ∷ (n 1 ∷ n 10 ∷ n 1 ∷ n 90 ∷ []) ∷ (missing ∷ n 5 ∷ missing ∷ missing ∷ []) ∷ (missing ∷ missing ∷ n 9 ∷ n 80 ∷ []) ∷ []
-  anti : meaning C D (J j-lanti) ≡ (n 2 ∷ missing ∷ []) ∷ (missing ∷ n 5 ∷ []) ∷ []
-  semi : meaning C D (J j-rsemi) ≡ (n 1 ∷ n 70 ∷ []) ∷ (n 1 ∷ n 90 ∷ []) ∷ []
+  left-semi : meaning C D (J j-lsemi) ≡ (n 1 ∷ n 30 ∷ []) ∷ (n 1 ∷ n 10 ∷ []) ∷ []
+  left-anti : meaning C D (J j-lanti) ≡ (n 2 ∷ missing ∷ []) ∷ (missing ∷ n 5 ∷ []) ∷ []
+  right-semi : meaning C D (J j-rsemi) ≡ (n 1 ∷ n 70 ∷ []) ∷ (n 1 ∷ n 90 ∷ []) ∷ []
+  right-anti : meaning C D (J j-ranti) ≡ (n 9 ∷ n 80 ∷ []) ∷ []
+  -- with a condition on both sides and no pairs
+  conditioned : meaning C D (binary (join j-inner [] (some (bin o-lt (bin o-add (col b) (lit (pos 65))) (col (pair 2 5))))) AB (leaf (scan 1 2 none))) ≡ (n 1 ∷ n 10 ∷ n 9 ∷ n 80 ∷ []) ∷ (n 1 ∷ n 10 ∷ n 1 ∷ n 90 ∷ []) ∷ (missing ∷ n 5 ∷ n 9 ∷ n 80 ∷ []) ∷ (missing ∷ n 5 ∷ n 1 ∷ n 90 ∷ []) ∷ []
 
 all-rows : Rows
 unfolding meaning-computes
 all-rows =
     record {
+      counted = refl;
+      compared = refl;
       three-valued = refl;
       with-missing = refl;
+      scanned = refl;
+      one-row = refl;
+      no-row = refl;
+      projected = refl;
+      aliased = refl;
       filtered = refl;
       sorted = refl;
+      descending = refl;
+      ascending = refl;
       stable = refl;
+      two-keys = refl;
       paged = refl;
       grouped = refl;
+      measured = refl;
       ungrouped = refl;
       covered = refl;
+      numbered = refl;
+      spread = refl;
+      appended = refl;
       unique = refl;
       inner = refl;
+      left = refl;
       right = refl;
       full = refl;
-      anti = refl;
-      semi = refl;
+      left-semi = refl;
+      left-anti = refl;
+      right-semi = refl;
+      right-anti = refl;
+      conditioned = refl;
     }
 
 -- ── three stories of the pass ───────────────────────────────────────────────────────────────

@@ -14,8 +14,6 @@ use Rattle.cpl.specs.Fields.{fieldsOf}
 use Rattle.cpl.specs.Lists.{Fit}
 use Rattle.cpl.specs.Plan.{Catalogue, Item, Pair, Plan, bare, named, itemExpr, itemPair}
 use Rattle.cpl.specs.Tests.{allB, sumOf}
-use Rattle.cpl.proofs.Accepted.{distinct-fields, few-fields}
-use Rattle.cpl.proofs.Clash.{no-clash}
 use Rattle.cpl.proofs.Lists.{Fit-length, Fit-map}
 use Rattle.rules.specs.Mask.{Mask, select}
 use Rattle.rules.specs.Rules.{overChild, projectionJob, used}
@@ -28,12 +26,10 @@ use Rattle.arena.specs.Kept.{Kept}
 use Rattle.arena.proofs.Kept.{kept-refl}
 use Rattle.arena.proofs.Same.{items-length}
 use Rattle.arena_build.specs.Lists.{nodesOf}
-use Rattle.tree.specs.Rows.{one}
 use Rattle.tree.specs.Tree.{Arrays, lent, planAt}
-use Rattle.lookup.specs.Fields.{fieldAt, fieldsAt, rowAt, widthAt}
+use Rattle.lookup.specs.Fields.{rowAt, widthAt}
 use Rattle.lookup.specs.Standing.{Standing}
-use Rattle.lookup.proofs.Lists.{list-length}
-use Rattle.requests.specs.Asked.{Below}
+use Rattle.lookup.proofs.Standing.{fields-clear, row-in, row-is, row-long}
 use Rattle.result.specs.Result.{Results}
 use Rattle.result.specs.Records.{Grown, WfResults, results}
 use Rattle.result.proofs.Grow.{wf-grown, wf-more}
@@ -54,25 +50,11 @@ use Rattle.optimize_projections.specs.declared.Settings.{Settings}
 use Rattle.optimize_projections.proofs.Ends.{based, child-nodes, child-tags, grown-refl, more-refl, over-walk}
 use Rattle.optimize_projections.proofs.Inputs.{narrowed, node-good, node-kept}
 
--- ── the fields of a node, in their row ──────────────────────────────────────────────────────
+-- ── a request of some fields of a node ──────────────────────────────────────────────────────
 
 module _ {cells rows nodes fields widths : List ℕ} (z : Standing cells rows nodes fields widths) (j : ℕ) (l : j < z .count) where
-  pub row-is : rowAt fields j (widthAt widths j) ≡ fieldsOf (z .C) (planAt (lent cells rows nodes) j)
-  unfolding fieldsAt
-  row-is = z .stand j l
-
-  pub row-long : widthAt widths j ≡ length (fieldsOf (z .C) (planAt (lent cells rows nodes) j))
-  row-long = sym (list-length (fieldAt fields) one (j * 128) (widthAt widths j)) ∙ ap length row-is
-
-  pub row-below : Below fields j (widthAt widths j)
-  row-below = let f = few-fields (z .C) (planAt (lent cells rows nodes) j) (z .accepted j l) in record { inside = omega (arith, z .fields-long, z .tree .few, row-long); few = omega (arith, row-long) }
-
-  row-clear : T (not (clash (rowAt fields j (widthAt widths j))))
-  row-clear = subst⁻¹ (λ (fs : List Pair). T (not (clash fs))) row-is (no-clash (distinct-fields (z .C) (planAt (lent cells rows nodes) j) (z .accepted j l)))
-
-  -- a request of some of them
   pub fields-in : {r : RequiredIndices} {R : Mask} → Asks r R → length R ≡ length (fieldsOf (z .C) (planAt (lent cells rows nodes) j)) → FieldsIn fields j (widthAt widths j) r
-  fields-in {r} x e = record { inside = row-below .inside; within = subst (λ (n : ℕ). setOf r < 2 ^ n) (e ∙ sym row-long) (x .within) }
+  fields-in {r} x e = record { inside = row-in z j l refl; within = subst (λ (n : ℕ). setOf r < 2 ^ n) (e ∙ sym (row-long z j l refl)) (x .within) }
 
 -- ── a request of items of the list ──────────────────────────────────────────────────────────
 
@@ -189,8 +171,8 @@ module _ {cells rows nodes fields widths arows acells sr items icells : List ℕ
 
     pub asks-q : Asks (c .ask) Q
     asks-q =
-        subst (λ (gs : List Pair). Asks (c .ask) (used (map itemExpr (select (b .R) (pendingItems l rows cells arows acells))) gs)) (row-is (b .standing) k (b .within))
-        (subst (λ (ks : List Item). Asks (c .ask) (used (map itemExpr ks) (rowAt fields k (widthAt widths k)))) kept-is (q .asks (row-clear (b .standing) k (b .within))))
+        subst (λ (gs : List Pair). Asks (c .ask) (used (map itemExpr (select (b .R) (pendingItems l rows cells arows acells))) gs)) (row-is (b .standing) k (b .within) refl)
+        (subst (λ (ks : List Item). Asks (c .ask) (used (map itemExpr ks) (rowAt fields k (widthAt widths k)))) kept-is (q .asks (subst⁻¹ (λ (gs : List Pair). T (not (clash gs))) (row-is (b .standing) k (b .within) refl) (fields-clear (b .standing) k (b .within)))))
 
     module _ (fine : c .large ≡ false) where
       pub chosen : SelectionIs (select (b .R) (pendingItems l rows cells arows acells)) u items icells items₁ icells₁ (c .used) (c .list)
@@ -270,7 +252,7 @@ module _ {cells rows nodes fields widths arows acells sr items icells : List ℕ
           → ListIs (b .standing .C) (lent cells rows nodes) (b .standing .count) (results sr₂ items₂ icells₂) (n .rows) (n .cells) fields (l .top) (widthAt widths (l .top)) k (widthAt widths k)
           (pendingItems l rows cells arows acells) (select (b .R) (pendingItems l rows cells arows acells)) t
       list-is b rec n y selection.Columns d =
-          record { bare = d .0; node = b .top; fields-are = b .pairs; row = row-is (b .standing) (l .top) (b .top); input-row = row-is (b .standing) k (b .within) }
+          record { bare = d .0; node = b .top; fields-are = b .pairs; row = row-is (b .standing) (l .top) (b .top) refl; input-row = row-is (b .standing) k (b .within) refl }
       list-is b rec n y (selection.Items row m) d =
           let ks : List Item = select (b .R) (pendingItems l rows cells arows acells) in
           let long : length (pendingItems l rows cells arows acells) ≡ l .n = items-length (side (l .scratch) arows rows) (side (l .scratch) acells cells) (l .first) (l .n) in

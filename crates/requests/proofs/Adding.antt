@@ -18,11 +18,12 @@ use Rattle.cpl.proofs.Clash.{Clear, n[], _n∷_, clear, differ}
 use Rattle.cpl.proofs.Lists.{map-cong, map-congA}
 use Rattle.cpl.proofs.Pairs.{eqP-eq, eqP-refl}
 use Rattle.rules.specs.Mask.{Mask, orM}
+use Rattle.rules.specs.Mask as mask
 use Rattle.rules.specs.Request.{maskOf}
 use Rattle.rules.specs.Rules.{plus, used}
 use Rattle.required_indices.specs.Request.{Asks, Holds, flagOf, setOf, wordsN}
 use Rattle.required_indices.specs.declared.RequiredIndices.{RequiredIndices}
-use Rattle.required_indices.proofs.Methods.{index-asks}
+use Rattle.required_indices.proofs.Methods.{index-asks, new-asks}
 use Rattle.requests.specs.Asked.{Adds}
 
 -- ── masks ───────────────────────────────────────────────────────────────────────────────────
@@ -223,3 +224,16 @@ module _ (all : List Expr) {fs : List Pair} {r : RequiredIndices} where
 
   pub toward-all : {cur : RequiredIndices} {es : List Expr} → es ≡ [] → Toward all fs r es cur → Adds all fs r cur
   toward-all {cur} e t = t cur (subst (λ x. Adds x fs cur cur) (sym e) adds-none)
+
+-- ── columns alone ───────────────────────────────────────────────────────────────────────────
+
+plus-zeros : (es : List Expr) (fs : List Pair) → plus es fs (mask.zeros fs) ≡ used es fs
+unfolding plus used mask.zeros orM
+plus-zeros es [] = refl
+plus-zeros es (f ∷ fs) = ap (usesAny es f ∷_) (plus-zeros es fs)
+
+-- added to a request of nothing
+pub adds-alone : (es : List Expr) (fs : List Pair) {nothing out : RequiredIndices} → Holds nothing 0 false → Adds es fs nothing out → T (not (clash fs))
+    → Asks out (used es fs)
+unfolding mask.zeros
+adds-alone es fs {out = out} h a c = subst (Asks out) (plus-zeros es fs) (a .asks (mask.zeros fs) c (length-map fs (λ x. false)) (new-asks fs h))

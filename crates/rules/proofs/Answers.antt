@@ -93,10 +93,5 @@ buffered mode mask file request out = deliver-buffered (verdict mode mask file r
 
 -- ── conforming answers ──────────────────────────────────────────────────────────────────────
 
--- an answer conforms where code, length, place and every byte of the buffer are those of the definition
-abbrev pub Conforms : (mode mask : ℕ) (file : List ℕ) (request : ℕ → List ℕ) (out : List ℕ) → Answer → Type 0
-Conforms mode mask file request out a = a ≡ reply mode mask file request out
-
--- "that two conforming results coincide is proved"
-pub coincide : (mode mask : ℕ) (file : List ℕ) (request : ℕ → List ℕ) (out : List ℕ) (a b : Answer) → Conforms mode mask file request out a → Conforms mode mask file request out b → a ≡ b
-coincide mode mask file request out a b h k = h ∙ sym k
+-- "that two conforming results coincide is proved" over the contracts of the entries: `coincide` in pruner/proofs/Entries, of an answer as three
+-- numbers in simmerroof/proofs/Numbers.

@@ -1,24 +1,21 @@
 -- The ways to end of the steps of the walk. Assumes nothing.
-use mathlib.Core.Path.{_≡_, refl, sym, ap, subst, _∙_}
+use mathlib.Core.Path.{_≡_, refl, sym, subst, _∙_}
 use mathlib.Core.Bool.{Bool, true, false, not}
-use mathlib.Core.List.{List, [], _∷_, map}
+use mathlib.Core.List.{List, map}
 use Prim.Native.Nat.{ℕ, _+_, _≤_}
 use native.Mathlib.Omega.{arith}
 use lib.Dec.{T}
-use lib.ListN.{length-map}
 use Rattle.cpl.specs.Accept.{clash}
-use Rattle.cpl.specs.Exprs.{usesAny}
-use Rattle.cpl.specs.Plan.{Expr, Item, Pair, itemExpr}
+use Rattle.cpl.specs.Plan.{Item, Pair, itemExpr}
 use Rattle.cpl.specs.Tests.{allB}
-use Rattle.rules.specs.Mask.{orM}
 use Rattle.rules.specs.Mask as mask
-use Rattle.rules.specs.Rules.{plus, used}
+use Rattle.rules.specs.Rules.{used}
 use Rattle.required_indices.specs.Request.{Asks, Holds}
 use Rattle.required_indices.specs.declared.RequiredIndices.{RequiredIndices}
-use Rattle.required_indices.proofs.Methods.{new-asks}
 use Rattle.arena.proofs.Laws.{wf-fits}
 use Rattle.arena_build.specs.Lists.{ListRefused}
 use Rattle.requests.specs.Asked.{Adds}
+use Rattle.requests.proofs.Adding.{adds-alone}
 use Rattle.merge.specs.Step as merge
 use Rattle.jobs.specs.declared.Job.{Job}
 use Rattle.jobs.specs.declared.Todo.{Todo}
@@ -53,12 +50,6 @@ merge-room o b = record { few = o .few; rows-long = omega (arith, o .few, b .row
 
 -- ── kept items ──────────────────────────────────────────────────────────────────────────────
 
--- columns alone
-plus-zeros : (es : List Expr) (fs : List Pair) → plus es fs (mask.zeros fs) ≡ used es fs
-unfolding plus used mask.zeros orM
-plus-zeros es [] = refl
-plus-zeros es (f ∷ fs) = ap (usesAny es f ∷_) (plus-zeros es fs)
-
 -- the rows in use stay below the nodes in use, so their number fits
 pub rows-fit : (js : List Item) {row n : ℕ} {rows cells : List ℕ} {used more : ℕ} {rows′ cells′ : List ℕ} → Room rows cells row used
     → Copies js row n rows cells used more rows′ cells′ → row + n ≤ 65536
@@ -67,8 +58,7 @@ rows-fit js {cells′ = cells′} r d = omega (arith, d .behind, wf-fits cells�
 module _ (js : List Item) (fs : List Pair) {none ask : RequiredIndices} (h : Holds none 0 false) (a : Adds (map itemExpr js) fs none ask) where
   -- what the items ask of the input
   asks-used : T (not (clash fs)) → Asks ask (used (map itemExpr js) fs)
-  unfolding mask.zeros
-  asks-used c = subst (Asks ask) (plus-zeros (map itemExpr js) fs) (a .asks (mask.zeros fs) c (length-map fs (λ x. false)) (new-asks fs h))
+  asks-used c = adds-alone (map itemExpr js) fs h a c
 
   abbrev chosen : Bool → Selection → Used → Chosen
   chosen large list u = record { ask = ask; large = large; list = list; used = u }

@@ -16,7 +16,6 @@ ghost use lib.ListN.{length, take};
 ghost use Rattle.cpl.specs.Bytes.{planBytes};
 ghost use Rattle.cpl.specs.Codes.{joinNumber};
 ghost use Rattle.cpl.specs.Exprs.{planTags};
-ghost use Rattle.lookup.specs.Fields.{widthAt};
 ghost use Rattle.result.specs.Records.{recordAt};
 ghost use Rattle.result.specs.Result.{recordN};
 ghost use Rattle.tree.specs.Node.{joinIs};
@@ -333,15 +332,6 @@ enum Inputs {
     Over { first: usize, second: Second },
 }
 
-fn width_at(widths: &[u64], k: usize) -> usize
-    ensures { λ r. ⌜ r ≡ widthAt (now (widths .entry)) k ⌝ }
-{
-    if k < widths.len() {
-        return widths[k] as usize;
-    }
-    0
-}
-
 // The head of record `i`: of the node that it keeps, the columns of an old node's fields, items, the one-row Empty with no fields.
 fn shape_at(nodes: &[u64], widths: &[u64], records: &[u64], i: usize) -> Shape
     requires { ⌜ i * recordN + recordN ≤ length (now records) ⌝ }
@@ -354,14 +344,14 @@ fn shape_at(nodes: &[u64], widths: &[u64], records: &[u64], i: usize) -> Shape
             old,
             first: _,
             second: _,
-        } => shape_of(tree::node_at(nodes, old), width_at(widths, old)),
+        } => shape_of(tree::node_at(nodes, old), lookup::width_at(widths, old)),
         Record::Columns { old, first: _ } => plain(
             1,
             1,
             Segment::List {
                 part: Part::Field,
                 first: old * 128,
-                n: width_at(widths, old),
+                n: lookup::width_at(widths, old),
                 all: false,
             },
         ),

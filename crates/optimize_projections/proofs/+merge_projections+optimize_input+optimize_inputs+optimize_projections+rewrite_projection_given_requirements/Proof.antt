@@ -5,7 +5,8 @@ use Rattle.optimize_projections.proofs.Ends.{scratch-kept}
 use Rattle.optimize_projections.proofs.Inputs.{first-before, first-too-large, leaf-after, nothing-after, one-after, one-before, right-above, same-after, same-before, second-before, topped-after, two-after}
 use Rattle.optimize_projections.proofs.Nodes.{inputs-before, inputs-left, node-after, other-asked}
 use Rattle.optimize_projections.proofs.Merges.{down-after, down-before, file-list, load-after, lower-rows, other-after, over-large, stop-after}
-use Rattle.optimize_projections.proofs.Lists.{copies-large, input-before, list-fields, put-after, request-within, row-below, top-fields}
+use Rattle.optimize_projections.proofs.Lists.{copies-large, input-before, list-fields, put-after, request-within, top-fields}
+use Rattle.requests.proofs.Rows.{row-below}
 use Prim.Native.Nat.{ℕ, _+_, _*_, _-_, _<_, _≤_}
 use native.Mathlib.Omega.{arith}
 use borrow.Author.Needs.{needs}
@@ -28,7 +29,7 @@ use Rattle.optimize_projections.proofs.rewrite_projection_given_require
 use Rattle.optimize_projections.proofs.+merge_projections+optimize_input+optimize_inputs+optimize_projections+rewrite_projection_given_requirements.Lts-rewrite_projection_given_requirements as rewrite-projection-given-requirements-lts
 use Rattle.jobs.proofs.job_at.Reads as job-at-reads
 use Rattle.jobs.proofs.kind_of.Reads as kind-of-reads
-use Rattle.jobs.proofs.width_at.Reads as width-at-reads
+use Rattle.lookup.proofs.width_at.Reads as width-at-reads
 use Rattle.optimize_projections.proofs.no_input.Reads as no-input-reads
 use Rattle.optimize_projections.proofs.one_input.Reads as one-input-reads
 use Rattle.optimize_projections.proofs.two_inputs.Reads as two-inputs-reads
@@ -616,7 +617,7 @@ rewrite-projection-given-requirements-width-at-requires : (t : ℕ) → rewrite-
 rewrite-projection-given-requirements-width-at-requires t c κs = search needs
 
 rewrite-projection-given-requirements-get-at-indices-requires : (t : ℕ) → rewrite-projection-given-requirements-lts.Need-get-at-indices-requires (rewrite-projection-given-requirements-calls t) (rewrite-projection-given-requirements-at t) rewrite-projection-given-requirements.Post
-rewrite-projection-given-requirements-get-at-indices-requires t c κs = (c .before .before .before .before .before .before .before .before .before .before .before .before .before .before .before .before .before .pre .1 .0 .list, (request-within (c .before .before .before .before .before .before .before .before .before .before .before .before .before .before .before .before .before .pre .1 .0), (rw (c .before .before .before .before .width-at .ensures) (row-below (c .before .before .before .before .before .before .before .before .before .before .before .before .before .before .before .before .before .pre .1 .0 .standing) _ (c .before .before .before .before .before .before .before .before .before .before .before .before .before .before .before .before .before .pre .1 .0 .within)), c .before .before .before .before .before .before .before .before .before .before .before .before .before .before .before .before .before .pre .1 .0 .ready .room)))
+rewrite-projection-given-requirements-get-at-indices-requires t c κs = (c .before .before .before .before .before .before .before .before .before .before .before .before .before .before .before .before .before .pre .1 .0 .list, (request-within (c .before .before .before .before .before .before .before .before .before .before .before .before .before .before .before .before .before .pre .1 .0), (row-below (c .before .before .before .before .before .before .before .before .before .before .before .before .before .before .before .before .before .pre .1 .0 .standing) _ (c .before .before .before .before .before .before .before .before .before .before .before .before .before .before .before .before .before .pre .1 .0 .within) (c .before .before .before .before .width-at .ensures), c .before .before .before .before .before .before .before .before .before .before .before .before .before .before .before .before .before .pre .1 .0 .ready .room)))
 
 rewrite-projection-given-requirements-same-length : (t : ℕ) → rewrite-projection-given-requirements-lts.Need-same-length (rewrite-projection-given-requirements-calls t) (rewrite-projection-given-requirements-at t) rewrite-projection-given-requirements.Post
 rewrite-projection-given-requirements-same-length t c = search needs

@@ -1,9 +1,9 @@
--- `jobs::width_at` meets its contract. Assumes nothing.
+-- `lookup::width_at` meets its contract. Assumes nothing.
 use borrow.Author.Needs.{needs}
 use mathlib.Core.Path.{sym}
 use lib.ListN.{List·getD-eq-default}
-use Rattle.jobs.proofs.width_at.Statement.{statement}
-use Rattle.jobs.proofs.width_at.Tie as tie
+use Rattle.lookup.proofs.width_at.Statement.{statement}
+use Rattle.lookup.proofs.width_at.Tie as tie
 
 mul-result : tie.Need-mul-result
 mul-result c = search needs
