@@ -1,9 +1,9 @@
 /* Simmerroof: column pruning for query plans.
  *
- * Link target/staticlib/libpruner.a, which `rt staticlib pruner` proves and writes (x86-64 Linux).
+ * Link target/staticlib/libsimmerroof.a, which `rt staticlib simmerroof` proves and writes (x86-64 Linux).
  *
  * A plan file and a request go in; a plan file comes out whose scans read only the columns that are needed. The file's
- * form, the rules and the codes are those of the project's document 01; README.md has a worked example.
+ * form is in docs/FORMAT.md, with a worked example byte by byte; examples/ has two small programs.
  */
 #ifndef SIMMERROOF_H
 #define SIMMERROOF_H
@@ -15,8 +15,8 @@
 extern "C" {
 #endif
 
-/* Modes. House mode loses no row and no value. Crate mode gives what the Rust crate datafusion-optimizer 55.0.0 gives;
- * it folds two equal projections into one, which can change values. */
+/* Modes. House mode loses no row and no value. Crate mode gives what the Rust crate datafusion-optimizer 55.0.0 gives, up
+ * to what docs/DIFFERENCES.md lists; it folds two equal projections into one, which can change values. */
 #define SIMMERROOF_CRATE 0
 #define SIMMERROOF_HOUSE 1
 

@@ -1,29 +1,27 @@
 #!/usr/bin/env python3
-"""tools/run_vectors.py [FOLDER]: runs all stored vectors and says how many differ. Before it: rt check replay prune
+"""tools/run_vectors.py [FOLDER]: runs all stored vectors and says how many differ; the status is 1 if one does.
 
-FOLDER (../shared/vectors) has library.txt and program.txt, in the form that its README.md says. The first goes through the program `replay`
-in parts that it can hold, each line of the second through the program `prune`, and so do the program's own cases at the 65,536th byte below.
-Not part of the gate, which replays the choice in crates/replay/stdin. RUN in the environment stands before a program's name, as an emulator.
+FOLDER (../shared/vectors) has the files of the table FILES below, in the form that its README.md says; adding a file is adding a
+row. The programs are proved and built where that is needed (tools/build) and run on either processor (tools/run). Not part of the
+gate, which replays the choice in crates/replay/stdin.
 """
-import os
 import subprocess
 import sys
 from pathlib import Path
 
-ROOT = Path(__file__).resolve().parent.parent
+TOOLS = Path(__file__).resolve().parent
 PART = 524287  # what replay reads, less one
 
 
 def run(program, given):
-    words = os.environ.get('RUN', '').split() + [str(ROOT / 'target/bin' / program)]
-    done = subprocess.run(words, input=given, stdout=subprocess.PIPE)
+    done = subprocess.run([str(TOOLS / 'run'), program], input=given, stdout=subprocess.PIPE)
     if done.returncode:
         sys.exit(f'{program} ended with status {done.returncode}')
     return done.stdout.decode()
 
 
 def parts(lines):
-    """The lines in parts that replay can hold, each with the number of its first line."""
+    """The lines in parts that a program like replay can hold, each with the number of its first line."""
     first, part, size = 1, [], 0
     for at, line in enumerate(lines, 1):
         if size + len(line) + 1 > PART:
@@ -35,40 +33,69 @@ def parts(lines):
         yield first, part
 
 
-def library(path):
+def replayed(path, program):
+    """Many lines in one run: the program says `vectors N`, `code C: N` for those that are the same, `differ N`, and `line AT ...` for each
+    that differs, the lines of its input counted from 1."""
     lines = path.read_text().split('\n')[:-1]
     count = differ = 0
-    codes = [0] * 14
+    codes = {}
     for first, part in parts(lines):
-        for said in run('replay', ('\n'.join(part) + '\n').encode()).split('\n')[:-1]:
+        for said in run(program, ('\n'.join(part) + '\n').encode()).split('\n')[:-1]:
             words = said.split(' ')
             if words[0] == 'vectors':
                 count += int(words[1])
             elif words[0] == 'differ':
                 differ += int(words[1])
             elif words[0] == 'code':
-                codes[int(words[1][:-1])] += int(words[2])
+                code = int(words[1].rstrip(':'))
+                codes[code] = codes.get(code, 0) + int(words[2])
             elif words[0] == 'line':
                 at = first + int(words[1]) - 1
-                wanted = ' '.join(lines[at - 1].split(' ')[6:9])
+                wanted = ' '.join(lines[at - 1].partition(' => ')[2].split(' ')[:-1])
                 print(f'{path.name} line {at}', *words[2:], f'(wanted {wanted})')
             else:
-                sys.exit('replay: ' + said)
+                sys.exit(f'{program}: {said}')
     if count != len(lines):
-        sys.exit(f'{count} of {len(lines)} lines were run')
-    print(f'{path.name}: {count} vectors, {differ} differ; the same by code', *codes)
+        sys.exit(f'{path.name}: {count} of {len(lines)} lines were run')
+    same = ', '.join(f'{code}: {n}' for code, n in sorted(codes.items()))
+    print(f'{path.name}: {count} vectors, {differ} differ; the same by code {same}')
     return differ
 
 
-def stored(path):
-    for line in path.read_text().split('\n')[:-1]:
-        given, wanted = line.split(' => ')
-        yield bytes.fromhex('' if given == '-' else given), wanted.replace('|', '\n')
+def one_by_one(path, program):
+    """Each line in a run of its own: `stdin => stdout`, bytes in hex, newlines as |."""
+
+    def stored():
+        for line in path.read_text().split('\n')[:-1]:
+            given, wanted = line.split(' => ')
+            yield bytes.fromhex('' if given == '-' else given), wanted.replace('|', '\n')
+
+    return compared(path.name, program, stored())
+
+
+def compared(name, program, vectors):
+    count = differ = 0
+    for given, wanted in vectors:
+        count += 1
+        wrote = run(program, given)
+        if wrote != wanted:
+            differ += 1
+            print(f'{name} line {count} differs: {wrote!r} (wanted {wanted!r})')
+    print(f'{name}: {count} vectors, {differ} differ')
+    return differ
+
+
+# the file, the program that runs it, and how
+FILES = [
+    ('library.txt', 'replay', replayed),
+    ('program.txt', 'prune', one_by_one),
+    ('check.txt', 'replay', replayed),
+]
 
 
 def own():
-    """Made by hand: missing settings, and plans around 65,536 bytes. An aggregate of 128 row counts has 3 + 640 bytes and no tags. Its own input
-    is asked for nothing, so that it becomes the one-row Empty."""
+    """Of the program `prune`, made by hand: missing settings, and plans around 65,536 bytes. An aggregate of 128 row counts has 3 + 640 bytes
+    and no tags. Its own input is asked for nothing, so that it becomes the one-row Empty."""
     settings, marks = bytes(3), b'CPL\x01\x00\x00'
     s1 = bytes.fromhex('43504C0100 01 03 0100 0200 0300 01 01 00 0100 0100 0B 00 0100 00')
 
@@ -91,23 +118,18 @@ def own():
     yield settings + most + rows(128) + b'\x0c\x00\x00', 'REFUSED 3 65536\n'  # cut at a function
 
 
-def program(name, vectors):
-    count = differ = 0
-    for given, wanted in vectors:
-        count += 1
-        wrote = run('prune', given)
-        if wrote != wanted:
-            differ += 1
-            print(f'{name} line {count} differs: {wrote!r} (wanted {wanted!r})')
-    print(f'{name}: {count} vectors, {differ} differ')
-    return differ
-
-
 def main():
-    folder = Path(sys.argv[1]) if len(sys.argv) > 1 else ROOT.parent / 'shared/vectors'
-    differ = library(folder / 'library.txt')
-    differ += program('program.txt', stored(folder / 'program.txt'))
-    differ += program('own cases', own())
+    folder = Path(sys.argv[1]) if len(sys.argv) > 1 else TOOLS.parent.parent / 'shared/vectors'
+    missing = [name for name, _, _ in FILES if not (folder / name).is_file()]
+    if len(sys.argv) > 2 or missing:
+        print('usage: tools/run_vectors.py [FOLDER]', *[f'{folder} has no {name}' for name in missing], sep='\n', file=sys.stderr)
+        sys.exit(2)
+    programs = sorted({program for _, program, _ in FILES})
+    if subprocess.run([str(TOOLS / 'build'), 'program', *programs]).returncode:
+        sys.exit(3)
+    differ = sum(how(folder / name, program) for name, program, how in FILES)
+    differ += compared('own cases', 'prune', own())
+    print('failed' if differ else 'passed')
     sys.exit(1 if differ else 0)
 
 

@@ -1,7 +1,8 @@
-//! The four forms that are measured. Crate mode, mask 0, all fields.
-use crate::sets::Set;
-use simmerroof::{Mode, Pruner, prune_all};
+//! The four forms that are measured. Mask 0, all fields.
+use crate::sets::{Set, in_the_rust};
+use simmerroof::{Pruner, prune_all};
 use std::hint::black_box;
+use std::mem::forget;
 use std::time::Instant;
 
 pub const FORMS: [Which; 4] = [Which::Pass, Which::Rust, Which::Lent, Which::Plain];
@@ -13,6 +14,8 @@ pub enum Which {
     Rust,
     Lent,
     Plain,
+    /// reading alone, only counted: it is taken off what the pass costs together with it
+    Read,
 }
 
 pub struct Form<'a> {
@@ -23,20 +26,17 @@ pub struct Form<'a> {
     out: Vec<u8>,
 }
 
-/// What callgrind counts: it collects while this function runs.
-#[unsafe(no_mangle)]
-#[inline(never)]
-pub extern "C" fn bench_measured(work: &mut Work) {
-    black_box((work.0)());
-}
-pub struct Work<'a>(&'a mut dyn FnMut() -> usize);
-
 const OUT: usize = 1 << 16;
 
 impl<'a> Form<'a> {
     pub fn new(which: Which, set: &'a Set) -> Self {
         rig::set_mask(0);
         Form { which, set, pruner: Pruner::new(), out: vec![0; OUT] }
+    }
+
+    /// Does this form have the set's mode?
+    pub fn applies(&self) -> bool {
+        matches!(self.which, Which::Lent | Which::Plain) || in_the_rust(self.set.mode)
     }
 
     /// Nanoseconds a call, over the set's files and as many repetitions as make a run of some milliseconds.
@@ -71,7 +71,7 @@ impl<'a> Form<'a> {
 
     fn call(&mut self, file: &[u8]) -> usize {
         match self.which {
-            Which::Pass => unreachable!("timed by itself"),
+            Which::Pass | Which::Read => unreachable!("by itself"),
             Which::Rust => {
                 let rig::File { head, plan } = rig::read(file).expect("accepted");
                 self.out.clear();
@@ -79,33 +79,23 @@ impl<'a> Form<'a> {
                 rig::write_plan(&mut self.out, &rig::pass(plan).expect("rewritten"));
                 self.out.len()
             }
-            Which::Lent => self.pruner.prune_all(Mode::Crate, 0, file, &mut self.out).expect("accepted"),
-            Which::Plain => prune_all(Mode::Crate, 0, file, &mut self.out).expect("accepted"),
+            Which::Lent => self.pruner.prune_all(self.set.mode, 0, file, &mut self.out).expect("accepted"),
+            Which::Plain => prune_all(self.set.mode, 0, file, &mut self.out).expect("accepted"),
         }
     }
 
-    /// One counted call on each file, after some that are not counted, so that memory has been handed out before.
-    pub fn once(&mut self) {
-        const BEFORE: usize = 20;
-        for file in &self.set.files.clone() {
-            for i in 0..=BEFORE {
-                let counted = i == BEFORE;
-                if let Which::Pass = self.which {
-                    let (mut plan, mut result) = (Some(rig::read(file).expect("accepted").plan), None);
-                    let mut work = || {
-                        result = plan.take().map(rig::pass);
-                        0
-                    };
-                    if counted {
-                        bench_measured(&mut Work(&mut work))
-                    } else {
-                        black_box(work());
-                    }
-                    black_box(result);
-                } else if counted {
-                    bench_measured(&mut Work(&mut || self.call(file)));
-                } else {
-                    self.call(file);
+    /// `calls` calls on each file, to be counted. Nobody drops what reading and the pass give.
+    pub fn counted(&mut self, calls: usize) {
+        let set = self.set;
+        for file in set.files.iter().flat_map(|file| std::iter::repeat_n(file, calls)) {
+            match self.which {
+                Which::Read => forget(black_box(rig::read(black_box(file)).expect("accepted").plan)),
+                Which::Pass => {
+                    let plan = black_box(rig::read(black_box(file)).expect("accepted").plan);
+                    forget(black_box(rig::pass(plan)).expect("rewritten"));
+                }
+                _ => {
+                    black_box(self.call(black_box(file)));
                 }
             }
         }

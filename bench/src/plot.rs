@@ -9,10 +9,10 @@ const TOP: f64 = 50.0;
 const WIDTH: f64 = 480.0;
 const HEIGHT: f64 = 320.0;
 
-/// Every set but the random one has a size of its own.
-pub fn svg(sets: &[Set], rows: &[[f64; 4]]) -> String {
-    let points: Vec<(f64, [f64; 4])> =
-        sets.iter().zip(rows).filter(|(s, _)| s.files.len() == 1).map(|(s, r)| (s.nodes as f64, *r)).collect();
+/// The sets that are of one form and differ in size.
+pub fn svg(sets: &[Set], rows: &[[Option<f64>; 4]]) -> String {
+    let point = |(s, r): (&Set, &[Option<f64>; 4])| (s.nodes as f64, r.map(|v| v.expect("every form is timed")));
+    let points: Vec<(f64, [f64; 4])> = sets.iter().zip(rows).filter(|(s, _)| s.plotted).map(point).collect();
     let all = points.iter().flat_map(|p| p.1);
     let low = all.clone().fold(f64::INFINITY, f64::min).log10().floor();
     let high = all.fold(0.0, f64::max).log10().ceil();

@@ -4,13 +4,13 @@ use crate::sets::Set;
 
 fn head(title: &str) {
     println!("\n{title}");
-    print!("{:18}", "");
+    print!("{:22}", "");
     NAMES.iter().for_each(|n| print!("{n:>23}"));
     println!("{:>12}{:>12}{:>12}", "lent/pass", "lent/codec", "plain/codec");
 }
 
 fn row(set: &Set, cells: [Option<f64>; 4]) {
-    print!("{:18}", set.name);
+    print!("{:22}", set.name);
     cells.iter().for_each(|c| print!("{:>23}", c.map_or("-".into(), |v| format!("{v:.0}"))));
     for (a, b) in [(2, 0), (2, 1), (3, 1)] {
         let ratio = cells[a].zip(cells[b]).map(|(x, y)| format!("{:.2}", x / y));
@@ -19,16 +19,19 @@ fn row(set: &Set, cells: [Option<f64>; 4]) {
     println!();
 }
 
-pub fn times(sets: &[Set], rows: &[[f64; 4]]) {
-    head("Nanoseconds a plan, best of alternating runs");
-    sets.iter().zip(rows).for_each(|(s, r)| row(s, r.map(Some)));
+pub fn times(sets: &[Set], rows: &[[Option<f64>; 4]]) {
+    head(&format!("Nanoseconds a plan, best of alternating runs; {}", std::env::consts::ARCH));
+    sets.iter().zip(rows).for_each(|(s, r)| row(s, *r));
 }
 
 pub fn instructions(sets: &[Set], rows: &[[Option<f64>; 4]]) {
-    head("Instructions a plan, by callgrind (- where valgrind is not there)");
+    let title =
+        "Instructions a plan, by callgrind, from the difference of two run lengths (- where valgrind is not there)";
+    head(&format!("{title}; {}", std::env::consts::ARCH));
     sets.iter().zip(rows).for_each(|(s, r)| row(s, *r));
     println!(
-        "\nCrate mode, mask 0, all fields; all built for release. No file is opened: plans and results are in memory.
+        "\nCrate mode unless house mode is named, which the Rust does not have; mask 0, all fields; all built for release. No file is
+opened: plans and results are in memory. `w columns`: 20 nodes over two tables of w columns, of which few are asked for.
 Rust, pass alone: from a plan in memory to a plan in memory; reading, writing and dropping the result do not count.
 Rust, with file codec: the oracle's own reading and writing count, and the dropping of both plans.
 library, lent form: reading and writing count; the working arrays are lent and nobody clears them between calls.

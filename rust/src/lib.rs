@@ -22,7 +22,7 @@ pub use refusal::{Kind, Refusal};
 /// Which rules decide.
 #[derive(Debug, Clone, Copy, PartialEq, Eq, Hash)]
 pub enum Mode {
-    /// What the Rust crate gives. It folds two equal projections into one, which can change values.
+    /// What the Rust crate gives, up to docs/DIFFERENCES.md. It folds two equal projections into one, which can change values.
     Crate = 0,
     /// Loses no row and no value.
     House = 1,

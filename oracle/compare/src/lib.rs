@@ -1,6 +1,8 @@
 //! The library's answer to a case, by both of its forms, and what a comparison with the texts shows.
+mod command;
 mod shrink;
 
+pub use command::{ended, numbers};
 pub use shrink::shrink;
 
 use generator::Case;
@@ -15,7 +17,8 @@ pub struct Library {
     lent: Vec<u8>,
 }
 
-const ROOM: usize = 1 << 17;
+/// The length of the output buffer, more than any result has here.
+pub const ROOM: usize = 1 << 17;
 const UNTOUCHED: u8 = 0xA5;
 
 impl Library {
@@ -24,18 +27,20 @@ impl Library {
         Library { slip, pruner: Pruner::new(), plain: vec![UNTOUCHED; ROOM], lent: vec![UNTOUCHED; ROOM] }
     }
 
-    /// Calls the plain and the lent form and holds them to each other, and to leaving the rest of the output alone.
     pub fn answer(&mut self, mode: Mode, case: &Case) -> Answer {
+        self.answer_in(mode, case, ROOM)
+    }
+
+    /// Calls the plain and the lent form with an output of `room` bytes and holds them to each other, and to leaving the rest
+    /// of the output alone.
+    pub fn answer_in(&mut self, mode: Mode, case: &Case, room: usize) -> Answer {
         let Case { mask, file, request } = case;
+        let (out, lent_out) = (&mut self.plain[..room], &mut self.lent[..room]);
         let (plain, lent) = match request {
-            Some(r) => (
-                simmerroof::prune(mode, *mask, file, r, &mut self.plain),
-                self.pruner.prune(mode, *mask, file, r, &mut self.lent),
-            ),
-            None => (
-                simmerroof::prune_all(mode, *mask, file, &mut self.plain),
-                self.pruner.prune_all(mode, *mask, file, &mut self.lent),
-            ),
+            Some(r) => {
+                (simmerroof::prune(mode, *mask, file, r, out), self.pruner.prune(mode, *mask, file, r, lent_out))
+            }
+            None => (simmerroof::prune_all(mode, *mask, file, out), self.pruner.prune_all(mode, *mask, file, lent_out)),
         };
         assert_eq!(plain, lent, "the plain and the lent form differ");
         let n = plain.unwrap_or(0);

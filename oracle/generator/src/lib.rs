@@ -9,4 +9,4 @@ mod sized;
 pub use cases::{Case, Mix, case};
 pub use lines::{hex, line, parse};
 pub use random::Random;
-pub use sized::{random_of, sized};
+pub use sized::{broad, random_of, sized};

@@ -85,6 +85,26 @@ pub fn sized(n: usize) -> Vec<u8> {
     write(&File { tables: vec![vec![1, 2, 3], vec![4, 5]], plan })
 }
 
+/// Twenty nodes over two tables of w columns: a projection to two columns over a limit, three times a sort, a filter and a
+/// limit, and a join of two sides with an alias, a filter, a sort and a scan each. Few columns are asked for.
+pub fn broad(w: u16) -> Vec<u8> {
+    let key = |e| vec![Key { flags: 0, expr: e }];
+    let side = |q: u16, first: u16| {
+        let sort = Plan::Sort(key(col(q, first + 1)), scan(q as u8 - 1, q));
+        Box::new(Plan::SubqueryAlias(q + 40, Box::new(Plan::Filter(equals(col(q, first), 3), Box::new(sort)))))
+    };
+    let join = Join { kind: 0, on: vec![(col(41, 1), col(42, 101))], condition: None };
+    let mut plan = Plan::Join(join, side(1, 1), side(2, 101));
+    for _ in 0..3 {
+        plan = Plan::Limit(0, 100, Box::new(plan));
+        plan = Plan::Filter(equals(col(41, 2), 8), Box::new(plan));
+        plan = Plan::Sort(key(col(42, 102)), Box::new(plan));
+    }
+    let items = vec![Item::column((41, 1)), Item::column((42, 102))];
+    let plan = Plan::Projection(items, Box::new(Plan::Limit(1, 50, Box::new(plan))));
+    write(&File { tables: vec![(1..=w).collect(), (101..=100 + w).collect()], plan })
+}
+
 /// `count` random plans of exactly n nodes, scans only, at least one column in each table.
 pub fn random_of(n: usize, count: usize, seed: u64) -> Vec<Vec<u8>> {
     let mut r = Random::new(seed);

@@ -1,13 +1,14 @@
-//! damage N SEED [slip]: N damaged files, requests and settings through the library and through the model of document 01, both
-//! modes; code, length, place and result compared. Says nothing about the Rust.
-use compare::Library;
-use generator::{Case, Mix, Random, case, line};
-use model::Fault;
+//! damage N SEED [slip]: N damaged files, requests, settings and output lengths through the library and through the model of
+//! document 01, both modes; code, length, place and result compared. Says nothing about the Rust. Exit status 1 if one differs.
+use compare::{Library, ROOM, ended, numbers};
+use generator::{Case, Mix, Random, case, hex, line};
+use model::{Fault, File, Join, Plan, fields, read, write};
 use simmerroof::Mode;
+use std::collections::BTreeMap;
 
 fn damage(r: &mut Random, case: &mut Case) {
     let n = case.file.len();
-    match r.below(8) {
+    match r.below(9) {
         0 => case.file.truncate(r.below(n + 1)),
         1 => case.file.push(r.below(256) as u8),
         2..=4 => {
@@ -24,6 +25,7 @@ fn damage(r: &mut Random, case: &mut Case) {
             let at = r.below(n);
             case.file.splice(at..at, part);
         }
+        7 => case.file = broadened(r, &case.file),
         _ => {
             let mut request = case.request.clone().unwrap_or_default();
             request.push(r.below(12) as u16);
@@ -34,36 +36,81 @@ fn damage(r: &mut Random, case: &mut Case) {
     }
 }
 
+/// The plan joined with an Empty, so that both have 126 to 131 fields together; beneath up to two more nodes.
+fn broadened(r: &mut Random, file: &[u8]) -> Vec<u8> {
+    let File { tables, plan } = read(file).expect("accepted");
+    let more = r.between(126, 131) - fields(&plan, &tables).len().min(126);
+    let empty = Plan::Empty { one_row: true, fields: (0..more.min(128)).map(|i| (99, 20000 + i as u16)).collect() };
+    let sides = if r.percent(50) { (plan, empty) } else { (empty, plan) };
+    let join = Join { kind: r.below(4) as u8, on: vec![], condition: None };
+    let mut plan = Plan::Join(join, Box::new(sides.0), Box::new(sides.1));
+    for _ in 0..r.below(3) {
+        plan = Plan::Distinct(Box::new(plan));
+    }
+    write(&File { tables, plan })
+}
+
+/// The length of the output: mostly more than enough, else the result's, one less, or less than most results have.
+fn room(r: &mut Random, result: &model::Answer) -> usize {
+    let length = result.as_ref().map_or(20, Vec::len);
+    match r.below(20) {
+        0 => length,
+        1 => length - 1,
+        2 => r.below(100),
+        _ => ROOM,
+    }
+}
+
+fn shown(answer: &model::Answer) -> String {
+    answer.as_ref().map_or_else(|f| format!("refuses: code {}, place {}", f.code, f.place), |bytes| hex(bytes))
+}
+
+/// Where two results part.
+fn first_difference(got: &model::Answer, want: &model::Answer) -> String {
+    let (Ok(got), Ok(want)) = (got, want) else { return "no bytes to compare: a refusal".into() };
+    let at = got.iter().zip(want).take_while(|(a, b)| a == b).count();
+    let byte = |bytes: &[u8]| bytes.get(at).map_or("the end".into(), |b| format!("{b:02x}"));
+    format!("first differing byte: {at}: library {}, model {}", byte(got), byte(want))
+}
+
 fn run(n: usize, seed: u64, slip: bool) -> bool {
     let mut r = Random::new(seed);
     let mix = Mix { wide: true, most_nodes: 256, most_bytes: 12000 };
     let mut library = Library::new(slip);
-    let mut codes = [0; 14];
+    let (mut codes, mut differ) = (BTreeMap::<u64, usize>::new(), 0);
     for _ in 0..n {
         let mut case = case(&mut r, mix);
         if r.percent(80) {
             damage(&mut r, &mut case);
         }
         let (mode, number) = *r.pick(&[(Mode::Crate, 0), (Mode::House, 1)]);
-        let got = library.answer(mode, &case);
-        let want = model::answer(number, case.mask, &case.file, case.request.as_deref(), 1 << 17);
+        let model = |room| model::answer(number, case.mask, &case.file, case.request.as_deref(), room);
+        let room = room(&mut r, &model(ROOM));
+        let want = model(room);
+        let got = library.answer_in(mode, &case, room);
         let got = got.map_err(|f| Fault { code: f.kind.code() as u64, place: f.place as u64 });
         if got != want {
-            println!("DIFFERS {}\n  library {got:x?}\n  model   {want:x?}", line(&case, number, 1 << 17));
-            return false;
+            differ += 1;
+            if differ <= 3 {
+                println!(
+                    "DIFFERS {}\n  library {}\n  model   {}",
+                    line(&case, number, room),
+                    shown(&got),
+                    shown(&want)
+                );
+                println!("  {}", first_difference(&got, &want));
+            }
         }
-        codes[got.map_or_else(|f| f.code, |_| 0) as usize] += 1;
+        *codes.entry(want.map_or_else(|f| f.code, |_| 0)).or_default() += 1;
     }
-    println!("{n} cases, seed {seed}: library and model agree; by code 0 to 13: {codes:?}");
-    true
+    let codes: Vec<String> = codes.iter().map(|(code, n)| format!("{code}: {n}")).collect();
+    println!("cases by code: {}", codes.join(", "));
+    let verdict = if differ == 0 { "passed" } else { "failed" };
+    println!("{verdict}: {n} cases, seed {seed}: library and model agree on {}, differ on {differ}", n - differ);
+    differ == 0
 }
 
 fn main() {
-    let words: Vec<String> = std::env::args().skip(1).collect();
-    let number = |i: usize| words.get(i).and_then(|w| w.parse::<u64>().ok()).expect("damage N SEED [slip]");
-    let (n, seed) = (number(0) as usize, number(1));
-    let slip = words.iter().any(|w| w == "slip");
-    if !tools::on_deep_stack(move || run(n, seed, slip)) {
-        std::process::exit(1);
-    }
+    let (n, seed, [slip]) = numbers("oracle/damage N SEED [slip]", ["slip"]);
+    ended(move || run(n, seed, slip));
 }

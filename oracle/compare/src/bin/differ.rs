@@ -1,6 +1,6 @@
 //! differ N SEED [wide] [slip]: N random accepted plans through the unchanged texts and through the library, crate mode, results
 //! compared byte by byte. Exit status 1 if a difference is not explained.
-use compare::{Library, Verdict, shrink, verdict};
+use compare::{Library, Verdict, ended, numbers, shrink, verdict};
 use generator::{Case, Mix, Random, case, hex, line};
 use model::{Plan, fields, nodes_in, read};
 use simmerroof::Mode;
@@ -89,16 +89,19 @@ fn run(n: usize, seed: u64, wide: bool, slip: bool) -> bool {
             Err(refusal) => println!("  library  refuses: code {}, {refusal}", refusal.kind.code()),
         }
     }
+    let verdict = if c.unexplained.is_empty() { "passed" } else { "failed" };
+    println!(
+        "{verdict}: {n} plans, seed {seed}: {} equal, {} stale schema, {} over the limits, {} unexplained",
+        c.equal,
+        c.stale.len(),
+        c.limit.len(),
+        c.unexplained.len()
+    );
     c.unexplained.is_empty()
 }
 
 fn main() {
-    let words: Vec<String> = std::env::args().skip(1).collect();
-    let number = |i: usize| words.get(i).and_then(|w| w.parse::<u64>().ok()).expect("differ N SEED [wide] [slip]");
-    let (n, seed) = (number(0) as usize, number(1));
-    let [wide, slip] = ["wide", "slip"].map(|word| words.iter().any(|w| w == word));
+    let (n, seed, [wide, slip]) = numbers("oracle/differ N SEED [wide] [slip]", ["wide", "slip"]);
     std::panic::set_hook(Box::new(|p| eprintln!("{p}")));
-    if !tools::on_deep_stack(move || run(n, seed, wide, slip)) {
-        std::process::exit(1);
-    }
+    ended(move || run(n, seed, wide, slip));
 }
