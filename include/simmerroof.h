@@ -82,6 +82,11 @@ void simmerroof_prune(uint8_t mode, uint16_t mask, const uint8_t *file, size_t f
 void simmerroof_prune_all(uint8_t mode, uint16_t mask, const uint8_t *file, size_t file_len, uint8_t *out,
                           size_t out_len, uint64_t answer[3]);
 
+/* Reading and checking alone, as the functions above do it before they look at the request: is the file an accepted plan
+ * file? answer[0] is the code (0, or 2 to 10), answer[1] the place; answer[2] is the plan's number of nodes and answer[3] the
+ * number of its root's fields, both 0 on a refusal. The working arrays, 1 MB, are on the stack: 4 MiB are enough. */
+void simmerroof_check(const uint8_t *file, size_t file_len, uint64_t answer[4]);
+
 /* ---- The lent form --------------------------------------------------------------------------------------------------
  * The same two with the working arrays lent: for callers that prune many plans, or have less stack. Keep one
  * `struct simmerroof_work` on the heap (1,410,336 bytes) and call the two `_with` functions. What the arrays held does

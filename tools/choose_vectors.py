@@ -1,16 +1,17 @@
 #!/usr/bin/env python3
-"""tools/choose_vectors.py [LIBRARY]: writes crates/replay/stdin and crates/replay/stdout.
+"""tools/choose_vectors.py [FOLDER]: writes crates/replay/stdin and crates/replay/stdout.
 
-The vectors that the gate replays: cases made by hand from document 01, then a choice of the lines of LIBRARY (../shared/vectors/library.txt), then the
-answers of the Rust's own texts (oracle/answers.txt, made by oracle/answers).
+The vectors that the gate replays: cases made by hand from document 01, then a choice of the lines of library.txt in FOLDER (../shared/vectors), then the
+answers of the Rust's own texts (oracle/answers.txt, made by oracle/answers), then a choice of the lines of check.txt.
 
-By hand. Each case below has the answer that document 01 gives, written down beside it, never computed by code of this project: a
+By hand. Each case below has the answer that document 01, and for `check` request 2 of document 02, gives, written down beside it, never computed by code of this project: a
 result is spelled out as bytes, a refusal as code and place. A file is a list of fields, so that an offset is the sum of the sizes before it.
 
 Choice. Lines are looked at short ones first, none over 3,000 characters. A line is taken where it has a trait of which fewer than the
 wanted number were taken. Traits: its code (12 of each, so all where there are fewer); the field at which it is refused (2); each node kind in
 the file and in the result of a success (6 each), join type, function, expression tag (3 each); a count at its limit; mode, mask and
-request with the code (2); no room to spare, or one byte too little (5 each).
+request with the code (2); no room to spare, or one byte too little (5 each). Of check.txt: its code (8); the field at which it is refused (1);
+each node kind in an accepted file and at a refusal (1); a count at its limit; the most and the fewest nodes and fields.
 """
 import sys
 from pathlib import Path
@@ -366,7 +367,39 @@ def acceptance():
     refused(8, 0, HEADER + filter_(col(1, 9)) + S, [1, 1])
 
 
-for make in (settings_and_marks, samples, requests, counts_of_fields, limits_of_a_file, large, values, cuts, acceptance):
+def checks():
+    """Of `check`: the number of nodes and of the root's fields, or a refusal with neither."""
+
+    def found(nodes, fields, file):
+        cases.append(f'{file.hex()} => 0 0 {nodes} {fields}')
+
+    def faulty(code, place, file):
+        cases.append(f'{file.hex() or "-"} => {code} {place} 0 0')
+
+    found(1, 3, HEADER + S)
+    found(2, 1, HEADER + projection(A) + S)  # the root's, not the scan's
+    found(2, 2, HEADER + projection(alias(*X, A), alias(*Y, A)) + scan([0]))
+    found(3, 2, HEADER + UNION + scan([0, 1]) + scan([2, 0]))
+    for kind, fields in enumerate((4, 4, 4, 4, 3, 3, 1, 1)):
+        found(3, fields, HEADER + join_on(kind) + S + scan([0], q=2))
+    found(256, 0, NO_TABLES + DISTINCT * 255 + empty())
+    found(1, 128, NO_TABLES + empty([pair(1, i + 1) for i in range(128)]))
+    faulty(2, 0, b'')
+    faulty(3, 5, MARK)
+    faulty(4, 7, MARK + u8(1) + u8(1) + u16(0))
+    faulty(5, 262, NO_TABLES + DISTINCT * 256 + empty())
+    faulty(6, 18, HEADER + S + b'\x00')
+    # reading before acceptance; children first, left before right; 8 beneath 9, 9 beneath 8
+    faulty(6, 24, HEADER + filter_(col(1, 9)) + S + b'\x00')
+    faulty(8, 1, HEADER + UNION + filter_(col(1, 9)) + S + scan([0]))
+    faulty(8, 2, HEADER + UNION + scan([0]) + filter_(col(1, 9)) + S)
+    faulty(9, 1, HEADER + filter_(col(1, 9)) + UNION + S + scan([0]))
+    faulty(9, 0, HEADER + UNION + S + scan([0]))
+    faulty(7, 1, HEADER + filter_(col(1, 9)) + scan([0, 0]))
+    faulty(10, 0, NO_TABLES + join_on(0) + empty([pair(1, i + 1) for i in range(128)]) + empty([pair(2, 1)]))
+
+
+for make in (settings_and_marks, samples, requests, counts_of_fields, limits_of_a_file, large, values, cuts, acceptance, checks):
     make()
 
 
@@ -517,7 +550,26 @@ def traits(line):
     return some
 
 
-def choose(lines):
+def check_traits(line):
+    file, _, code, place, nodes, fields = line.split(' ')
+    code, place, nodes, fields = int(code), int(place), int(nodes), int(fields)
+    some = {('code', code): 8}
+    walk = Walk(b'' if file == '-' else bytes.fromhex(file))
+    if 3 <= code <= 5:
+        some['refused at', code, walk.starts.get(place, 'nowhere')] = 1
+    if code >= 7:
+        some['at node', code, min(place, 3)] = 1
+    if code == 0:
+        some['nodes', nodes if nodes in (1, 255, 256) else 'some'] = 2
+        some['fields', fields if fields in (0, 1, 64, 127, 128) else 'some'] = 2
+    if code == 0 or code >= 7:
+        for t in walk.traits:
+            if t[0] in ('node', 'at its limit'):
+                some['file', code, t] = 1
+    return some
+
+
+def choose(lines, traits):
     taken, had = [], {}
     for line in sorted((l for l in lines if len(l) <= LONGEST), key=lambda l: (len(l), l)):
         some = traits(line)
@@ -529,17 +581,18 @@ def choose(lines):
 
 
 def main():
-    library = Path(sys.argv[1]) if len(sys.argv) > 1 else ROOT.parent / 'shared/vectors/library.txt'
-    chosen = choose(library.read_text().split('\n')[:-1])
+    folder = Path(sys.argv[1]) if len(sys.argv) > 1 else ROOT.parent / 'shared/vectors'
+    chosen = choose((folder / 'library.txt').read_text().split('\n')[:-1], traits)
     rust = (ROOT / 'oracle/answers.txt').read_text().split('\n')[:-1]
-    lines = cases + chosen + rust
+    checks = choose((folder / 'check.txt').read_text().split('\n')[:-1], check_traits)
+    lines = cases + chosen + rust + checks
     text = ''.join(line + '\n' for line in lines)
-    per_code = [sum(line.split(' ')[6] == str(code) for line in lines) for code in range(14)]
+    per_code = [sum(line.partition(' => ')[2].split(' ')[0] == str(code) for line in lines) for code in range(14)]
     crate = ROOT / 'crates/replay'
     (crate / 'stdin').write_text(text)
     summary = [f'vectors {len(lines)}'] + [f'code {code}: {n}' for code, n in enumerate(per_code)] + ['differ 0']
     (crate / 'stdout').write_text('\n'.join(summary) + '\n')
-    print(f'{len(cases)} by hand, {len(chosen)} chosen, {len(rust)} of the Rust, {len(text)} bytes; by code', per_code)
+    print(f'{len(cases)} by hand, {len(chosen)} chosen, {len(rust)} of the Rust, {len(checks)} of check, {len(text)} bytes; by code', per_code)
     if len(text) >= 524288:
         sys.exit('more than the program reads')
 

@@ -89,6 +89,7 @@ def compared(name, program, vectors):
 FILES = [
     ('library.txt', 'replay', replayed),
     ('program.txt', 'prune', one_by_one),
+    ('check.txt', 'replay', replayed),
 ]
 
 

@@ -131,3 +131,15 @@ pub fn prune(mode: u8, mask: u16, file: &[u8], request: Option<&[u16]>, out: &mu
     }
     answer
 }
+
+unsafe extern "C" {
+    fn simmerroof_check(file: *const u8, file_len: usize, answer: *mut [u64; 4]);
+}
+
+/// code, place, nodes, fields
+pub fn check(file: &[u8]) -> [u64; 4] {
+    let mut answer = [0; 4];
+    // SAFETY: as in `prune`
+    unsafe { simmerroof_check(file.as_ptr(), file.len(), &mut answer) }
+    answer
+}

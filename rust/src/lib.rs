@@ -28,15 +28,36 @@ pub enum Mode {
     House = 1,
 }
 
-fn result(answer: abi::Answer) -> Result<usize, Refusal> {
-    let [code, length, place] = answer;
+fn accepted(code: u64, place: u64) -> Result<(), Refusal> {
     match Kind::from_code(code) {
         None => {
             assert!(code == 0, "the library answered code {code}, which its contract rules out");
-            Ok(length as usize)
+            Ok(())
         }
         Some(kind) => Err(Refusal { kind, place: place as usize }),
     }
+}
+
+fn result([code, length, place]: abi::Answer) -> Result<usize, Refusal> {
+    accepted(code, place).map(|_| length as usize)
+}
+
+/// What an accepted plan file has.
+#[derive(Debug, Clone, Copy, PartialEq, Eq, Hash)]
+pub struct Shape {
+    /// The number of its nodes.
+    pub nodes: usize,
+    /// The number of its root's fields.
+    pub fields: usize,
+}
+
+/// Is this an accepted plan file? It is read and checked as [`prune`] does it before it looks at the request, so a refusal here
+/// ([`Kind::Mark`] to [`Kind::Fields`]) is what `prune` would answer, whatever the request.
+///
+/// The library keeps 1 MB of working arrays on the stack; 4 MiB of stack are enough for every file.
+pub fn check(file: &[u8]) -> Result<Shape, Refusal> {
+    let [code, place, nodes, fields] = abi::check(file);
+    accepted(code, place).map(|_| Shape { nodes: nodes as usize, fields: fields as usize })
 }
 
 /// Narrows the plan for the fields in `request`: indices of the root's fields, strictly increasing. Writes the result to

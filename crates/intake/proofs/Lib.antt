@@ -1,4 +1,3 @@
 -- Laws of intakes.
-pub mod Tables
 pub mod Ways
 pub mod All

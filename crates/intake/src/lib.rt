@@ -1,11 +1,10 @@
-//! intake: from the bytes of a plan file and a request to an accepted plan in the lent arrays and the set of fields asked for. Codes 2 to 11.
+//! intake: from the bytes of a plan file and a request to an accepted plan in the lent arrays and the set of fields asked for. Codes 2 to 11, of which
+//! `acceptance` gives those up to 10.
 ghost use mathlib.Core.Path.{_≡_};
 ghost use Prim.Native.Nat.{_≤_};
 ghost use lib.ListN.{length};
 ghost use Rattle.rules.specs.Request.{requestFault};
 ghost use Rattle.intake.specs.Intake.{wanted, AskIs, IntakeIs};
-use accept::Verdict;
-use reader::Read;
 use required_indices::RequiredIndices;
 
 /// What came of a file and a request: a code and a place (0 and 0 where nothing is refused), the offset of the plan, its number of nodes and
@@ -60,7 +59,7 @@ fn ask(all: bool, request: &[u16], width: usize, start: usize, count: usize) -> 
 }
 
 /// A file's plan, read into the lent arrays and accepted, and the set of fields asked for (`all` of them, or those of the list); or a refusal.
-/// The arrays are long enough for every plan file: see `reader::read_file` and `accept::accept_node`.
+/// The arrays are long enough for every plan file: see `acceptance::read_and_check`.
 pub fn take_in(
     file: &[u8],
     all: bool,
@@ -75,31 +74,10 @@ pub fn take_in(
     requires { ⌜ (12288 ≤ length (now cells)) × (409728 ≤ length (now rows)) × (1792 ≤ length (now nodes)) × (1040 ≤ length (now names)) × (65536 ≤ length (now fields)) × (256 ≤ length (now widths)) ⌝ }
     ensures { λ r. ⌜ IntakeIs (now (file .entry)) (wanted all (now (request .entry))) (now (cells .exit)) (now (rows .exit)) (now (nodes .exit)) (now (fields .exit)) (now (widths .exit)) r (r .code) ⌝ }
 {
-    let read = reader::read_file(file, cells, rows, nodes, names);
-    match read {
-        Read::Bad(code, place) => refuse(code, place),
-        Read::Done {
-            tables,
-            start,
-            nodes: count,
-            tags: _,
-            made: _,
-        } => {
-            let v = accept::accept_node(
-                cells,
-                rows,
-                nodes,
-                count,
-                names,
-                tables,
-                fields,
-                widths,
-                0,
-            );
-            match v {
-                Verdict::Bad(code, node) => refuse(code, node),
-                Verdict::Fine => ask(all, request, widths[0] as usize, start, count),
-            }
-        }
+    let read = acceptance::read_and_check(file, cells, rows, nodes, names, fields, widths);
+    let checked = read.checked;
+    if checked.code > 0 {
+        return refuse(checked.code, checked.place);
     }
+    ask(all, request, checked.fields, read.start, checked.nodes)
 }

@@ -1,18 +1,17 @@
 -- The text that the program of document 01 prints, byte by byte. "First line `PLAN` and the node count; then for each node its number, kind in small
 -- letters, field count. A refusal prints one line: `REFUSED`, code, place." A text is a list of the numbers of its letters.
 use mathlib.Core.List.{List, [], _∷_, _++_}
-use mathlib.Core.Option.{Option, none, some}
 use Prim.Native.Nat.{ℕ, zero, suc, _+_, _*_, _/_, _%_}
 use lib.Dec.{eqb, ltb}
 use lib.ListN.{length, getD, take, drop, replicate}
-use Rattle.cpl.specs.Accept.{Fault, fault, check}
 use Rattle.cpl.specs.Exprs.{planNodes}
 use Rattle.cpl.specs.Fields.{fieldsOf}
 use Rattle.cpl.specs.Plan.{Catalogue, Leaf, scan, empty, Unary, projection, filter, sort, limit, aggregate, window, subqueryAlias, distinct}
 use Rattle.cpl.specs.Plan.{Binary, union, join, Plan, leaf, unary, binary, Source}
-use Rattle.cpl.specs.Read.{Res, ok, bad, pick}
+use Rattle.cpl.specs.Read.{pick}
 use Rattle.cpl.specs.ReadPlan.{readFile}
 use Rattle.cpl.specs.Tests.{iota}
+use Rattle.rules.specs.Check.{Finding, accepted, faulty, finding}
 use Rattle.rules.specs.Answer.{Answer, Verdict, answerAll, narrowed, refused, verdict}
 
 -- ── numbers ─────────────────────────────────────────────────────────────────────────────────
@@ -94,19 +93,14 @@ refusedText code place = (82 ∷ 69 ∷ 70 ∷ 85 ∷ 83 ∷ 69 ∷ 68 ∷ 32 �
 
 -- ── files ───────────────────────────────────────────────────────────────────────────────────
 
--- a plan that was read, by its first fault
-unfoldable pub checkedText : Catalogue → Plan → Option Fault → List ℕ
-checkedText C p none = planText C p
-checkedText C p (some (fault code node)) = refusedText code node
-
--- a file, by what it reads as
-unfoldable pub readText : Res Source → List ℕ
-readText (ok s next tags nodes) = checkedText (s .catalogue) (s .plan) (check (s .catalogue) (s .plan) 0)
-readText (bad code place) = refusedText code place
+-- an accepted plan, or a refusal
+unfoldable pub findingText : Finding → List ℕ
+findingText (accepted C p) = planText C p
+findingText (faulty code place) = refusedText code place
 
 -- the listing of a plan file's plan, or of what is wrong with the file
 unfoldable pub listText : (file : List ℕ) → List ℕ
-listText file = readText (readFile file)
+listText file = findingText (finding (readFile file))
 
 -- ── the program ─────────────────────────────────────────────────────────────────────────────
 

@@ -9,8 +9,6 @@ ghost use lib.ListN.{drop, getD, length, take};
 ghost use Rattle.writer_parts.specs.Wrote.{Wrote};
 ghost use Rattle.listing.specs.Text.{countText, decimal, lineText, listText, maskIn, mostRead, printedText, programText, refusedText};
 ghost use Rattle.listing.specs.Lines.{Counts, Listable, Puts, lineAt, nodeText, span};
-use accept::Verdict;
-use reader::Read;
 use tree::Node;
 
 fn wide(x: usize) -> u64
@@ -144,33 +142,12 @@ pub fn list_in(
     ensures { λ r. ⌜ Wrote (listText (now (file .entry))) (now (text .entry)) r (now (text .exit)) ⌝ }
     ensures { λ r. ⌜ Counts r (now (text .exit)) ⌝ }
 {
-    let read = reader::read_file(file, cells, rows, nodes, names);
-    match read {
-        Read::Bad(code, place) => write_refused(text, code, place),
-        Read::Done {
-            tables,
-            start: _,
-            nodes: count,
-            tags: _,
-            made: _,
-        } => {
-            let v = accept::accept_node(
-                cells,
-                rows,
-                nodes,
-                count,
-                names,
-                tables,
-                fields,
-                widths,
-                0,
-            );
-            match v {
-                Verdict::Bad(code, node) => write_refused(text, code, node),
-                Verdict::Fine => write_listing(text, nodes, widths, count),
-            }
-        }
+    let read = acceptance::read_and_check(file, cells, rows, nodes, names, fields, widths);
+    let checked = read.checked;
+    if checked.code > 0 {
+        return write_refused(text, checked.code, checked.place);
     }
+    write_listing(text, nodes, widths, checked.nodes)
 }
 
 /// The listing of a plan file: a line for each node of its plan, or for what is wrong with the file; how many bytes of `text` it takes.

@@ -159,10 +159,10 @@ module _ {file : List ℕ} {start : ℕ} {cells rows nodes fields widths records
 module _ {file : List ℕ} {request : ℕ → List ℕ} {cells rows nodes fields widths : List ℕ} {t : Intake} where
   -- what the walk makes of the root
   abbrev pub rooted : Settings → Taken file request cells rows nodes fields widths t → Walked
-  rooted s q = walk (mergeBy s) (q .C) (planAt (lent cells rows nodes) 0) none (flagOf (t .set)) (asked q)
+  rooted s q = walk (mergeBy s) (q .plan .C) (planAt (lent cells rows nodes) 0) none (flagOf (t .set)) (asked q)
 
   as-ruled : {s : Settings} (mode mask : ℕ) → s .house ≡ eqb mode 1 → s .mask ≡ mask → (q : Taken file request cells rows nodes fields widths t)
-      → rooted s q ≡ rewrite (mergeOf mode mask) (q .C) (planAt (lent cells rows nodes) 0) (asked q)
+      → rooted s q ≡ rewrite (mergeOf mode mask) (q .plan .C) (planAt (lent cells rows nodes) 0) (asked q)
   unfolding mergeOf
   as-ruled mode mask e f q = rw (e, f, q .flag) refl
 
@@ -223,10 +223,10 @@ module _ (mode mask : ℕ) (file : List ℕ) (request : ℕ → List ℕ) where
     -- what the walk left is delivered
     module _ {cells rows nodes fields widths : List ℕ} {t : Intake} where
       pub answered : {s : Settings} {r : Answer} {out′ : List ℕ} (out : List ℕ) (q : Taken file request cells rows nodes fields widths t)
-          → s .house ≡ eqb mode 1 → s .mask ≡ mask → AnswerIs (deliver (finish (q .C) (rooted s q)) out) r out′
+          → s .house ≡ eqb mode 1 → s .mask ≡ mask → AnswerIs (deliver (finish (q .plan .C) (rooted s q)) out) r out′
           → AnswerIs (reply mode mask file request out) r out′
       unfolding mergeOf
       answered {s} {r} {out′} out q e f h =
           subst⁻¹ (λ a. AnswerIs a r out′)
           (judged-answer out
-          ∙ (ap (λ v. deliver v out) (q .rest (mergeOf mode mask)) ∙ ap (λ w. deliver (finish (q .C) w) out) (sym (as-ruled mode mask e f q)))) h
+          ∙ (ap (λ v. deliver v out) (q .rest (mergeOf mode mask)) ∙ ap (λ w. deliver (finish (q .plan .C) w) out) (sym (as-ruled mode mask e f q)))) h

@@ -43,5 +43,5 @@ module _ (file : List ℕ) (bytes : AreBytes file) (C : Catalogue) (p : Plan) {s
 
 -- of a file that was taken in
 pub taken-heads : {file : List ℕ} {request : ℕ → List ℕ} {cells rows nodes fields widths : List ℕ} {r : Intake} → AreBytes file
-    → (t : Taken file request cells rows nodes fields widths r) → Heads file (r .start) (t .C)
-taken-heads {file} b t = heads file b (t .C) _ (t .starts-at) (t .reads)
+    → (t : Taken file request cells rows nodes fields widths r) → Heads file (r .start) (t .plan .C)
+taken-heads {file} b t = heads file b (t .plan .C) _ (t .plan .starts-at) (t .plan .reads)

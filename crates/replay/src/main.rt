@@ -1,11 +1,13 @@
-//! replay: runs stored vectors through the public entries `prune` and `prune_all`, and writes which of them get another answer.
+//! replay: runs stored vectors through the public entries `prune`, `prune_all` and `check`, and writes which of them get another answer.
 //!
-//! Standard input has a vector a line: `mode mask room request file => code length place out`, all numbers decimal. The request is `*` for all
+//! Standard input has a vector a line, all numbers decimal: of `check` as `file => code place nodes fields`, of the others as
+//! `mode mask room request file => code length place out`. The request is `*` for all
 //! fields, `-` for no indices, else a list with commas; file and out are hexadecimal, `-` where empty. The output buffer has `room` bytes, none
 //! of them 0 before the call. Code, length, place and every byte of the buffer are compared: past the length, and all of it on a refusal, the
 //! bytes must be as they were. A line of another form counts as one that differs.
 ghost use mathlib.Core.Path.{_≡_};
 ghost use lib.ListN.{length};
+use acceptance::Checked;
 use pruner::Answer;
 use vector_text::Parsed;
 
@@ -38,10 +40,11 @@ enum Called {
     Not,
 }
 
-// What came of a vector: the code that it has and was given; the answer that it was given instead; or the line is none.
+// What came of a vector: the code that it has and was given; the answer that it was given instead, of `prune` or of `check`; or the line is none.
 enum Verdict {
     Same(usize),
     Differs(Answer),
+    DiffersChecked(Checked),
     Malformed,
 }
 
@@ -51,6 +54,14 @@ fn text(s: &[u8]) {
 
 fn number(n: u64) {
     io::print_decimal(1, n);
+}
+
+// Is field k of a line that number?
+fn is_number(line: &[u8], k: usize, n: usize) -> bool {
+    let Parsed::Number(m) = vector_text::number_at(line, k) else {
+        return false;
+    };
+    m == n
 }
 
 // The numbers of a line whose answer has been read.
@@ -189,8 +200,42 @@ fn compare_parts(
     compare(line, c, &file[0..size], &bytes[0..length], out)
 }
 
+// The answer to the first bytes of a buffer compared with those of a line of `check`.
+fn compare_checked(line: &[u8], file: &[u8], size: usize) -> Verdict {
+    if file.len() < size {
+        return Verdict::Malformed;
+    }
+    let c = acceptance::check(&file[0..size]);
+    let code = c.code as usize;
+    if !is_number(line, 2, code) {
+        return Verdict::DiffersChecked(c);
+    }
+    if !is_number(line, 3, c.place) {
+        return Verdict::DiffersChecked(c);
+    }
+    if !is_number(line, 4, c.nodes) {
+        return Verdict::DiffersChecked(c);
+    }
+    if !is_number(line, 5, c.fields) {
+        return Verdict::DiffersChecked(c);
+    }
+    Verdict::Same(code)
+}
+
+// A line of `check`, its file in a buffer of its own.
+fn run_check(line: &[u8]) -> Verdict {
+    if !vector_text::is_word(line, 6, b"") {
+        return Verdict::Malformed;
+    }
+    let mut file = [0u8; 65536];
+    let Parsed::Number(size) = vector_text::bytes_at(line, 0, &mut file) else {
+        return Verdict::Malformed;
+    };
+    compare_checked(line, &file, size)
+}
+
 // A line's file and bytes in buffers of their own, and a buffer for the output.
-fn run(line: &[u8]) -> Verdict {
+fn run_prune(line: &[u8]) -> Verdict {
     let Case::Of(c) = case_of(line) else {
         return Verdict::Malformed;
     };
@@ -209,6 +254,13 @@ fn run(line: &[u8]) -> Verdict {
     compare_parts(line, c, &file, size, &bytes, &mut out)
 }
 
+fn run(line: &[u8]) -> Verdict {
+    if vector_text::is_word(line, 1, b"=>") {
+        return run_check(line);
+    }
+    run_prune(line)
+}
+
 // A line that differs, and the answer that was given.
 fn differs(at: u64, a: Answer) {
     text(b"line ");
@@ -219,6 +271,20 @@ fn differs(at: u64, a: Answer) {
     number(a.length as u64);
     text(b" place ");
     number(a.place as u64);
+    text(b"\n");
+}
+
+fn differs_checked(at: u64, c: Checked) {
+    text(b"line ");
+    number(at);
+    text(b" differs: code ");
+    number(c.code as u64);
+    text(b" place ");
+    number(c.place as u64);
+    text(b" nodes ");
+    number(c.nodes as u64);
+    text(b" fields ");
+    number(c.fields as u64);
     text(b"\n");
 }
 
@@ -238,6 +304,10 @@ fn count(line: &[u8], at: u64, tally: &mut [u64; CODES], bad: &mut u64) {
         }
         Verdict::Differs(a) => {
             differs(at, a);
+            *bad = std::num::wrapping_add_u64(*bad, 1);
+        }
+        Verdict::DiffersChecked(c) => {
+            differs_checked(at, c);
             *bad = std::num::wrapping_add_u64(*bad, 1);
         }
         Verdict::Malformed => {

@@ -15,7 +15,8 @@ use Rattle.cpl.specs.Read.{Res, ok, bad, pick}
 use Rattle.cpl.specs.ReadPlan.{readFile}
 use Rattle.cpl.specs.Bytes.{bytesOf}
 use Rattle.cpl.specs.Fields.{fieldsOf}
-use Rattle.cpl.specs.Accept.{Fault, fault, check}
+use Rattle.cpl.specs.Accept.{Fault, check}
+use Rattle.rules.specs.Check.{Finding, accepted, faulty, found}
 use Rattle.rules.specs.Request.{requestFault, maskOf}
 use Rattle.rules.specs.Merge.{Merge, mergeStep}
 use Rattle.rules.specs.Rewrite.{Walked, rewrite}
@@ -44,10 +45,14 @@ unfoldable pub requested : Merge → Catalogue → Plan → List ℕ → Option 
 requested M C p request none = finish C (rewrite M C p (maskOf (length (fieldsOf C p)) request))
 requested M C p request (some position) = refused REQUEST position
 
--- a plan that was read. The request may be made from the root's field count.
+-- "the rewriting one, which calls the first after the setting and passes its code on". The request may be made from the root's field count.
+abbrev pub passedOn : Merge → (ℕ → List ℕ) → Finding → Verdict
+passedOn M request (accepted C p) = let width = length (fieldsOf C p) in requested M C p (request width) (requestFault width (request width))
+passedOn M request (faulty code place) = refused code place
+
+-- a plan that was read
 unfoldable pub checked : Merge → Catalogue → Plan → (ℕ → List ℕ) → Option Fault → Verdict
-checked M C p request none = let width = length (fieldsOf C p) in requested M C p (request width) (requestFault width (request width))
-checked M C p request (some (fault code node)) = refused code node
+checked M C p request f = passedOn M request (found C p f)
 
 unfoldable pub judged : Merge → (ℕ → List ℕ) → Res Source → Verdict
 judged M request (ok s next tags nodes) = checked M (s .catalogue) (s .plan) request (check (s .catalogue) (s .plan) 0)

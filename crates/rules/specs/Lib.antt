@@ -3,6 +3,7 @@ pub mod Mask
 pub mod Request
 pub mod Merge
 pub mod Rules
+pub mod Check
 pub mod Rewrite
 pub mod Kept
 pub mod Answer

@@ -1,10 +1,12 @@
-//! simmerroof: the functions that C and Rust programs link, and nothing else: those of pruner, with the answer as three numbers in a lent array.
+//! simmerroof: the functions that C and Rust programs link, and nothing else: those of pruner and acceptance, with the answer as numbers in a lent
+//! array.
 ghost use mathlib.Core.Path.{_≡_};
 ghost use mathlib.Core.List.{[], _∷_};
 ghost use Rattle.cpl.specs.Tests.{iota};
 ghost use Rattle.rules.specs.Answer as rules;
+ghost use Rattle.rules.specs.Check.{checkFile};
 ghost use Rattle.pruner.specs.Answers.{Promised};
-ghost use Rattle.simmerroof.specs.Numbers.{NumbersAre, codeIn};
+ghost use Rattle.simmerroof.specs.Numbers.{NumbersAre, checkNumbers, codeIn};
 use pruner::Answer;
 
 // The three numbers of an answer.
@@ -143,4 +145,18 @@ pub extern "C" fn simmerroof_prune_all_in(
         icells,
     );
     put(a, answer);
+}
+
+/// `check` for C and Rust: `answer` gets the code, the place, the number of nodes and the number of the root's fields.
+#[no_mangle]
+pub extern "C" fn simmerroof_check(file: &[u8], answer: &mut [u64; 4])
+    ensures { λ r. ⌜ now (answer .exit) ≡ checkNumbers (checkFile (now (file .entry))) ⌝ }
+{
+    let c = acceptance::check(file);
+    *answer = [
+        c.code as u64,
+        c.place as u64,
+        c.nodes as u64,
+        c.fields as u64,
+    ];
 }

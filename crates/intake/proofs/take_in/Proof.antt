@@ -1,64 +1,16 @@
--- `intake::take_in` meets its contract: refused by the reader, at a node or for its request; or taken. Assumes nothing.
-use Rattle.arena.proofs.Laws.{here}
-use Rattle.cpl.specs.Plan.{named}
-use Rattle.intake.proofs.Ways.{all-stand, are-bytes, ends, got, no-faults, refuse-node, refuse-read, root-width, some-node}
+-- `intake::take_in` meets its contract: refused with the file, or what becomes of its request. Assumes nothing.
+use Rattle.acceptance.proofs.Ways.{few-asked}
+use Rattle.intake.proofs.Ways.{refused-file, requested-file}
 use Rattle.intake.specs.Intake.{wanted}
-use Rattle.tree.proofs.Few.{room}
 use borrow.Author.Needs.{needs}
-use mathlib.Core.Path.{sym}
-use native.Mathlib.Omega.{arith}
 use Rattle.intake.proofs.take_in.Statement.{statement}
 use Rattle.intake.proofs.take_in.Tie as tie
 
-read-file-requires : tie.Need-read-file-requires
-read-file-requires c κs = search needs
-
-enum-known-read : tie.Need-enum-known-read
-enum-known-read c = search needs
+read-and-check-requires : tie.Need-read-and-check-requires
+read-and-check-requires c κs = search needs
 
 refuse-requires : tie.Need-refuse-requires
 refuse-requires c κs = search needs
-
-enum-known-read-2 : tie.Need-enum-known-read-2
-enum-known-read-2 c = search needs
-
-accept-node-requires : tie.Need-accept-node-requires
-accept-node-requires c κs =
-    let read2 = c .before .before .before .before .before .before .before .read2 in
-    let read-file = c .before .before .before .before .before .before .before .before .before .before .before .before .before .before .before .before .before .read-file in
-    let shared-slice-known = c .before .before .before .before .before .before .before .before .before .before .before .before .before .before .before .before .before .before .before .before .before .before .before .before .before .before .before .before .before .shared-slice-known in
-    let pre = c .before .before .before .before .before .before .before .before .before .before .before .before .before .before .before .before .before .before .before .before .before .before .before .before .before .before .before .before .before .before .pre in
-    let names = c .before .before .before .before .before .before .before .before .before .before .names in
-    let g = got (rw (read2 .given .1) at (read-file .ensures)) (are-bytes _ (λ i. omega (arith, shared-slice-known .given i))) (pre .0) (pre .1) (pre .2) (omega (arith, pre .3, names)) in
-    record { tree = g .tree; here = some-node g; named = g .named; room = omega (arith, pre); wide = omega (arith, pre) }
-
-enum-known-v : tie.Need-enum-known-v
-enum-known-v c = search needs
-
-refuse-requires-2 : tie.Need-refuse-requires-2
-refuse-requires-2 c κs = search needs
-
-enum-told : tie.Need-enum-told
-enum-told c = search needs
-
-slice-read-ask : tie.Need-slice-read-ask
-slice-read-ask c =
-    let pre = c .before .before .before .before .before .before .before .before .before .before .before .before .before .before .before .before .before .before .before .before .before .before .before .before .before .before .before .before .before .before .before .before .before .before .before .before .before .before .pre in
-    let widths = c .before .before .before .before .widths in
-    omega (arith, pre, widths)
-
-ask-requires : tie.Need-ask-requires
-ask-requires c κs =
-    let enum-told = c .before .enum-told in
-    let accept-node = c .before .before .before .before .before .before .before .accept-node in
-    let read2 = c .before .before .before .before .before .before .before .before .before .before .before .before .before .before .before .read2 in
-    let read-file = c .before .before .before .before .before .before .before .before .before .before .before .before .before .before .before .before .before .before .before .before .before .before .before .before .before .read-file in
-    let shared-slice-known = c .before .before .before .before .before .before .before .before .before .before .before .before .before .before .before .before .before .before .before .before .before .before .before .before .before .before .before .before .before .before .before .before .before .before .before .before .before .shared-slice-known in
-    let pre = c .before .before .before .before .before .before .before .before .before .before .before .before .before .before .before .before .before .before .before .before .before .before .before .before .before .before .before .before .before .before .before .before .before .before .before .before .before .before .pre in
-    let names = c .before .before .before .before .before .before .before .before .before .before .before .before .before .before .before .before .before .before .names in
-    let k = rw (enum-told .given .1) at (accept-node .ensures) in
-    let g = got (rw (read2 .given .1) at (read-file .ensures)) (are-bytes _ (λ i. omega (arith, shared-slice-known .given i))) (pre .0) (pre .1) (pre .2) (omega (arith, pre .3, names)) in
-    all-stand k _ (g .whole) 0 (some-node g) .few
 
 same-length : tie.Need-same-length
 same-length c = search needs
@@ -72,22 +24,24 @@ same-length-3 c = search needs
 same-length-4 : tie.Need-same-length-4
 same-length-4 c = search needs
 
-returns : tie.Need-returns
-returns c =
-    let refuse = c .refuse in
-    let read = c .before .before .read in
-    let read-file = c .before .before .before .before .before .before .before .before .before .before .before .before .read-file in
-    refuse-read _ _ _ _ _ _ _ _ _ _ (refuse .ensures) (rw (read .given .1) at (read-file .ensures))
-
 same-length-5 : tie.Need-same-length-5
-same-length-5 c =
-    let cells = c .before .before .before .before .before .before .before .before .before .before .before .before .before .before .before .before .before .before .before .before .before .before .before .before .before .cells in
-    omega (arith, cells .given)
+same-length-5 c = search needs
 
 same-length-6 : tie.Need-same-length-6
-same-length-6 c =
-    let rows = c .before .before .before .before .before .before .before .before .before .before .before .before .before .before .before .before .before .before .before .before .before .before .before .rows in
-    omega (arith, rows .given)
+same-length-6 c = search needs
+
+returns : tie.Need-returns
+returns c =
+    let read-and-check = c .before .before .before .before .before .before .before .before .before .before .before .before .before .before .before .before .read-and-check in
+    let if1 = c .before .if1 in
+    let refuse = c .refuse in
+    refused-file (read-and-check .ensures) _ _ (if1 .taken) (refuse .ensures)
+
+ask-requires : tie.Need-ask-requires
+ask-requires c κs =
+    let read-and-check = c .before .before .before .before .before .before .before .before .before .before .before .before .before .before .before .read-and-check in
+    let if1 = c .if1 in
+    few-asked (read-and-check .ensures) (if1 .left)
 
 same-length-7 : tie.Need-same-length-7
 same-length-7 c = search needs
@@ -101,56 +55,19 @@ same-length-9 c = search needs
 same-length-10 : tie.Need-same-length-10
 same-length-10 c = search needs
 
-returns-2 : tie.Need-returns-2
-returns-2 c =
-    let v = c .before .before .v in
-    let accept-node = c .before .before .before .before .before .before .before .before .accept-node in
-    let read2 = c .before .before .before .before .before .before .before .before .before .before .before .before .before .before .before .before .read2 in
-    let read-file = c .before .before .before .before .before .before .before .before .before .before .before .before .before .before .before .before .before .before .before .before .before .before .before .before .before .before .read-file in
-    let shared-slice-known = c .before .before .before .before .before .before .before .before .before .before .before .before .before .before .before .before .before .before .before .before .before .before .before .before .before .before .before .before .before .before .before .before .before .before .before .before .before .before .shared-slice-known in
-    let pre = c .before .before .before .before .before .before .before .before .before .before .before .before .before .before .before .before .before .before .before .before .before .before .before .before .before .before .before .before .before .before .before .before .before .before .before .before .before .before .before .pre in
-    let names = c .before .before .before .before .before .before .before .before .before .before .before .before .before .before .before .before .before .before .before .names in
-    let refuse2 = c .refuse2 in
-    let k = rw (v .given .1) at (accept-node .ensures) in
-    let g = got (rw (read2 .given .1) at (read-file .ensures)) (are-bytes _ (λ i. omega (arith, shared-slice-known .given i))) (pre .0) (pre .1) (pre .2) (omega (arith, pre .3, names)) in
-    refuse-node _ _ _ _ _ _ _ _ _ _ _ _ _ _ _ (refuse2 .ensures) (g .reads) (sym (k .says))
-
 same-length-11 : tie.Need-same-length-11
-same-length-11 c =
-    let cells = c .before .before .before .before .before .before .before .before .before .before .before .before .before .before .before .before .before .before .before .before .before .before .before .before .before .cells in
-    omega (arith, cells .given)
+same-length-11 c = search needs
 
 same-length-12 : tie.Need-same-length-12
-same-length-12 c =
-    let rows = c .before .before .before .before .before .before .before .before .before .before .before .before .before .before .before .before .before .before .before .before .before .before .before .rows in
-    omega (arith, rows .given)
+same-length-12 c = search needs
 
-same-length-13 : tie.Need-same-length-13
-same-length-13 c = search needs
-
-same-length-14 : tie.Need-same-length-14
-same-length-14 c = search needs
-
-same-length-15 : tie.Need-same-length-15
-same-length-15 c = search needs
-
-same-length-16 : tie.Need-same-length-16
-same-length-16 c = search needs
-
-returns-3 : tie.Need-returns-3
-returns-3 c =
-    let enum-told = c .before .before .enum-told in
-    let accept-node = c .before .before .before .before .before .before .before .before .accept-node in
-    let read2 = c .before .before .before .before .before .before .before .before .before .before .before .before .before .before .before .before .read2 in
-    let read-file = c .before .before .before .before .before .before .before .before .before .before .before .before .before .before .before .before .before .before .before .before .before .before .before .before .before .before .read-file in
-    let shared-slice-known = c .before .before .before .before .before .before .before .before .before .before .before .before .before .before .before .before .before .before .before .before .before .before .before .before .before .before .before .before .before .before .before .before .before .before .before .before .before .before .shared-slice-known in
-    let pre = c .before .before .before .before .before .before .before .before .before .before .before .before .before .before .before .before .before .before .before .before .before .before .before .before .before .before .before .before .before .before .before .before .before .before .before .before .before .before .before .pre in
-    let names = c .before .before .before .before .before .before .before .before .before .before .before .before .before .before .before .before .before .before .before .names in
-    let args = c .before .before .before .before .before .before .before .before .before .before .before .before .before .before .before .before .before .before .before .before .before .before .before .before .before .before .before .before .before .before .before .before .before .before .before .before .before .before .before .args in
+returns-2 : tie.Need-returns-2
+returns-2 c =
+    let read-and-check = c .before .before .before .before .before .before .before .before .before .before .before .before .before .before .before .before .read-and-check in
+    let args = c .before .before .before .before .before .before .before .before .before .before .before .before .before .before .before .before .before .before .before .before .before .before .before .before .before .before .before .before .before .before .before .args in
+    let if1 = c .before .if1 in
     let ask = c .ask in
-    let k = rw (enum-told .given .1) at (accept-node .ensures) in
-    let g = got (rw (read2 .given .1) at (read-file .ensures)) (are-bytes _ (λ i. omega (arith, shared-slice-known .given i))) (pre .0) (pre .1) (pre .2) (omega (arith, pre .3, names)) in
-    ends _ (wanted (args .all) (args .request .now)) _ _ _ _ _ _ _ _ _ _ _ g (no-faults k) (all-stand k _ (g .whole)) (root-width (all-stand k _ (g .whole) 0 (some-node g))) (ask .ensures)
+    requested-file (read-and-check .ensures) (wanted (args .all) (args .request .now)) _ (if1 .left) (ask .ensures)
 
 pub take-in-spec : {M : Type 1} → statement M
-take-in-spec = tie.close (tie.spec read-file-requires enum-known-read refuse-requires enum-known-read-2 accept-node-requires enum-known-v refuse-requires-2 enum-told slice-read-ask ask-requires same-length same-length-2 same-length-3 same-length-4 returns same-length-5 same-length-6 same-length-7 same-length-8 same-length-9 same-length-10 returns-2 same-length-11 same-length-12 same-length-13 same-length-14 same-length-15 same-length-16 returns-3)
+take-in-spec = tie.close (tie.spec read-and-check-requires refuse-requires same-length same-length-2 same-length-3 same-length-4 same-length-5 same-length-6 returns ask-requires same-length-7 same-length-8 same-length-9 same-length-10 same-length-11 same-length-12 returns-2)

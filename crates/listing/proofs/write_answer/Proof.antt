@@ -1,6 +1,6 @@
 -- `listing::write_answer` meets its contract: the refusal, or the listing of the bytes written. Assumes nothing.
 use Prim.Native.Nat.{ℕ}
-use Rattle.intake.proofs.Ways.{are-bytes}
+use Rattle.acceptance.proofs.Ways.{are-bytes}
 use Rattle.listing.proofs.Answers.{answer-fits, printed-listing, printed-refusal}
 use Rattle.listing.proofs.Puts.{counts}
 use Rattle.optimize_projections.proofs.Nodes.{left}

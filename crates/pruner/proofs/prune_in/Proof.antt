@@ -1,6 +1,6 @@
 -- `pruner::prune_in` meets its contract: refused for its settings or by the intake, or what the walk left is delivered; with the promise of house
 -- mode. Assumes nothing.
-use Rattle.intake.proofs.Ways.{are-bytes}
+use Rattle.acceptance.proofs.Ways.{are-bytes}
 use Rattle.intake.specs.Intake.{wanted}
 use Rattle.pruner.proofs.Ends.{answered, handed-on, high-mask, high-mode, refused-early, taken-in}
 use Rattle.pruner.proofs.Entries.{promised}

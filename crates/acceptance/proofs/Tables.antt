@@ -1,18 +1,17 @@
 -- The catalogue that the reader stored is the one that acceptance reads.
 use mathlib.Core.Path.{_≡_, refl, sym, _∙_, ap, ap₂}
-use mathlib.Core.List.{List, [], _∷_}
+use mathlib.Core.List.{List, _∷_}
 use Prim.Native.Nat.{ℕ, zero, suc, _+_, _*_, _≤_, _<_}
 use native.Mathlib.Omega.{arith}
 use native.Mathlib.Numerals.{add-one}
 use lib.ListN.{length, getD, take, drop}
 use lib.Seq.{drop-cons}
-use Rattle.cpl.specs.Lists.{All, a[], _a∷_}
-use Rattle.cpl.specs.Plan.{Catalogue}
+use Rattle.cpl.specs.Lists.{All, _a∷_}
 use Rattle.cpl.specs.Writable.{FitList, FitName, FitCatalogue}
 use Rattle.reader.specs.Tables as read
 use Rattle.reader.specs.Tables.{namesAt, tablesAt}
 use Rattle.tree.specs.Rows.{listAt, one}
-use Rattle.parts.specs.Catalogue.{columnCount, tableAt, catalogueAt, TableIn, NamesOk}
+use Rattle.parts.specs.Catalogue.{tableAt, catalogueAt, NamesOk}
 
 names-length : (names : List ℕ) (at k : ℕ) → length (namesAt names at k) ≡ k
 unfolding namesAt

@@ -1,0 +1,5 @@
+-- Laws of files that were read and checked.
+pub mod Findings
+pub mod Tables
+pub mod Ways
+pub mod Plans

@@ -1,0 +1,174 @@
+-- The ways that a reading can end: refused by the reader or at a node, or accepted. Assumes nothing.
+use mathlib.Core.Path.{_≡_, refl, sym, _∙_, ap, subst, subst⁻¹}
+use mathlib.Core.List.{List, [], _∷_}
+use mathlib.Core.Option.{none, some}
+use Prim.Native.Nat.{ℕ, suc, _≤_, _<_}
+use native.Mathlib.Omega.{arith}
+use lib.ListN.{length, getD}
+use Rattle.cpl.specs.Lists.{a[], _a∷_}
+use Rattle.cpl.specs.AreBytes.{AreBytes}
+use Rattle.cpl.specs.Limits.{maxFields}
+use Rattle.cpl.specs.Plan.{Plan, Catalogue}
+use Rattle.cpl.specs.Exprs.{planNodes, planTags}
+use Rattle.cpl.specs.Read.{ok, bad}
+use Rattle.cpl.specs.ReadPlan.{readCatalogue, readFile}
+use Rattle.cpl.specs.Fields.{fieldsOf}
+use Rattle.cpl.specs.Accept.{fault, check}
+use Rattle.cpl.specs.Writable.{FitCatalogue}
+use Rattle.cpl.proofs.RoundTrip.{written-read}
+use Rattle.rules.specs.Check.{accepted, faulty, found, finding, numbersOf, checkFile}
+use Rattle.rules.specs.Success.{sourceOf}
+use Rattle.tree.specs.Tree.{Arrays, lent, planAt, WfTree}
+use Rattle.tree.proofs.Few.{room}
+use Rattle.tree.proofs.Plans.{nodes-pos}
+use Rattle.tree.proofs.Stored.{stored}
+use Rattle.reader.specs.Plans.{TookFile}
+use Rattle.parts.specs.Catalogue.{catalogueAt, NamesOk}
+use Rattle.accept.specs.Verdicts.{Checked, FieldsStand}
+use Rattle.accept.specs.declared.Verdict.the-variants.{Fine}
+use Rattle.lookup.specs.Fields.{fieldsAt, widthAt}
+use Rattle.tree.specs.Rows.{one}
+use Rattle.tree.proofs.Lists.{list-length}
+use Rattle.acceptance.specs.Readings.{CheckedIs, rootPlan, PlanIn, ReadingIs}
+use Rattle.acceptance.specs.declared.Checked as declared
+use Rattle.acceptance.specs.declared.Reading.{Reading}
+use Rattle.acceptance.proofs.Findings.{Sound, file-sound}
+use Rattle.acceptance.proofs.Tables.{catalogue-same, names-ok}
+
+-- ── refusals ────────────────────────────────────────────────────────────────────────────────
+
+abbrev pub Refuses : declared.Checked → (code place : ℕ) → Type 0
+Refuses r code place = (r .code ≡ code) × (r .place ≡ place) × (r .nodes ≡ 0) × (r .fields ≡ 0)
+
+module _ (file cells rows nodes fields widths : List ℕ) (r : Reading) where
+  refused : (code place : ℕ) → Refuses (r .checked) code place → finding (readFile file) ≡ faulty code place → ReadingIs file cells rows nodes fields widths r
+  unfolding checkFile numbersOf
+  refused code place e h = record {
+    says = subst⁻¹ (λ f. CheckedIs (numbersOf f) (r .checked)) h (record { code-is = e .0; place-is = e .1; nodes-is = e .2; fields-is = e .3 });
+    plan = λ z. absurd (let s : Sound (faulty code place) = subst Sound h (file-sound file) in omega (arith, s .0, e .0));
+  }
+
+  pub refuse-read : (code place : ℕ) → Refuses (r .checked) code place → readFile file ≡ bad code place → ReadingIs file cells rows nodes fields widths r
+  unfolding finding
+  refuse-read code place e h = refused code place e (ap finding h)
+
+  pub refuse-node : (C : Catalogue) (p : Plan) (next tags count code node : ℕ) → Refuses (r .checked) code node → readFile file ≡ ok (sourceOf C p) next tags count
+      → check C p 0 ≡ some (fault code node) → ReadingIs file cells rows nodes fields widths r
+  unfolding finding
+  refuse-node C p next tags count code node e h f = refused code node e (ap finding h ∙ ap (found C p) f)
+
+-- ── a file that was read ────────────────────────────────────────────────────────────────────
+
+-- the plan that was read stands in the arrays, and its tables in theirs
+pub record Got (file cells rows nodes names : List ℕ) (tables start count : ℕ) : Type 0 where
+  pub tables-fit : FitCatalogue (catalogueAt names tables)
+  pub tree : WfTree (catalogueAt names tables) (lent cells rows nodes) count
+  pub whole : count ≡ planNodes (planAt (lent cells rows nodes) 0)
+  pub reads : readFile file ≡ ok (sourceOf (catalogueAt names tables) (planAt (lent cells rows nodes) 0)) (length file) (planTags (planAt (lent cells rows nodes) 0)) count
+  pub starts-at : readCatalogue file 5 0 0 ≡ ok (catalogueAt names tables) start 0 0
+  pub named : NamesOk names tables
+
+pub some-node : {file cells rows nodes names : List ℕ} {tables start count : ℕ} → Got file cells rows nodes names tables start count → 0 < count
+some-node {cells} {rows} {nodes} g = let e = g .whole in let h = nodes-pos (planAt (lent cells rows nodes) 0) in omega arith
+
+pub got : {file cells cells′ rows rows′ nodes nodes′ names′ : List ℕ} {tables start count tags made : ℕ} → TookFile file cells cells′ rows rows′ nodes nodes′ names′ tables start count tags made
+    → AreBytes file → 12288 ≤ length cells → 409728 ≤ length rows → 1792 ≤ length nodes → 1040 ≤ length names′ → Got file cells′ rows′ nodes′ names′ tables start count
+got {file} {cells} {cells′} {rows} {rows′} {nodes} {nodes′} {names′} {tables} {start} {count} {tags} t b lc lr ln lm =
+    let p = t .plan in
+    let w = written-read file b _ _ _ _ (t .is) in
+    let fits = w .writable in
+    let q = room _ p (fits .nodes-fit) (fits .few-nodes) (fits .few-tags) in
+    let same = catalogue-same names′ tables (fits .tables) (t .few-tables) lm in
+    let s = stored _ p cells rows nodes (fits .nodes-fit) (fits .few-nodes) (fits .few-tags) (omega (arith, q .cells)) (omega (arith, q .rows)) (omega (arith, q .nodes)) (t .holds .cells-are) (t .holds .rows-are) (t .holds .nodes-are) in
+    let n : count ≡ planNodes p = t .holds .count-is in
+    record {
+      tables-fit = subst FitCatalogue same (fits .tables);
+      tree = subst (λ C. WfTree C (lent cells′ rows′ nodes′) count) same (subst⁻¹ (WfTree _ (lent cells′ rows′ nodes′)) n (s .tree));
+      whole = n ∙ ap planNodes (sym (s .is));
+      reads = t .is ∙ (ap (λ C. ok (sourceOf C p) (length file) tags count) same ∙ (ap (λ k. ok (sourceOf (catalogueAt names′ tables) p) (length file) k count) (w .tags-read)
+          ∙ ap (λ x. ok (sourceOf (catalogueAt names′ tables) x) (length file) (planTags x) count) (sym (s .is))));
+      starts-at = t .starts-at ∙ ap (λ C. ok C start 0 0) same;
+      named = names-ok names′ tables (fits .tables) (t .few-tables) lm;
+    }
+
+-- a file's elements are bytes
+pub are-bytes : (file : List ℕ) → ((i : ℕ) → getD file i 0 < 256) → AreBytes file
+are-bytes [] h = a[]
+are-bytes (b ∷ bs) h = h 0 a∷ are-bytes bs (λ i. h (suc i))
+
+module _ {C : Catalogue} {a : Arrays} {s w s′ w′ : List ℕ} (k : Checked C a 0 s w s′ w′ Fine) where
+  pub no-faults : check C (planAt a 0) 0 ≡ none
+  no-faults = sym (k .says)
+
+  pub all-stand : (count : ℕ) → count ≡ planNodes (planAt a 0) → (j : ℕ) → j < count → FieldsStand C a s′ w′ j
+  all-stand count e j h = k .stand refl j (omega arith) (omega arith)
+
+-- the root's stored width is the number of its fields
+pub root-width : {C : Catalogue} {a : Arrays} {s w : List ℕ} → FieldsStand C a s w 0 → widthAt w 0 ≡ length (fieldsOf C (planAt a 0))
+unfolding fieldsAt
+root-width {w} f = sym (list-length _ one 0 (widthAt w 0)) ∙ ap length (f .fields)
+
+-- ── an accepted plan ────────────────────────────────────────────────────────────────────────
+
+module _ {file cells rows nodes fields widths : List ℕ} {start count : ℕ} (p : PlanIn file cells rows nodes fields widths start count) where
+  pub is-accepted : finding (readFile file) ≡ accepted (p .C) (rootPlan cells rows nodes)
+  unfolding finding
+  is-accepted = ap finding (p .reads) ∙ ap (found (p .C) (rootPlan cells rows nodes)) (p .fine)
+
+  root-stands : FieldsStand (p .C) (lent cells rows nodes) fields widths 0
+  root-stands = p .stand 0 (omega (arith, p .whole, nodes-pos (rootPlan cells rows nodes)))
+
+  pub root-fields : widthAt widths 0 ≡ length (fieldsOf (p .C) (rootPlan cells rows nodes))
+  root-fields = root-width root-stands
+
+  pub few-fields : length (fieldsOf (p .C) (rootPlan cells rows nodes)) ≤ maxFields
+  few-fields = omega (arith, root-fields, root-stands .few)
+
+-- the same under other names of the numbers
+abbrev pub renumbered : {file cells rows nodes fields widths : List ℕ} {start start′ count count′ : ℕ} (p : PlanIn file cells rows nodes fields widths start count) → start′ ≡ start → count′ ≡ count
+    → PlanIn file cells rows nodes fields widths start′ count′
+renumbered {file} {cells} {rows} {nodes} p s n = record {
+  C = p .C;
+  tables = p .tables;
+  tree = subst⁻¹ (WfTree (p .C) (lent cells rows nodes)) n (p .tree);
+  whole = n ∙ p .whole;
+  reads = p .reads ∙ ap (ok (sourceOf (p .C) (rootPlan cells rows nodes)) (length file) (planTags (rootPlan cells rows nodes))) (sym n);
+  starts-at = p .starts-at ∙ ap (λ k. ok (p .C) k 0 0) (sym s);
+  fine = p .fine;
+  stand = λ j h. p .stand j (subst (λ k. j < k) n h);
+}
+
+pub accept-ends : (file cells rows nodes names fields widths : List ℕ) (tables start count : ℕ) (r : Reading) → Got file cells rows nodes names tables start count
+    → check (catalogueAt names tables) (rootPlan cells rows nodes) 0 ≡ none
+    → ((j : ℕ) → j < count → FieldsStand (catalogueAt names tables) (lent cells rows nodes) fields widths j)
+    → (r .checked .code ≡ 0) × (r .checked .place ≡ 0) × (r .checked .nodes ≡ count) × (r .checked .fields ≡ widthAt widths 0) × (r .start ≡ start)
+    → ReadingIs file cells rows nodes fields widths r
+unfolding checkFile numbersOf
+accept-ends file cells rows nodes names fields widths tables start count r g fine stand e =
+    let p : PlanIn file cells rows nodes fields widths start count = record {
+      C = catalogueAt names tables;
+      tables = g .tables-fit;
+      tree = g .tree;
+      whole = g .whole;
+      reads = g .reads;
+      starts-at = g .starts-at;
+      fine = fine;
+      stand = stand;
+    } in
+    record {
+      says = subst⁻¹ (λ f. CheckedIs (numbersOf f) (r .checked)) (is-accepted p)
+          (record { code-is = e .0; place-is = e .1; nodes-is = e .2 ∙ g .whole; fields-is = e .3 ∙ root-fields p });
+      plan = λ z. renumbered p (e .4) (e .2);
+    }
+
+-- where nothing is refused
+module _ {file cells rows nodes fields widths : List ℕ} {r : Reading} (x : ReadingIs file cells rows nodes fields widths r) (z : r .checked .code ≤ 0) where
+  pub plan-in : PlanIn file cells rows nodes fields widths (r .start) (r .checked .nodes)
+  plan-in = x .plan (omega arith)
+
+  pub width-is : r .checked .fields ≡ length (fieldsOf (plan-in .C) (rootPlan cells rows nodes))
+  unfolding checkFile numbersOf
+  width-is = x .says .fields-is ∙ ap (λ f. numbersOf f .fields) (is-accepted plan-in)
+
+  pub few-asked : r .checked .fields ≤ 128
+  few-asked = omega (arith, width-is, few-fields plan-in)

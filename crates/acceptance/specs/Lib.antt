@@ -1,0 +1,2 @@
+-- Files that were read and checked.
+pub mod Readings

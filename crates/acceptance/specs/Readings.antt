@@ -1,0 +1,45 @@
+-- What is said of a file, and the plan of an accepted one as it stands in the arrays.
+use mathlib.Core.Path.{_≡_}
+use mathlib.Core.List.{List}
+use mathlib.Core.Option.{none}
+use Prim.Native.Nat.{ℕ, _<_}
+use lib.ListN.{length}
+use Rattle.cpl.specs.Plan.{Catalogue, Plan}
+use Rattle.cpl.specs.Exprs.{planNodes, planTags}
+use Rattle.cpl.specs.Read.{ok}
+use Rattle.cpl.specs.ReadPlan.{readCatalogue, readFile}
+use Rattle.cpl.specs.Accept as cpl
+use Rattle.cpl.specs.Writable.{FitCatalogue}
+use Rattle.rules.specs.Check as rules
+use Rattle.rules.specs.Success.{sourceOf}
+use Rattle.tree.specs.Tree.{lent, planAt, WfTree}
+use Rattle.accept.specs.Verdicts.{FieldsStand}
+use Rattle.acceptance.specs.declared.Checked.{Checked}
+use Rattle.acceptance.specs.declared.Reading.{Reading}
+
+-- the four numbers are those of the definition
+pub record CheckedIs (c : rules.Checked) (r : Checked) : Type 0 where
+  pub code-is : r .code ≡ c .code
+  pub place-is : r .place ≡ c .place
+  pub nodes-is : r .nodes ≡ c .nodes
+  pub fields-is : r .fields ≡ c .fields
+
+-- the plan at the root of the arrays
+abbrev pub rootPlan : (cells rows nodes : List ℕ) → Plan
+rootPlan cells rows nodes = planAt (lent cells rows nodes) 0
+
+-- the file's plan was read, starts at that offset, is accepted and stands in the arrays with the fields of each of its nodes
+pub record PlanIn (file cells rows nodes fields widths : List ℕ) (start count : ℕ) : Type 0 where
+  pub C : Catalogue
+  pub tables : FitCatalogue C
+  pub tree : WfTree C (lent cells rows nodes) count
+  pub whole : count ≡ planNodes (rootPlan cells rows nodes)
+  pub reads : readFile file ≡ ok (sourceOf C (rootPlan cells rows nodes)) (length file) (planTags (rootPlan cells rows nodes)) count
+  pub starts-at : readCatalogue file 5 0 0 ≡ ok C start 0 0
+  pub fine : cpl.check C (rootPlan cells rows nodes) 0 ≡ none
+  pub stand : (j : ℕ) → j < count → FieldsStand C (lent cells rows nodes) fields widths j
+
+-- what is said of a file; and where it is accepted, its plan
+pub record ReadingIs (file cells rows nodes fields widths : List ℕ) (r : Reading) : Type 0 where
+  pub says : CheckedIs (rules.checkFile file) (r .checked)
+  pub plan : r .checked .code ≡ 0 → PlanIn file cells rows nodes fields widths (r .start) (r .checked .nodes)
