@@ -50,6 +50,7 @@ extern "C" {
  *   11 REQUEST     the request is not strictly increasing, or not below the root's field count   first such position
  *   12 LARGE       a merge step's list, or the result, passes the node or tag limit              0
  *   13 ROOM        the output is shorter than the result                                         length needed
+ *   18 PAIRS       a set of over 64 pairs (the two functions on predicates alone)                0
  */
 #define SIMMERROOF_OK 0
 #define SIMMERROOF_SETTING 1
@@ -65,6 +66,7 @@ extern "C" {
 #define SIMMERROOF_REQUEST 11
 #define SIMMERROOF_LARGE 12
 #define SIMMERROOF_ROOM 13
+#define SIMMERROOF_PAIRS 18
 
 /* What the caller owes. Every pointer points to as many elements as its length says, is not NULL even where the length
  * is 0, and is aligned for its type. `out`, `answer` and the lent arrays overlap neither each other nor what is read.
@@ -86,6 +88,22 @@ void simmerroof_prune_all(uint8_t mode, uint16_t mask, const uint8_t *file, size
  * file? answer[0] is the code (0, or 2 to 10), answer[1] the place; answer[2] is the plan's number of nodes and answer[3] the
  * number of its root's fields, both 0 on a refusal. The working arrays, 1 MB, are on the stack: 4 MiB are enough. */
 void simmerroof_check(const uint8_t *file, size_t file_len, uint64_t answer[4]);
+
+/* ---- Keys out of a predicate ----------------------------------------------------------------------------------------
+ * A predicate is one expression in the file's form (docs/FORMAT.md) and nothing after it. The codes are 3 to 6 at offsets
+ * within the argument at fault, the predicate before the keys; then 18; then 13.
+ *
+ * simmerroof_join_keys writes the pairs of expressions that are both present and equal on every row where the predicate is
+ * yes: one byte n (at most 64) and n times two expressions, in the order in which the Rust's JoinKeySet has them; a pair and
+ * its mirror are one. An output as long as the predicate always has room. */
+void simmerroof_join_keys(const uint8_t *predicate, size_t predicate_len, uint8_t *out, size_t out_len,
+                          uint64_t answer[3]);
+
+/* What is left of the predicate where all pairs of `keys` (as the function above writes them) are present and equal: it is
+ * yes exactly where the predicate is. Written: 0 for nothing left, which counts as yes, or 1 and an expression. An output
+ * one byte longer than the predicate always has room. */
+void simmerroof_without_keys(const uint8_t *predicate, size_t predicate_len, const uint8_t *keys, size_t keys_len,
+                             uint8_t *out, size_t out_len, uint64_t answer[3]);
 
 /* ---- The lent form --------------------------------------------------------------------------------------------------
  * The same two with the working arrays lent: for callers that prune many plans, or have less stack. Keep one

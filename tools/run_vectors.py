@@ -90,6 +90,8 @@ FILES = [
     ('library.txt', 'replay', replayed),
     ('program.txt', 'prune', one_by_one),
     ('check.txt', 'replay', replayed),
+    ('join_keys.txt', 'key_vectors', replayed),
+    ('without_keys.txt', 'key_vectors', replayed),
 ]
 
 

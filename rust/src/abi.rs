@@ -143,3 +143,47 @@ pub fn check(file: &[u8]) -> [u64; 4] {
     unsafe { simmerroof_check(file.as_ptr(), file.len(), &mut answer) }
     answer
 }
+
+unsafe extern "C" {
+    fn simmerroof_join_keys(
+        predicate: *const u8,
+        predicate_len: usize,
+        out: *mut u8,
+        out_len: usize,
+        answer: *mut Answer,
+    );
+    fn simmerroof_without_keys(
+        predicate: *const u8,
+        predicate_len: usize,
+        keys: *const u8,
+        keys_len: usize,
+        out: *mut u8,
+        out_len: usize,
+        answer: *mut Answer,
+    );
+}
+
+pub fn join_keys(predicate: &[u8], out: &mut [u8]) -> Answer {
+    let mut answer = [0; 3];
+    // SAFETY: as in `prune`
+    unsafe { simmerroof_join_keys(predicate.as_ptr(), predicate.len(), out.as_mut_ptr(), out.len(), &mut answer) }
+    answer
+}
+
+pub fn without_keys(predicate: &[u8], keys: &[u8], out: &mut [u8]) -> Answer {
+    let mut answer = [0; 3];
+    let (start, length) = (out.as_mut_ptr(), out.len());
+    // SAFETY: as in `prune`
+    unsafe {
+        simmerroof_without_keys(
+            predicate.as_ptr(),
+            predicate.len(),
+            keys.as_ptr(),
+            keys.len(),
+            start,
+            length,
+            &mut answer,
+        )
+    }
+    answer
+}

@@ -75,6 +75,20 @@ pub fn prune_all(mode: Mode, mask: u16, file: &[u8], out: &mut [u8]) -> Result<u
     result(abi::prune(mode as u8, mask, file, None, out))
 }
 
+/// The join keys of a predicate: the pairs of expressions that are both present and equal on every row where it is yes, as one
+/// byte n (at most 64) and n times two expressions. A predicate is one expression in the file's form and nothing after it.
+/// Writes to the front of `out` and returns the length; an output as long as the predicate always has room.
+pub fn join_keys(predicate: &[u8], out: &mut [u8]) -> Result<usize, Refusal> {
+    result(abi::join_keys(predicate, out))
+}
+
+/// What is left of a predicate where all pairs of `keys` (as [`join_keys`] writes them) are present and equal: 0 for nothing, which
+/// counts as yes, or 1 and an expression that is yes exactly where the predicate is. An output one byte longer than the
+/// predicate always has room.
+pub fn without_keys(predicate: &[u8], keys: &[u8], out: &mut [u8]) -> Result<usize, Refusal> {
+    result(abi::without_keys(predicate, keys, out))
+}
+
 /// Holds the library's working arrays (1,410,336 bytes) on the heap, made once and never cleared between calls.
 pub struct Pruner {
     work: Box<abi::Work>,

@@ -37,9 +37,11 @@ pub enum Kind {
     Large = 12,
     /// The output is shorter than the result. Place: the length needed.
     Room = 13,
+    /// A set of over 64 pairs, of the functions on predicates. Place 0.
+    Pairs = 18,
 }
 
-const KINDS: [(Kind, &str); 13] = [
+const KINDS: [(Kind, &str); 14] = [
     (Kind::Setting, "setting not allowed"),
     (Kind::Mark, "not a plan file of version 1"),
     (Kind::Cut, "a field runs past the end, at offset"),
@@ -53,24 +55,27 @@ const KINDS: [(Kind, &str); 13] = [
     (Kind::Request, "request not increasing or out of range at position"),
     (Kind::Large, "the rewritten plan passes a limit"),
     (Kind::Room, "the output is too short; bytes needed:"),
+    (Kind::Pairs, "a set of over 64 pairs"),
 ];
 
 impl Kind {
-    /// Document 01's code, 1 to 13.
+    /// The code of the specification's table.
     pub fn code(self) -> u8 {
         self as u8
     }
     pub fn from_code(code: u64) -> Option<Kind> {
-        let at = usize::try_from(code).ok()?.checked_sub(1)?;
-        KINDS.get(at).map(|k| k.0)
+        KINDS.iter().map(|k| k.0).find(|k| k.code() as u64 == code)
+    }
+    fn words(self) -> &'static str {
+        KINDS.iter().find(|k| k.0 == self).map_or("", |k| k.1)
     }
 }
 
 impl fmt::Display for Refusal {
     fn fmt(&self, f: &mut fmt::Formatter<'_>) -> fmt::Result {
-        let words = KINDS[self.kind as usize - 1].1;
+        let words = self.kind.words();
         match self.kind {
-            Kind::Setting | Kind::Mark | Kind::Large => f.write_str(words),
+            Kind::Setting | Kind::Mark | Kind::Large | Kind::Pairs => f.write_str(words),
             _ => write!(f, "{words} {}", self.place),
         }
     }

@@ -40,15 +40,15 @@ module _ (s : List ℕ) (u t x y : ℕ) (h : u * 3 + 2 < length s) where
     long = simp length-set;
   }
 
-  put-tag : tagAt (putNode s u t x y) u ≡ t
+  pub put-tag : tagAt (putNode s u t x y) u ≡ t
   unfolding putNode s₂
   put-tag = getD-set-other s₂ (u * 3 + 2) (u * 3) y 0 (omega arith) ∙ getD-set-other s₁ (u * 3 + 1) (u * 3) x 0 (omega arith) ∙ getD-set-same s (u * 3) t 0 (omega arith)
 
-  put-x : xAt (putNode s u t x y) u ≡ x
+  pub put-x : xAt (putNode s u t x y) u ≡ x
   unfolding putNode s₂
   put-x = getD-set-other s₂ (u * 3 + 2) (u * 3 + 1) y 0 (omega arith) ∙ getD-set-same s₁ (u * 3 + 1) x 0 (simp length-set (omega arith))
 
-  put-y : yAt (putNode s u t x y) u ≡ y
+  pub put-y : yAt (putNode s u t x y) u ≡ y
   unfolding putNode s₂
   put-y = getD-set-same s₂ (u * 3 + 2) y 0 (simp length-set (omega arith))
 

@@ -1,4 +1,4 @@
--- Every refusal of reading has a code from 2 to 6, and every fault of acceptance one from 7 to 10.
+-- Every refusal of reading has a code from 2 to 6 (only that of the mark is 2), and every fault of acceptance one from 7 to 10.
 use mathlib.Core.Bool.{Bool, true, false}
 use mathlib.Core.List.{List, [], _∷_}
 use mathlib.Core.Option.{Option, none, some}
@@ -8,8 +8,8 @@ use lib.Dec.{ltb, leb, eqb}
 use lib.ListN.{length, getD}
 use Rattle.cpl.specs.Limits.{maxTables, maxColumns, maxItems, maxKeys, maxNodes, maxTags, maxFields}
 use Rattle.cpl.specs.Codes.{VALUE, MANY, CLASH, UNKNOWN, WIDTH, FIELDS, aliasTag}
-use Rattle.cpl.specs.Plan.{Pair, Plan, leaf, unary, binary, Catalogue}
-use Rattle.cpl.specs.Read.{Res, ok, bad, Reader, andThen, give, refuse, pick, here, field, value, isNot, nonzero, below, count, any, tag, nodeTag, times, counted}
+use Rattle.cpl.specs.Plan.{Pair, Plan, leaf, unary, binary, Catalogue, Source}
+use Rattle.cpl.specs.Read.{Res, ok, bad, Reader, andThen, _>>=_, give, refuse, pick, here, field, value, isNot, nonzero, below, count, any, tag, nodeTag, times, counted}
 use Rattle.cpl.specs.ReadExpr.{readPair, readColumn, readLiteral, leafRest, exprRest, exprTo, readExpr, readAlias, readBare, readItem, readKey, readCall, readAgg, readWin, readOn}
 use Rattle.cpl.specs.ReadPlan.{Head, h0, h1, h2, readLimit, readAggregate, readCond, readJoin, readColumns, readScan, readEmpty, readHead, readInputs, planTo, starts, markBytes, readMark, readCatalogue, readEnd, readSource, readFile}
 use Rattle.cpl.specs.Accept.{Fault, fault, _then_, must, nodeFault, check}
@@ -19,30 +19,38 @@ use Rattle.cpl.specs.Accept.{Fault, fault, _then_, must, nodeFault, chec
 abbrev pub Within : ℕ → ℕ → ℕ → Type 0
 Within low high code = (low ≤ code) × (code ≤ high)
 
+-- a refusal has a code from `low` to 6
+abbrev pub CodedFrom : ℕ → {A : Type 0} → Res A → Type 0
+CodedFrom low (ok a at tags nodes) = Unit {0}
+CodedFrom low (bad code place) = Within low 6 code
+
 abbrev pub Coded : {A : Type 0} → Res A → Type 0
-Coded (ok a at tags nodes) = Unit {0}
-Coded (bad code place) = Within 2 6 code
+Coded r = CodedFrom 2 r
 
--- a reader whose refusals have such codes
-record Safe {A : Type 0} (p : Reader A) : Type 0 where
-  coded : (file : List ℕ) (at tags nodes : ℕ) → Coded (p file at tags nodes)
+-- a reader whose refusals have codes from 3 to 6: all but that of the mark
+pub record Safe {A : Type 0} (p : Reader A) : Type 0 where
+  pub coded : (file : List ℕ) (at tags nodes : ℕ) → CodedFrom 3 (p file at tags nodes)
 
-coded-then : {A B : Type 0} (r : Res A) (k : A → ℕ → ℕ → ℕ → Res B) → Coded r → ((a : A) (at tags nodes : ℕ) → Coded (k a at tags nodes)) → Coded (andThen r k)
-coded-then (ok a at tags nodes) k h f = f a at tags nodes
-coded-then (bad code place) k h f = h
+coded-then : (low : ℕ) {A B : Type 0} (r : Res A) (k : A → ℕ → ℕ → ℕ → Res B) → CodedFrom low r → ((a : A) (at tags nodes : ℕ) → CodedFrom low (k a at tags nodes)) → CodedFrom low (andThen r k)
+coded-then low (ok a at tags nodes) k h f = f a at tags nodes
+coded-then low (bad code place) k h f = h
 
-coded-pick : {A : Type 0} (b : Bool) (r s : Res A) → Coded r → Coded s → Coded (pick b r s)
-coded-pick true r s h k = h
-coded-pick false r s h k = k
+coded-pick : (low : ℕ) {A : Type 0} (b : Bool) (r s : Res A) → CodedFrom low r → CodedFrom low s → CodedFrom low (pick b r s)
+coded-pick low true r s h k = h
+coded-pick low false r s h k = k
 
-bind : {A B : Type 0} (p : Reader A) (k : A → Reader B) → Safe p → ((a : A) → Safe (k a)) → Safe (λ file at tags nodes. andThen (p file at tags nodes) (λ a at′ tags′ nodes′. k a file at′ tags′ nodes′))
-bind p k h f = record { coded = λ file at tags nodes. coded-then (p file at tags nodes) _ (h .coded file at tags nodes) (λ a at′ tags′ nodes′. f a .coded file at′ tags′ nodes′) }
+coded-lower : {A : Type 0} (r : Res A) → CodedFrom 3 r → Coded r
+coded-lower (ok a at tags nodes) h = tt
+coded-lower (bad code place) h = (omega (arith, h .0), h .1)
+
+pub bind : {A B : Type 0} (p : Reader A) (k : A → Reader B) → Safe p → ((a : A) → Safe (k a)) → Safe (λ file at tags nodes. andThen (p file at tags nodes) (λ a at′ tags′ nodes′. k a file at′ tags′ nodes′))
+bind p k h f = record { coded = λ file at tags nodes. coded-then 3 (p file at tags nodes) _ (h .coded file at tags nodes) (λ a at′ tags′ nodes′. f a .coded file at′ tags′ nodes′) }
 
 choose : {A : Type 0} (b : Bool) (p q : Reader A) → Safe p → Safe q → Safe (pick b p q)
 choose true p q h k = h
 choose false p q h k = k
 
-given : {A : Type 0} (a : A) → Safe (give a)
+pub given : {A : Type 0} (a : A) → Safe (give a)
 given a = record { coded = λ file at tags nodes. tt }
 
 here-safe : Safe here
@@ -58,7 +66,7 @@ many-refused p = record { coded = λ file at tags nodes. (omega arith, omega ari
 
 field-safe : (k : ℕ) → Safe (field k)
 unfolding field
-field-safe k = record { coded = λ file at tags nodes. coded-pick (leb (at + k) (length file)) _ _ tt (omega arith, omega arith) }
+field-safe k = record { coded = λ file at tags nodes. coded-pick 3 (leb (at + k) (length file)) _ _ tt (omega arith, omega arith) }
 
 value-safe : (k : ℕ) (allowed : ℕ → Bool) → Safe (value k allowed)
 unfolding value
@@ -78,18 +86,18 @@ count-safe allowed most = bind here _ here-safe (λ p. bind (value 1 allowed) _ 
 
 tag-safe : Safe tag
 unfolding tag
-tag-safe = record { coded = λ file at tags nodes. coded-pick (leb (at + 1) (length file)) _ _ (coded-pick (ltb tags maxTags) _ _ tt (omega arith, omega arith)) (omega arith, omega arith) }
+tag-safe = record { coded = λ file at tags nodes. coded-pick 3 (leb (at + 1) (length file)) _ _ (coded-pick 3 (ltb tags maxTags) _ _ tt (omega arith, omega arith)) (omega arith, omega arith) }
 
 nodeTag-safe : Safe nodeTag
 unfolding nodeTag
-nodeTag-safe = record { coded = λ file at tags nodes. coded-pick (leb (at + 1) (length file)) _ _ (coded-pick (ltb nodes maxNodes) _ _ tt (omega arith, omega arith)) (omega arith, omega arith) }
+nodeTag-safe = record { coded = λ file at tags nodes. coded-pick 3 (leb (at + 1) (length file)) _ _ (coded-pick 3 (ltb nodes maxNodes) _ _ tt (omega arith, omega arith)) (omega arith, omega arith) }
 
 times-safe : {A : Type 0} (n : ℕ) (p : Reader A) → Safe p → Safe (times n p)
 unfolding times
 times-safe zero p h = given []
 times-safe (suc n) p h = bind p _ h (λ x. bind (times n p) _ (times-safe n p h) (λ xs. given (x ∷ xs)))
 
-counted-safe : {A : Type 0} (allowed : ℕ → Bool) (most : ℕ) (p : Reader A) → Safe p → Safe (counted allowed most p)
+pub counted-safe : {A : Type 0} (allowed : ℕ → Bool) (most : ℕ) (p : Reader A) → Safe p → Safe (counted allowed most p)
 unfolding counted
 counted-safe allowed most p h = bind (count allowed most) _ (count-safe allowed most) (λ n. times-safe n p h)
 
@@ -113,7 +121,7 @@ exprTo-safe (suc deep) =
     (choose (ltb t 5) _ _ (bind (exprTo deep) _ e (λ a. given _))
     (choose (ltb t 12) _ _ (bind (exprTo deep) _ e (λ a. bind (exprTo deep) _ e (λ b. given _))) (value-refused p)))))
 
-expr-safe : Safe readExpr
+pub expr-safe : Safe readExpr
 expr-safe = exprTo-safe (suc maxTags)
 
 item-safe : Safe readItem
@@ -142,7 +150,7 @@ win-safe =
     bind (counted any maxKeys readExpr) _ (counted-safe any maxKeys readExpr expr-safe) (λ ps.
     bind (counted any maxKeys readKey) _ (counted-safe any maxKeys readKey key-safe) (λ ks. bind (readCall f) _ (call-safe f) (λ g. given _)))))
 
-on-safe : Safe readOn
+pub on-safe : Safe readOn
 unfolding readOn
 on-safe = bind readExpr _ expr-safe (λ a. bind readExpr _ expr-safe (λ b. given _))
 
@@ -197,16 +205,25 @@ unfolding planTo
 plan-safe C zero = bind here _ here-safe (λ p. many-refused p)
 plan-safe C (suc deep) = bind here _ here-safe (λ p. bind nodeTag _ nodeTag-safe (λ t. bind (readHead C p t) _ (head-safe C p t) (λ h. inputs-safe _ (plan-safe C deep) h)))
 
-source-safe : Safe readSource
-unfolding readSource readMark readEnd readCatalogue
-source-safe =
-    bind readMark _ (record { coded = λ file at tags nodes. coded-pick (starts markBytes file) _ _ tt (omega arith, omega arith) }) (λ m.
+pub end-safe : Safe readEnd
+unfolding readEnd
+end-safe = record { coded = λ file at tags nodes. coded-pick 3 (eqb at (length file)) _ _ tt (omega arith, omega arith) }
+
+-- what stands behind the mark
+abbrev readBody : Reader Source
+readBody = readCatalogue >>= λ C. planTo C (suc maxNodes) >>= λ p. readEnd >>= λ z. give (record { catalogue = C; plan = p })
+
+body-safe : Safe readBody
+unfolding readCatalogue
+body-safe =
     bind readCatalogue _ (counted-safe any maxTables _ (counted-safe any maxColumns (nonzero 2) (nonzero-safe 2))) (λ C.
-    bind (planTo C (suc maxNodes)) _ (plan-safe C (suc maxNodes)) (λ p.
-    bind readEnd _ (record { coded = λ file at tags nodes. coded-pick (eqb at (length file)) _ _ tt (omega arith, omega arith) }) (λ z. given _))))
+    bind (planTo C (suc maxNodes)) _ (plan-safe C (suc maxNodes)) (λ p. bind readEnd _ end-safe (λ z. given _)))
 
 pub reading-coded : (file : List ℕ) → Coded (readFile file)
-reading-coded file = source-safe .coded file 0 0 0
+unfolding readSource readMark
+reading-coded file =
+    coded-then 2 (readMark file 0 0 0) _ (coded-pick 2 (starts markBytes file) _ _ tt (omega arith, omega arith)) λ m at tags nodes.
+    coded-lower (readBody file at tags nodes) (body-safe .coded file at tags nodes)
 
 -- ── acceptance ──────────────────────────────────────────────────────────────────────────────
 

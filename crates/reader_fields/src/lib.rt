@@ -198,7 +198,7 @@ pub fn put(cells: &mut [u64], node: usize, tag: u64, x: u64, y: u64)
 
 // The rest of a column, after its tag, which is counted here.
 fn read_column(file: &[u8], s: Spot, cells: &mut [u64]) -> Parsed
-    requires { ⌜ (s .made ≤ s .tags) × (s .tags < 4096) × (12288 ≤ length (now cells)) ⌝ }
+    requires { ⌜ (3 * s .made + 12288 ≤ 3 * s .tags + length (now cells)) × (s .tags < 4096) ⌝ }
     ensures { λ r. ⌜ RightCells readColumn (now (file .entry)) s (s .tags + 1) (now (cells .entry)) (now (cells .exit)) r ⌝ }
 {
     let pair = read_pair(file, s.at);
@@ -218,7 +218,7 @@ fn read_column(file: &[u8], s: Spot, cells: &mut [u64]) -> Parsed
 
 // The rest of a literal, after its tag, which is counted here.
 fn read_literal(file: &[u8], s: Spot, cells: &mut [u64]) -> Parsed
-    requires { ⌜ (s .made ≤ s .tags) × (s .tags < 4096) × (12288 ≤ length (now cells)) ⌝ }
+    requires { ⌜ (3 * s .made + 12288 ≤ 3 * s .tags + length (now cells)) × (s .tags < 4096) ⌝ }
     ensures { λ r. ⌜ RightCells readLiteral (now (file .entry)) s (s .tags + 1) (now (cells .entry)) (now (cells .exit)) r ⌝ }
 {
     let value = read_number(file, s.at, 8);
@@ -238,7 +238,7 @@ fn read_literal(file: &[u8], s: Spot, cells: &mut [u64]) -> Parsed
 
 // The rest of an expression with no operand, after its tag, which is counted here.
 fn read_leaf(file: &[u8], s: Spot, cells: &mut [u64], t: u64) -> Parsed
-    requires { ⌜ (s .made ≤ s .tags) × (s .tags < 4096) × (12288 ≤ length (now cells)) × (t < 3) ⌝ }
+    requires { ⌜ (3 * s .made + 12288 ≤ 3 * s .tags + length (now cells)) × (s .tags < 4096) × (t < 3) ⌝ }
     ensures { λ r. ⌜ RightCells (leafRest t) (now (file .entry)) s (s .tags + 1) (now (cells .entry)) (now (cells .exit)) r ⌝ }
 {
     match t {
@@ -270,9 +270,9 @@ fn put_root(cells: &mut [u64], s: Spot, tag: u64, x: u64, y: u64) -> Parsed
     })
 }
 
-// An expression. Its nodes go into cells, operands first, from the number `s.made` on.
+// An expression. Its nodes go into cells, operands first, from the number `s.made` on: there is room for a node for each tag that may still come.
 pub fn read_expr(file: &[u8], s: Spot, cells: &mut [u64]) -> Parsed
-    requires { ⌜ (s .made ≤ s .tags) × (s .tags ≤ 4096) × (12288 ≤ length (now cells)) ⌝ }
+    requires { ⌜ (3 * s .made + 12288 ≤ 3 * s .tags + length (now cells)) × (s .tags ≤ 4096) ⌝ }
     ensures { λ r. ⌜ Reads (now (file .entry)) s (now (cells .entry)) (now (cells .exit)) r ⌝ }
 {
     let at = s.at;

@@ -52,7 +52,7 @@ pub fn root(from: usize, to: usize) -> u64
 
 // The rest of a bare item, after its tag, which is counted here.
 fn read_bare(file: &[u8], s: Spot, cells: &mut [u64], rows: &mut [u16]) -> Parsed
-    requires { ⌜ (s .made ≤ s .tags) × (s .tags < 4096) × (12288 ≤ length (now cells)) × (4 * s .row + 4 ≤ length (now rows)) ⌝ }
+    requires { ⌜ (s .made ≤ s .tags + 4096) × (s .tags < 4096) × (3 * s .made + 12288 ≤ 3 * s .tags + length (now cells)) × (4 * s .row + 4 ≤ length (now rows)) ⌝ }
     ensures { λ r. ⌜ RightAt itemStore readBare (now (file .entry)) s (s .tags + 1) (now (cells .entry)) (now (cells .exit)) (now (rows .entry)) (now (rows .exit)) r ⌝ }
 {
     let pair = reader_fields::read_pair(file, s.at);
@@ -73,7 +73,7 @@ fn read_bare(file: &[u8], s: Spot, cells: &mut [u64], rows: &mut [u16]) -> Parse
 
 // The rest of an aliased item, after its tag, which is counted here.
 fn read_alias(file: &[u8], s: Spot, cells: &mut [u64], rows: &mut [u16]) -> Parsed
-    requires { ⌜ (s .made ≤ s .tags) × (s .tags < 4096) × (12288 ≤ length (now cells)) × (4 * s .row + 4 ≤ length (now rows)) ⌝ }
+    requires { ⌜ (s .made ≤ s .tags + 4096) × (s .tags < 4096) × (3 * s .made + 12288 ≤ 3 * s .tags + length (now cells)) × (4 * s .row + 4 ≤ length (now rows)) ⌝ }
     ensures { λ r. ⌜ RightAt itemStore readAlias (now (file .entry)) s (s .tags + 1) (now (cells .entry)) (now (cells .exit)) (now (rows .entry)) (now (rows .exit)) r ⌝ }
 {
     let pair = reader_fields::read_pair(file, s.at);
@@ -103,7 +103,7 @@ fn read_alias(file: &[u8], s: Spot, cells: &mut [u64], rows: &mut [u16]) -> Pars
 
 // An item of a projection or a group list: a column, or an alias.
 fn read_item(file: &[u8], s: Spot, cells: &mut [u64], rows: &mut [u16]) -> Parsed
-    requires { ⌜ (s .made ≤ s .tags) × (s .tags ≤ 4096) × (12288 ≤ length (now cells)) × (4 * s .row + 4 ≤ length (now rows)) ⌝ }
+    requires { ⌜ (s .made ≤ s .tags + 4096) × (s .tags ≤ 4096) × (3 * s .made + 12288 ≤ 3 * s .tags + length (now cells)) × (4 * s .row + 4 ≤ length (now rows)) ⌝ }
     ensures { λ r. ⌜ RightAt itemStore readItem (now (file .entry)) s (s .tags) (now (cells .entry)) (now (cells .exit)) (now (rows .entry)) (now (rows .exit)) r ⌝ }
 {
     let at = s.at;
@@ -128,7 +128,7 @@ fn read_item(file: &[u8], s: Spot, cells: &mut [u64], rows: &mut [u16]) -> Parse
 
 // An expression in a list.
 fn read_member(file: &[u8], s: Spot, x: u64, cells: &mut [u64], rows: &mut [u16]) -> Parsed
-    requires { ⌜ (s .made ≤ s .tags) × (s .tags ≤ 4096) × (12288 ≤ length (now cells)) × (4 * s .row + 4 ≤ length (now rows)) × (x < 65536) ⌝ }
+    requires { ⌜ (s .made ≤ s .tags + 4096) × (s .tags ≤ 4096) × (3 * s .made + 12288 ≤ 3 * s .tags + length (now cells)) × (4 * s .row + 4 ≤ length (now rows)) × (x < 65536) ⌝ }
     ensures { λ r. ⌜ RightAt (memberStore x) readExpr (now (file .entry)) s (s .tags) (now (cells .entry)) (now (cells .exit)) (now (rows .entry)) (now (rows .exit)) r ⌝ }
 {
     let e = reader_fields::read_expr(file, s, cells);
@@ -146,7 +146,7 @@ fn read_member(file: &[u8], s: Spot, x: u64, cells: &mut [u64], rows: &mut [u16]
 
 // A key: its flags and its expression.
 fn read_key(file: &[u8], s: Spot, cells: &mut [u64], rows: &mut [u16]) -> Parsed
-    requires { ⌜ (s .made ≤ s .tags) × (s .tags ≤ 4096) × (12288 ≤ length (now cells)) × (4 * s .row + 4 ≤ length (now rows)) ⌝ }
+    requires { ⌜ (s .made ≤ s .tags + 4096) × (s .tags ≤ 4096) × (3 * s .made + 12288 ≤ 3 * s .tags + length (now cells)) × (4 * s .row + 4 ≤ length (now rows)) ⌝ }
     ensures { λ r. ⌜ RightAt keyStore readKey (now (file .entry)) s (s .tags) (now (cells .entry)) (now (cells .exit)) (now (rows .entry)) (now (rows .exit)) r ⌝ }
 {
     let flags = reader_fields::read_below(file, s.at, 4);
@@ -166,7 +166,7 @@ fn read_key(file: &[u8], s: Spot, cells: &mut [u64], rows: &mut [u16]) -> Parsed
 
 // What function f has at the end: an expression, or nothing.
 fn read_call(file: &[u8], s: Spot, f: u64, cells: &mut [u64]) -> Parsed
-    requires { ⌜ (s .made ≤ s .tags) × (s .tags ≤ 4096) × (12288 ≤ length (now cells)) ⌝ }
+    requires { ⌜ (s .made ≤ s .tags + 4096) × (s .tags ≤ 4096) × (3 * s .made + 12288 ≤ 3 * s .tags + length (now cells)) ⌝ }
     ensures { λ r. ⌜ RightAt callStore (readCall f) (now (file .entry)) s (s .tags) (now (cells .entry)) (now (cells .exit)) [] [] r ⌝ }
 {
     if f == 0 {
@@ -177,7 +177,7 @@ fn read_call(file: &[u8], s: Spot, f: u64, cells: &mut [u64]) -> Parsed
 
 // What an aggregate has after its pair.
 fn read_value(file: &[u8], s: Spot, q: u64, n: u64, cells: &mut [u64], rows: &mut [u16]) -> Parsed
-    requires { ⌜ (s .made ≤ s .tags) × (s .tags ≤ 4096) × (12288 ≤ length (now cells)) × (4 * s .row + 4 ≤ length (now rows)) × (q < 65536) × (n < 65536) ⌝ }
+    requires { ⌜ (s .made ≤ s .tags + 4096) × (s .tags ≤ 4096) × (3 * s .made + 12288 ≤ 3 * s .tags + length (now cells)) × (4 * s .row + 4 ≤ length (now rows)) × (q < 65536) × (n < 65536) ⌝ }
     ensures { λ r. ⌜ RightAt aggStore (aggRest (pair q n)) (now (file .entry)) s (s .tags) (now (cells .entry)) (now (cells .exit)) (now (rows .entry)) (now (rows .exit)) r ⌝ }
 {
     let function = reader_fields::read_below(file, s.at, 5);
@@ -208,7 +208,7 @@ fn read_value(file: &[u8], s: Spot, q: u64, n: u64, cells: &mut [u64], rows: &mu
 
 // An aggregate.
 fn read_agg(file: &[u8], s: Spot, cells: &mut [u64], rows: &mut [u16]) -> Parsed
-    requires { ⌜ (s .made ≤ s .tags) × (s .tags ≤ 4096) × (12288 ≤ length (now cells)) × (4 * s .row + 4 ≤ length (now rows)) ⌝ }
+    requires { ⌜ (s .made ≤ s .tags + 4096) × (s .tags ≤ 4096) × (3 * s .made + 12288 ≤ 3 * s .tags + length (now cells)) × (4 * s .row + 4 ≤ length (now rows)) ⌝ }
     ensures { λ r. ⌜ RightAt aggStore readAgg (now (file .entry)) s (s .tags) (now (cells .entry)) (now (cells .exit)) (now (rows .entry)) (now (rows .exit)) r ⌝ }
 {
     let pair = reader_fields::read_pair(file, s.at);
@@ -228,7 +228,7 @@ fn read_agg(file: &[u8], s: Spot, cells: &mut [u64], rows: &mut [u16]) -> Parsed
 
 // A pair of a join.
 fn read_on(file: &[u8], s: Spot, cells: &mut [u64], rows: &mut [u16]) -> Parsed
-    requires { ⌜ (s .made ≤ s .tags) × (s .tags ≤ 4096) × (12288 ≤ length (now cells)) × (4 * s .row + 4 ≤ length (now rows)) ⌝ }
+    requires { ⌜ (s .made ≤ s .tags + 4096) × (s .tags ≤ 4096) × (3 * s .made + 12288 ≤ 3 * s .tags + length (now cells)) × (4 * s .row + 4 ≤ length (now rows)) ⌝ }
     ensures { λ r. ⌜ RightAt onStore readOn (now (file .entry)) s (s .tags) (now (cells .entry)) (now (cells .exit)) (now (rows .entry)) (now (rows .exit)) r ⌝ }
 {
     let first = reader_fields::read_expr(file, s, cells);
@@ -290,7 +290,7 @@ fn read_index(file: &[u8], s: Spot, columns: u64, rows: &mut [u16]) -> Parsed
 
 // One part.
 fn read_part(file: &[u8], s: Spot, kind: Kind, cells: &mut [u64], rows: &mut [u16]) -> Parsed
-    requires { ⌜ (s .made ≤ s .tags) × (s .tags ≤ 4096) × (12288 ≤ length (now cells)) × (4 * s .row + 4 ≤ length (now rows)) ⌝ }
+    requires { ⌜ (s .made ≤ s .tags + 4096) × (s .tags ≤ 4096) × (3 * s .made + 12288 ≤ 3 * s .tags + length (now cells)) × (4 * s .row + 4 ≤ length (now rows)) ⌝ }
     ensures { λ r. ⌜ RightAt (storeOf kind) (readerOf kind) (now (file .entry)) s (s .tags) (now (cells .entry)) (now (cells .exit)) (now (rows .entry)) (now (rows .exit)) r ⌝ }
 {
     match kind {
@@ -313,7 +313,7 @@ fn read_parts(
     cells: &mut [u64],
     rows: &mut [u16],
 ) -> Parsed
-    requires { ⌜ (s .made ≤ s .tags) × (s .tags ≤ 4096) × (12288 ≤ length (now cells)) × (4 * s .row + 4 * n ≤ length (now rows)) ⌝ }
+    requires { ⌜ (s .made ≤ s .tags + 4096) × (s .tags ≤ 4096) × (3 * s .made + 12288 ≤ 3 * s .tags + length (now cells)) × (4 * s .row + 4 * n ≤ length (now rows)) ⌝ }
     ensures { λ r. ⌜ RightAt (listStore (storeOf kind)) (times n (readerOf kind)) (now (file .entry)) s (s .tags) (now (cells .entry)) (now (cells .exit)) (now (rows .entry)) (now (rows .exit)) r ⌝ }
 {
     if n == 0 {
@@ -336,7 +336,7 @@ pub fn read_list(
     cells: &mut [u64],
     rows: &mut [u16],
 ) -> Parsed
-    requires { ⌜ (s .made ≤ s .tags) × (s .tags ≤ 4096) × (12288 ≤ length (now cells)) × (4 * s .row + 4 * limit ≤ length (now rows)) ⌝ }
+    requires { ⌜ (s .made ≤ s .tags + 4096) × (s .tags ≤ 4096) × (3 * s .made + 12288 ≤ 3 * s .tags + length (now cells)) × (4 * s .row + 4 * limit ≤ length (now rows)) ⌝ }
     ensures { λ r. ⌜ ((allowed : ℕ → Bool) → From least allowed → RightAt (listStore (storeOf kind)) (counted allowed limit (readerOf kind)) (now (file .entry)) s (s .tags) (now (cells .entry)) (now (cells .exit)) (now (rows .entry)) (now (rows .exit)) r) ⌝ }
 {
     let count = reader_fields::read_count(file, s.at, least, limit);
@@ -356,7 +356,7 @@ pub fn read_list(
 
 // A window's keys and its function's expression.
 fn read_rest(file: &[u8], s: Spot, f: u64, cells: &mut [u64], rows: &mut [u16]) -> Parsed
-    requires { ⌜ (s .made ≤ s .tags) × (s .tags ≤ 4096) × (12288 ≤ length (now cells)) × (4 * s .row + 72 ≤ length (now rows)) ⌝ }
+    requires { ⌜ (s .made ≤ s .tags + 4096) × (s .tags ≤ 4096) × (3 * s .made + 12288 ≤ 3 * s .tags + length (now cells)) × (4 * s .row + 72 ≤ length (now rows)) ⌝ }
     ensures { λ r. ⌜ RightAt restStore (readRest f) (now (file .entry)) s (s .tags) (now (cells .entry)) (now (cells .exit)) (now (rows .entry)) (now (rows .exit)) r ⌝ }
 {
     let count = reader_fields::read_count(file, s.at, 0, 16);
@@ -392,7 +392,7 @@ fn read_rest(file: &[u8], s: Spot, f: u64, cells: &mut [u64], rows: &mut [u16]) 
 
 // A window's function, its parts and what follows them, after its pair.
 fn read_over(file: &[u8], s: Spot, q: u64, n: u64, cells: &mut [u64], rows: &mut [u16]) -> Parsed
-    requires { ⌜ (s .made ≤ s .tags) × (s .tags ≤ 4096) × (12288 ≤ length (now cells)) × (4 * s .row + 140 ≤ length (now rows)) × (q < 65536) × (n < 65536) ⌝ }
+    requires { ⌜ (s .made ≤ s .tags + 4096) × (s .tags ≤ 4096) × (3 * s .made + 12288 ≤ 3 * s .tags + length (now cells)) × (4 * s .row + 140 ≤ length (now rows)) × (q < 65536) × (n < 65536) ⌝ }
     ensures { λ r. ⌜ RightAt winStore (winRest (pair q n)) (now (file .entry)) s (s .tags) (now (cells .entry)) (now (cells .exit)) (now (rows .entry)) (now (rows .exit)) r ⌝ }
 {
     let function = reader_fields::read_below(file, s.at, 5);
@@ -423,7 +423,7 @@ fn read_over(file: &[u8], s: Spot, q: u64, n: u64, cells: &mut [u64], rows: &mut
 
 // A window.
 fn read_win(file: &[u8], s: Spot, cells: &mut [u64], rows: &mut [u16]) -> Parsed
-    requires { ⌜ (s .made ≤ s .tags) × (s .tags ≤ 4096) × (12288 ≤ length (now cells)) × (4 * s .row + 140 ≤ length (now rows)) ⌝ }
+    requires { ⌜ (s .made ≤ s .tags + 4096) × (s .tags ≤ 4096) × (3 * s .made + 12288 ≤ 3 * s .tags + length (now cells)) × (4 * s .row + 140 ≤ length (now rows)) ⌝ }
     ensures { λ r. ⌜ RightAt winStore readWin (now (file .entry)) s (s .tags) (now (cells .entry)) (now (cells .exit)) (now (rows .entry)) (now (rows .exit)) r ⌝ }
 {
     let pair = reader_fields::read_pair(file, s.at);
@@ -443,7 +443,7 @@ fn read_win(file: &[u8], s: Spot, cells: &mut [u64], rows: &mut [u16]) -> Parsed
 
 // n windows, one after the other.
 pub fn read_wins(file: &[u8], s: Spot, n: u64, cells: &mut [u64], rows: &mut [u16]) -> Parsed
-    requires { ⌜ (s .made ≤ s .tags) × (s .tags ≤ 4096) × (12288 ≤ length (now cells)) × (4 * (s .row + 3 * n + (4096 - s .tags) + 32) ≤ length (now rows)) ⌝ }
+    requires { ⌜ (s .made ≤ s .tags + 4096) × (s .tags ≤ 4096) × (3 * s .made + 12288 ≤ 3 * s .tags + length (now cells)) × (4 * (s .row + 3 * n + (4096 - s .tags) + 32) ≤ length (now rows)) ⌝ }
     ensures { λ r. ⌜ RightAt (listStore winStore) (times n readWin) (now (file .entry)) s (s .tags) (now (cells .entry)) (now (cells .exit)) (now (rows .entry)) (now (rows .exit)) r ⌝ }
 {
     if n == 0 {

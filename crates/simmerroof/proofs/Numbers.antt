@@ -7,6 +7,8 @@ use Rattle.rules.specs.Answer.{reply}
 use Rattle.pruner.specs.Answers.{Promised}
 use Rattle.pruner.specs.declared.Answer.{Answer}
 use Rattle.pruner.proofs.Entries.{Meets}
+use Rattle.predicate_writer.specs.Answers as answers
+use Rattle.predicate_writer.specs.declared.Answer as keys
 use Rattle.simmerroof.specs.Numbers.{NumbersAre, codeIn}
 
 -- what an entry answers, put into an array
@@ -16,6 +18,14 @@ pub numbers : (mode mask : ℕ) (file : List ℕ) (request : ℕ → List ℕ) (
 numbers mode mask file request out h e = (
   record { numbers-are = rw (← h .0 .code-is, ← h .0 .length-is, ← h .0 .place-is) e; out-is = h .0 .out-is },
   λ house z. h .1 house (sym (ap codeIn e) ∙ z),
+)
+
+-- and so of an entry over predicates, with what code 0 promises
+pub keys-numbers : {a : rules.Answer} {r : keys.Answer} {out′ three : List ℕ} {P : Type 0} → answers.AnswerIs a r out′ × (r .code ≡ 0 → P)
+    → three ≡ r .code ∷ r .length ∷ r .place ∷ [] → NumbersAre a three out′ × (codeIn three ≡ 0 → P)
+keys-numbers h e = (
+  record { numbers-are = rw (← h .0 .code-is, ← h .0 .length-is, ← h .0 .place-is) e; out-is = h .0 .out-is },
+  λ z. h .1 (sym (ap codeIn e) ∙ z),
 )
 
 -- "two conforming results coincide", for each exported function

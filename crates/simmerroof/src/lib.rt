@@ -1,10 +1,12 @@
-//! simmerroof: the functions that C and Rust programs link, and nothing else: those of pruner and acceptance, with the answer as numbers in a lent
-//! array.
+//! simmerroof: the functions that C and Rust programs link, and nothing else: those of pruner, acceptance and predicate_keys, with the answer as
+//! numbers in a lent array.
 ghost use mathlib.Core.Path.{_≡_};
 ghost use mathlib.Core.List.{[], _∷_};
 ghost use Rattle.cpl.specs.Tests.{iota};
 ghost use Rattle.rules.specs.Answer as rules;
 ghost use Rattle.rules.specs.Check.{checkFile};
+ghost use Rattle.join_keys.specs.Entries.{joinKeysAnswer, withoutKeysAnswer};
+ghost use Rattle.join_keys.specs.Promise.{KeysPromise, LeftPromise};
 ghost use Rattle.pruner.specs.Answers.{Promised};
 ghost use Rattle.simmerroof.specs.Numbers.{NumbersAre, checkNumbers, codeIn};
 use pruner::Answer;
@@ -159,4 +161,43 @@ pub extern "C" fn simmerroof_check(file: &[u8], answer: &mut [u64; 4])
         c.nodes as u64,
         c.fields as u64,
     ];
+}
+
+/// `join_keys` for C and Rust.
+#[no_mangle]
+pub extern "C" fn simmerroof_join_keys(predicate: &[u8], out: &mut [u8], answer: &mut [u64; 3])
+    ensures { λ r. ⌜ NumbersAre (joinKeysAnswer (now (predicate .entry)) (now (out .entry))) (now (answer .exit)) (now (out .exit)) ⌝ }
+    ensures { λ r. ⌜ (codeIn (now (answer .exit)) ≡ 0 → KeysPromise (now (predicate .entry)) (joinKeysAnswer (now (predicate .entry)) (now (out .entry)))) ⌝ }
+{
+    let a = predicate_keys::join_keys(predicate, out);
+    put(
+        Answer {
+            code: a.code,
+            length: a.length,
+            place: a.place,
+        },
+        answer,
+    );
+}
+
+/// `without_keys` for C and Rust.
+#[no_mangle]
+pub extern "C" fn simmerroof_without_keys(
+    predicate: &[u8],
+    keys: &[u8],
+    out: &mut [u8],
+    answer: &mut [u64; 3],
+)
+    ensures { λ r. ⌜ NumbersAre (withoutKeysAnswer (now (predicate .entry)) (now (keys .entry)) (now (out .entry))) (now (answer .exit)) (now (out .exit)) ⌝ }
+    ensures { λ r. ⌜ (codeIn (now (answer .exit)) ≡ 0 → LeftPromise (now (predicate .entry)) (now (keys .entry)) (withoutKeysAnswer (now (predicate .entry)) (now (keys .entry)) (now (out .entry)))) ⌝ }
+{
+    let a = predicate_keys::without_keys(predicate, keys, out);
+    put(
+        Answer {
+            code: a.code,
+            length: a.length,
+            place: a.place,
+        },
+        answer,
+    );
 }

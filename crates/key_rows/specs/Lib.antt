@@ -1,0 +1,2 @@
+-- The two layouts of a list of pairs.
+pub mod Rows

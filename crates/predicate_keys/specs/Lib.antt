@@ -1,0 +1,2 @@
+-- Keys and a predicate that were read.
+pub mod Given

@@ -1,0 +1,2 @@
+-- What the arguments are read as.
+pub mod Arguments
