@@ -9,6 +9,7 @@ pub mod BinaryRows
 pub mod HouseMerge
 pub mod Preserve
 pub mod Logs
+pub mod LargerReads
 pub mod Demand3
 pub mod Samples
 pub mod Files

@@ -11,3 +11,10 @@ pub mod Results
 pub mod Samples
 pub mod Answers
 pub mod Successes
+pub mod Parts
+pub mod AskedMore
+pub mod Follow
+pub mod Retable
+pub mod OwnTables
+pub mod Larger
+pub mod LargerSamples

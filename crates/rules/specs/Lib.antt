@@ -8,5 +8,8 @@ pub mod Rewrite
 pub mod Kept
 pub mod Answer
 pub mod Success
+pub mod Scans
+pub mod OwnTables
+pub mod Larger
 pub mod Samples
 pub mod Computes

@@ -1,0 +1,110 @@
+//! larger N SEED [slip]: N pairs of requests, the second with every index of the first, to random plans, both modes: each scan that
+//! is left under the first is left under the second and reads no column less. Says nothing about the Rust.
+//!
+//! Scans are told apart by giving each a table of its own, with the names of the table that it had. `slip` exchanges the two
+//! requests of each pair, which must be noticed.
+use compare::{Library, ended, numbers};
+use generator::{Case, Mix, Random, case, line};
+use model::{File, Plan, accept, read, write};
+use simmerroof::Mode;
+use std::collections::BTreeMap;
+
+/// The plan with a table of its own for each scan.
+fn apart(file: &File) -> File {
+    let mut out = File { tables: vec![], plan: file.plan.clone() };
+    number(&mut out.plan, &file.tables, &mut out.tables);
+    out
+}
+
+fn number(plan: &mut Plan, old: &[Vec<u16>], new: &mut Vec<Vec<u16>>) {
+    match plan {
+        Plan::Scan { table, .. } => {
+            new.push(old[*table as usize].clone());
+            *table = (new.len() - 1) as u8;
+        }
+        Plan::Projection(_, c)
+        | Plan::Filter(_, c)
+        | Plan::Sort(_, c)
+        | Plan::Limit(_, _, c)
+        | Plan::Aggregate(_, _, c)
+        | Plan::Window(_, c)
+        | Plan::SubqueryAlias(_, c)
+        | Plan::Distinct(c) => number(c, old, new),
+        Plan::Union(l, r) | Plan::Join(_, l, r) => {
+            number(l, old, new);
+            number(r, old, new);
+        }
+        Plan::Empty { .. } => {}
+    }
+}
+
+/// The columns that each scan of a rewritten plan reads, by its table.
+fn scans(plan: &Plan, out: &mut BTreeMap<u8, Vec<u8>>) {
+    if let Plan::Scan { table, columns, .. } = plan {
+        out.insert(*table, columns.clone().expect("a rewritten scan names its columns"));
+    }
+    plan.children().into_iter().for_each(|c| scans(c, out));
+}
+
+fn reads(bytes: &[u8]) -> BTreeMap<u8, Vec<u8>> {
+    let mut out = BTreeMap::new();
+    scans(&read(bytes).expect("a result reads").plan, &mut out);
+    out
+}
+
+fn no_less(small: &BTreeMap<u8, Vec<u8>>, large: &BTreeMap<u8, Vec<u8>>) -> bool {
+    small.iter().all(|(t, is)| large.get(t).is_some_and(|js| is.iter().all(|i| js.contains(i))))
+}
+
+/// Two requests of a root with so many fields, the first a part of the second.
+fn requests(r: &mut Random, width: usize) -> (Vec<u16>, Vec<u16>) {
+    let large: Vec<u16> = r.subset(width).into_iter().map(|i| i as u16).collect();
+    let small = r.subset(large.len()).into_iter().map(|i| large[i]).collect();
+    (small, large)
+}
+
+fn run(n: usize, seed: u64, slip: bool) -> bool {
+    let mut r = Random::new(seed);
+    let mix = Mix { wide: true, most_nodes: 256, most_bytes: 12000 };
+    let mut library = Library::new(false);
+    let (mut pairs, mut fewer, mut gone, mut large) = (0, 0, 0, 0);
+    while pairs < n {
+        let drawn = case(&mut r, mix);
+        let file = apart(&read(&drawn.file).expect("accepted"));
+        if file.tables.len() > 16 {
+            continue;
+        }
+        let width = accept(&file.plan, &file.tables).expect("accepted").len();
+        let (small, wide) = requests(&mut r, width);
+        let (small, wide) = if slip { (wide, small) } else { (small, wide) };
+        let (mode, number) = *r.pick(&[(Mode::Crate, 0), (Mode::House, 1)]);
+        let [first, second] = [small, wide].map(|q| Case { mask: drawn.mask, request: Some(q), file: write(&file) });
+        let (Ok(a), Ok(b)) = (library.answer(mode, &first), library.answer(mode, &second)) else {
+            large += 1;
+            continue;
+        };
+        let (a, b) = (reads(&a), reads(&b));
+        if !no_less(&a, &b) {
+            println!(
+                "READS LESS\n  {}\n  {}\n  {a:?}\n  {b:?}",
+                line(&first, number, 65536),
+                line(&second, number, 65536)
+            );
+            println!("failed: 1 of {} pairs, seed {seed}", pairs + 1);
+            return false;
+        }
+        pairs += 1;
+        fewer += (a != b) as usize;
+        gone += (a.len() < b.len()) as usize;
+    }
+    println!(
+        "  {fewer} pairs read more under the larger request, {gone} of them a scan more; {large} more pairs were LARGE"
+    );
+    println!("passed: {n} pairs of requests, seed {seed}: no scan reads less under the larger request");
+    true
+}
+
+fn main() {
+    let (n, seed, [slip]) = numbers("larger N SEED [slip]", ["slip"]);
+    ended(move || run(n, seed, slip));
+}
