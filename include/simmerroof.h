@@ -31,7 +31,7 @@ extern "C" {
 /* Codes. Every call sets answer[0] to a code, answer[1] to a length and answer[2] to a place. On success the length is
  * the number of bytes written and the place is 0; the bytes of the output past the length stay as they were. On a
  * refusal the length is 0 and no byte of the output changes. Of several reasons the first in this order counts: 1; 2;
- * 3 to 6 at the first fault in reading order; 8, 9, 10, 7 at each node, inputs first, left before right; 11; 12; 13.
+ * 3 to 6 at the first fault in reading order; 8, 17, 9, 10, 7 at each node, inputs first, left before right; 11; 12; 13.
  * Nodes are numbered in prefix order from 0.
  *
  *   code           given exactly when                                                            place
@@ -44,13 +44,17 @@ extern "C" {
  *   6  TAIL        bytes after the plan                                                          offset of the first
  *   7  CLASH       two equal pairs, or one name both with and without qualifier, in a node's
  *                  fields or in a join's two sides together                                      node
- *   8  UNKNOWN     a column is not found                                                         node
+ *   8  UNKNOWN     no field fits a column                                                        node
  *   9  WIDTH       a Union's inputs have unequal widths                                          node
  *   10 FIELDS      a node has over 128 fields                                                    node
  *   11 REQUEST     the request is not strictly increasing, or not below the root's field count   first such position
  *   12 LARGE       a merge step's list, or the result, passes the node or tag limit              0
  *   13 ROOM        the output is shorter than the result                                         length needed
+ *   17 AMBIGUOUS   two fields fit a column                                                       node
  *   18 PAIRS       a set of over 64 pairs (the two functions on predicates alone)                0
+ *
+ * A column with a qualifier fits the field of that pair; a name alone (qualifier 0) fits every field of that name. A
+ * join's two halves are looked up each in their own side, its condition in both together.
  */
 #define SIMMERROOF_OK 0
 #define SIMMERROOF_SETTING 1
@@ -66,6 +70,7 @@ extern "C" {
 #define SIMMERROOF_REQUEST 11
 #define SIMMERROOF_LARGE 12
 #define SIMMERROOF_ROOM 13
+#define SIMMERROOF_AMBIGUOUS 17
 #define SIMMERROOF_PAIRS 18
 
 /* What the caller owes. Every pointer points to as many elements as its length says, is not NULL even where the length
@@ -85,7 +90,7 @@ void simmerroof_prune_all(uint8_t mode, uint16_t mask, const uint8_t *file, size
                           size_t out_len, uint64_t answer[3]);
 
 /* Reading and checking alone, as the functions above do it before they look at the request: is the file an accepted plan
- * file? answer[0] is the code (0, or 2 to 10), answer[1] the place; answer[2] is the plan's number of nodes and answer[3] the
+ * file? answer[0] is the code (0, 2 to 10, or 17), answer[1] the place; answer[2] is the plan's number of nodes and answer[3] the
  * number of its root's fields, both 0 on a refusal. The working arrays, 1 MB, are on the stack: 4 MiB are enough. */
 void simmerroof_check(const uint8_t *file, size_t file_len, uint64_t answer[4]);
 

@@ -1,4 +1,4 @@
-"""What a plan gives over the tables' contents: document 01's "Fields and meaning", on Python's unbounded numbers; None is
+"""What a plan gives over the tables' contents: document 01's "Fields and meaning", with names alone, on Python's unbounded numbers; None is
 missing. A check by running, for the lessons; the proved meaning is crates/meaning."""
 from functools import cmp_to_key
 
@@ -26,12 +26,17 @@ def fields(p, tables):
     return fields(children(p)[0], tables)
 
 
+def find(pair, fs):
+    """The first field that fits: with a qualifier the exact pair, a name alone any field of that name."""
+    return next(i for i, (q, n) in enumerate(fs) if n == pair[1] and pair[0] in (0, q))
+
+
 def value(e, fs, row):
     op = e[0]
     if op == "as":
         return value(e[2], fs, row)
     if op == "column":
-        return row[fs.index(e[1])]
+        return row[find(e[1], fs)]
     if op == "literal":
         return e[1]
     if op == "missing":

@@ -1,10 +1,11 @@
 #!/usr/bin/env python3
 """tools/choose_vectors.py [FOLDER]: writes crates/replay/stdin and crates/replay/stdout.
 
-The vectors that the gate replays: cases made by hand from document 01, then a choice of the lines of library.txt in FOLDER (../shared/vectors), then the
-answers of the Rust's own texts (oracle/answers.txt, made by oracle/answers), then a choice of the lines of check.txt.
+The vectors that the gate replays: cases made by hand from documents 01 and 02, then a choice of the lines of library.txt and one of those of bare.txt,
+both of FOLDER (../shared/vectors), then the answers of the Rust's own texts (oracle/answers.txt, made by oracle/answers), then a choice of the lines of
+check-bare.txt.
 
-By hand. Each case below has the answer that document 01, and for `check` request 2 of document 02, gives, written down beside it, never computed by code of this project: a
+By hand. Each case below has the answer that the documents give, written down beside it, never computed by code of this project: a
 result is spelled out as bytes, a refusal as code and place. A file is a list of fields, so that an offset is the sum of the sizes before it.
 
 Choice. Lines are looked at short ones first, none over 3,000 characters. A line is taken where it has a trait of which fewer than the
@@ -346,7 +347,6 @@ def acceptance():
         refused(7, 0, HEADER + join_on(kind) + S + S)
         refused(7, 1, HEADER + DISTINCT + join_on(kind) + S + S)
     refused(8, 0, HEADER + filter_(col(1, 9)) + S)
-    refused(8, 0, HEADER + filter_(col(0, 1)) + S)
     refused(8, 1, HEADER + projection(A) + filter_(col(2, 1)) + S)
     refused(8, 0, HEADER + join_on(0, [(col(2, 1), col(1, 1))]) + S + scan(q=2))  # each half in its own side
     refused(8, 0, HEADER + join_on(4, [(A, A)]) + S + scan(q=2))
@@ -399,7 +399,35 @@ def checks():
     faulty(10, 0, NO_TABLES + join_on(0) + empty([pair(1, i + 1) for i in range(128)]) + empty([pair(2, 1)]))
 
 
-for make in (settings_and_marks, samples, requests, counts_of_fields, limits_of_a_file, large, values, cuts, acceptance, checks):
+def bare_names():
+    """Document 02's request 6. A reference without a qualifier fits each field of its name."""
+    one, two = col(0, 1), scan(q=2)
+    gives(HEADER + filter_(one) + scan([0, 1]), HEADER + filter_(one) + S, [1])
+    refused(8, 0, HEADER + filter_(col(0, 9)) + S)
+    # two fields fit; none fits comes before two, two before a wrong width, too many fields and a clash
+    for kind in range(4):
+        refused(17, 0, HEADER + filter_(one) + join_on(kind) + S + two)
+        refused(17, 0, HEADER + join_on(kind, (), one) + S + two)
+        refused(17, 0, HEADER + join_on(kind, (), A) + S + S)
+    refused(8, 0, HEADER + filter_(equal(one, col(0, 9))) + join_on(0) + S + two)
+    refused(8, 0, HEADER + join_on(0, (), equal(one, col(0, 9))) + S + two)
+    # a half is looked up on its own side; for the request every reference on each side, so that both are asked for columns 1 and 2
+    halves = join_on(0, [(one, col(0, 2))])
+    gives(HEADER + halves + scan([0, 1]) + scan([0, 1], q=2), HEADER + halves + S + two, [])
+    # an item keeps its written pair, so that the projection stays; merged, it is the column that it finds under that pair
+    gives(HEADER + projection(one) + scan([0]), HEADER + projection(one) + S)
+    gives(HEADER + projection(alias(0, 1, A)) + scan([0]), HEADER + projection(one) + projection(A, B) + S)
+    # uses are counted by written pair
+    a_1 = add(A, lit(1))
+    lower = projection(alias(5, 7, a_1))
+    each_once = projection(alias(*Z, add(col(0, 7), col(5, 7))))
+    one_twice = projection(alias(*Z, add(col(0, 7), col(0, 7))))
+    gives(HEADER + projection(alias(*Z, add(a_1, a_1))) + scan([0]), HEADER + each_once + lower + S)
+    gives(HEADER + one_twice + lower + scan([0]), HEADER + one_twice + lower + S)
+    gives(HEADER + projection(alias(*Z, add(a_1, a_1))) + scan([0]), HEADER + one_twice + lower + S, mask=32)
+
+
+for make in (settings_and_marks, samples, requests, counts_of_fields, limits_of_a_file, large, values, cuts, acceptance, checks, bare_names):
     make()
 
 
@@ -582,15 +610,17 @@ def choose(lines, traits):
 
 def main():
     folder = Path(sys.argv[1]) if len(sys.argv) > 1 else ROOT.parent / 'shared/vectors'
-    chosen = choose((folder / 'library.txt').read_text().split('\n')[:-1], traits)
+    chosen = [line for name in ('library.txt', 'bare.txt') for line in choose((folder / name).read_text().split('\n')[:-1], traits)]
     rust = (ROOT / 'oracle/answers.txt').read_text().split('\n')[:-1]
-    checks = choose((folder / 'check.txt').read_text().split('\n')[:-1], check_traits)
+    checks = choose((folder / 'check-bare.txt').read_text().split('\n')[:-1], check_traits)
     lines = cases + chosen + rust + checks
     text = ''.join(line + '\n' for line in lines)
-    per_code = [sum(line.partition(' => ')[2].split(' ')[0] == str(code) for line in lines) for code in range(14)]
+    code_of = lambda line: int(line.partition(' => ')[2].split(' ')[0])
+    codes = sorted({code_of(line) for line in lines})
+    per_code = {code: sum(code_of(line) == code for line in lines) for code in codes}
     crate = ROOT / 'crates/replay'
     (crate / 'stdin').write_text(text)
-    summary = [f'vectors {len(lines)}'] + [f'code {code}: {n}' for code, n in enumerate(per_code)] + ['differ 0']
+    summary = [f'vectors {len(lines)}'] + [f'code {code}: {n}' for code, n in per_code.items()] + ['differ 0']
     (crate / 'stdout').write_text('\n'.join(summary) + '\n')
     print(f'{len(cases)} by hand, {len(chosen)} chosen, {len(rust)} of the Rust, {len(checks)} of check, {len(text)} bytes; by code', per_code)
     if len(text) >= 524288:

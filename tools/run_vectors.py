@@ -88,8 +88,9 @@ def compared(name, program, vectors):
 # the file, the program that runs it, and how
 FILES = [
     ('library.txt', 'replay', replayed),
+    ('bare.txt', 'replay', replayed),
     ('program.txt', 'prune', one_by_one),
-    ('check.txt', 'replay', replayed),
+    ('check-bare.txt', 'replay', replayed),
     ('join_keys.txt', 'key_vectors', replayed),
     ('without_keys.txt', 'key_vectors', replayed),
 ]

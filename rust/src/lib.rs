@@ -52,7 +52,7 @@ pub struct Shape {
 }
 
 /// Is this an accepted plan file? It is read and checked as [`prune`] does it before it looks at the request, so a refusal here
-/// ([`Kind::Mark`] to [`Kind::Fields`]) is what `prune` would answer, whatever the request.
+/// ([`Kind::Mark`] to [`Kind::Fields`], or [`Kind::Ambiguous`]) is what `prune` would answer, whatever the request.
 ///
 /// The library keeps 1 MB of working arrays on the stack; 4 MiB of stack are enough for every file.
 pub fn check(file: &[u8]) -> Result<Shape, Refusal> {

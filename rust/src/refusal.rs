@@ -1,4 +1,4 @@
-//! Document 01's refusals.
+//! The refusals of documents 01 and 02.
 use std::fmt;
 
 /// Why a call wrote nothing, and where. The place is a byte offset, a node's number in prefix order, a position in the
@@ -25,7 +25,7 @@ pub enum Kind {
     Tail = 6,
     /// Two equal pairs, or one name both with and without qualifier, in a node's fields or a join's two sides. Place: node.
     Clash = 7,
-    /// A column is not found. Place: node.
+    /// A column is not found: no field fits it. Place: node.
     Unknown = 8,
     /// A Union's inputs have unequal widths. Place: node.
     Width = 9,
@@ -37,11 +37,13 @@ pub enum Kind {
     Large = 12,
     /// The output is shorter than the result. Place: the length needed.
     Room = 13,
+    /// Two fields fit a column, as where its name stands alone and two fields have it. Place: node.
+    Ambiguous = 17,
     /// A set of over 64 pairs, of the functions on predicates. Place 0.
     Pairs = 18,
 }
 
-const KINDS: [(Kind, &str); 14] = [
+const KINDS: [(Kind, &str); 15] = [
     (Kind::Setting, "setting not allowed"),
     (Kind::Mark, "not a plan file of version 1"),
     (Kind::Cut, "a field runs past the end, at offset"),
@@ -55,6 +57,7 @@ const KINDS: [(Kind, &str); 14] = [
     (Kind::Request, "request not increasing or out of range at position"),
     (Kind::Large, "the rewritten plan passes a limit"),
     (Kind::Room, "the output is too short; bytes needed:"),
+    (Kind::Ambiguous, "ambiguous column at node"),
     (Kind::Pairs, "a set of over 64 pairs"),
 ];
 
@@ -64,10 +67,10 @@ impl Kind {
         self as u8
     }
     pub fn from_code(code: u64) -> Option<Kind> {
-        KINDS.iter().map(|k| k.0).find(|k| k.code() as u64 == code)
+        KINDS.iter().map(|k| k.0).find(|kind| kind.code() as u64 == code)
     }
     fn words(self) -> &'static str {
-        KINDS.iter().find(|k| k.0 == self).map_or("", |k| k.1)
+        KINDS.iter().find(|k| k.0 == self).expect("a line for every kind").1
     }
 }
 

@@ -10,9 +10,15 @@ fn sample(name: &str) -> Vec<u8> {
 
 #[test]
 fn nodes_and_fields_of_the_samples() {
-    for (name, nodes, fields) in
-        [("s1", 2, 1), ("s2", 3, 1), ("s3", 3, 3), ("s5", 2, 4), ("s6", 1, 2), ("lesson-fold", 9, 2)]
-    {
+    for (name, nodes, fields) in [
+        ("s1", 2, 1),
+        ("s2", 3, 1),
+        ("s3", 3, 3),
+        ("s5", 2, 4),
+        ("s6", 1, 2),
+        ("lesson-names", 4, 2),
+        ("lesson-fold", 9, 2),
+    ] {
         assert_eq!(check(&sample(name)), Ok(Shape { nodes, fields }), "{name}");
     }
 }

@@ -61,7 +61,7 @@ fn files_with_a_tail() {
 #[test]
 fn files_with_one_wrong_byte() {
     let mut pruner = Pruner::new();
-    let mut codes = [0; 14];
+    let mut codes = [0; 18];
     for (_, file) in samples() {
         for at in 0..file.len() {
             for wrong in [0, 1, 2, 3, 7, 8, 12, 13, 64, 65, 128, 129, 255] {

@@ -1,6 +1,6 @@
 -- The laws of acceptance, bottom up.
 pub mod Rowed
-pub mod Knowns
+pub mod References
 pub mod Given
 pub mod Faults
 pub mod Inside

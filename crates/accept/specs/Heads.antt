@@ -3,17 +3,16 @@ use mathlib.Core.Bool.{Bool, true}
 use mathlib.Core.List.{List}
 use mathlib.Core.Option.{Option}
 use Prim.Native.Nat.{ℕ}
-use Rattle.cpl.specs.Accept.{Fault, even, knownBinary, nodeFault, together}
-use Rattle.cpl.specs.Exprs.{known, unaryExprs}
+use Rattle.cpl.specs.Accept.{Fault, Test, allPass, binaryPasses, even, nodeFault, together}
+use Rattle.cpl.specs.Exprs.{unaryExprs}
 use Rattle.cpl.specs.Fields.{binaryFields, leafFields, unaryFields}
 use Rattle.cpl.specs.Plan.{Catalogue, Pair}
 use Rattle.cpl.specs.ReadPlan.{Head, h0, h1, h2}
-use Rattle.cpl.specs.Tests.{allB}
 
-abbrev pub knownHead : Head → (fl fr : List Pair) → Bool
-knownHead (h0 h) fl fr = true
-knownHead (h1 h) fl fr = allB (known fl) (unaryExprs h)
-knownHead (h2 h) fl fr = knownBinary h fl fr
+abbrev pub passesHead : Head → (fl fr : List Pair) → Test → Bool
+passesHead (h0 h) fl fr = λ test. true
+passesHead (h1 h) fl fr = allPass (unaryExprs h) fl
+passesHead (h2 h) fl fr = binaryPasses h fl fr
 
 abbrev pub evenHead : Head → (fl fr : List Pair) → Bool
 evenHead (h0 h) fl fr = true
@@ -31,4 +30,4 @@ togetherHead C (h1 h) fl fr = unaryFields h fl
 togetherHead C (h2 h) fl fr = together h fl fr
 
 abbrev pub headFault : Catalogue → (at : ℕ) → Head → (fl fr : List Pair) → Option Fault
-headFault C at h fl fr = nodeFault at (knownHead h fl fr) (evenHead h fl fr) (fieldsHead C h fl fr) (togetherHead C h fl fr)
+headFault C at h fl fr = nodeFault at (passesHead h fl fr) (evenHead h fl fr) (fieldsHead C h fl fr) (togetherHead C h fl fr)

@@ -1,4 +1,5 @@
-//! Acceptance: codes 7 to 10 of document 01 at the first node that has one, and the fields of every node of a plan without.
+//! Acceptance: codes 7 to 10 of document 01 and 17 of document 02 at the first node that has one, and the fields of every node of a plan
+//! without.
 //!
 //! `fields` and `widths` are lent: node k's fields are the pairs from 128 * k on, as many as `widths` has at k.
 ghost use mathlib.Core.Bool.{Bool};
@@ -6,7 +7,7 @@ ghost use mathlib.Core.List.{List, _++_, map};
 ghost use mathlib.Core.Path.{_≡_};
 ghost use Prim.Native.Nat.{ℕ, _+_, _*_, _<_, _≤_};
 ghost use lib.ListN.{length};
-ghost use Rattle.accept.specs.Heads.{fieldsHead, knownHead};
+ghost use Rattle.accept.specs.Heads.{fieldsHead, passesHead};
 ghost use Rattle.accept.specs.Nodes.{evenOf, joins, KidsAre, Named, NodeInside, parts, Rowed, ScanInside, SidesReady};
 ghost use Rattle.accept.specs.Verdicts.{Checked, Judgeable, Judged};
 ghost use Rattle.arena.specs.Rows.{pairAt};
@@ -14,22 +15,24 @@ ghost use Rattle.cpl.specs.Accept.{clash};
 ghost use Rattle.cpl.specs.Fields.{columnsOf, joinFields, requalify, scanField};
 ghost use Rattle.cpl.specs.Plan.{Catalogue, join};
 ghost use Rattle.cpl.specs.ReadPlan.{h2};
-ghost use Rattle.lookup.specs.Fields.{leftRow, rightRow, rowAt, RowIn, SidesIn};
+ghost use Rattle.lookup.specs.Answers.{resolving};
+ghost use Rattle.lookup.specs.Fields.{leftRow, rightRow, rowAt, RowIn, SidesClear};
 ghost use Rattle.parts.specs.Catalogue.{catalogueAt, tableAt};
 ghost use Rattle.parts.specs.Parts.{WinInside};
 ghost use Rattle.tree.specs.Node.{joinIs};
 ghost use Rattle.tree.specs.Rows.{AllAt, columnsAt, EachOk, Inside, listAt, pairsAt, winSize};
 ghost use Rattle.tree.specs.Tree.{headOf, if?, lent, PartsOk};
+use lookup::Resolved;
 use lookup::Sides;
-use parts::known_aggs;
-use parts::known_roots;
-use parts::known_wins;
+use parts::resolve_aggs;
+use parts::resolve_roots;
+use parts::resolve_wins;
 use tree::JoinNode;
 use tree::JoinType;
 use tree::Node;
 use tree::ScanNode;
 
-// The codes of document 01.
+// The codes of documents 01 and 02.
 const CLASH: u8 = 7;
 
 const UNKNOWN: u8 = 8;
@@ -37,6 +40,8 @@ const UNKNOWN: u8 = 8;
 const WIDTH: u8 = 9;
 
 const FIELDS: u8 = 10;
+
+const AMBIGUOUS: u8 = 17;
 
 // The most fields that a node may have.
 const MAX_FIELDS: usize = 128;
@@ -144,58 +149,56 @@ fn is_even(node: Node, left: usize, right: usize) -> bool
     }
 }
 
-/// Are a join's columns known: pair halves each in their own side, the condition in both? Its rows and roots are well formed, and the sides
-/// lie in the array.
-fn join_known(cells: &[u64], rows: &[u16], j: JoinNode, fields: &[u16], sides: Sides) -> bool
+/// What a join's references find: pair halves each in their own side, the condition in both. Its rows and roots are well formed. The sides lie
+/// in the array, and the fields of each by themselves do not clash.
+fn join_resolved(cells: &[u64], rows: &[u16], j: JoinNode, fields: &[u16], sides: Sides) -> Resolved
     requires { ⌜ PartsOk (parts (now cells) (now rows)) (Node.Join j) ⌝ }
-    requires { ⌜ SidesIn (now fields) sides ⌝ }
-    ensures { λ r. ⌜ r ≡ knownHead (headOf (parts (now (cells .entry)) (now (rows .entry))) (Node.Join j)) (leftRow (now (fields .entry)) sides) (rightRow (now (fields .entry)) sides) ⌝ }
+    requires { ⌜ SidesClear (now fields) sides ⌝ }
+    ensures { λ r. ⌜ r ≡ resolving (passesHead (headOf (parts (now (cells .entry)) (now (rows .entry))) (Node.Join j)) (leftRow (now (fields .entry)) sides) (rightRow (now (fields .entry)) sides)) ⌝ }
 {
-    let pairs = parts::known_ons(cells, rows, j.first, j.n, fields, sides);
-    if !pairs {
-        return false;
-    }
+    let pairs = parts::resolve_ons(cells, rows, j.first, j.n, fields, sides);
     if j.has_filter {
-        return lookup::known_both(cells, j.filter, fields, sides);
+        let filter = lookup::resolve_both(cells, j.filter, fields, sides);
+        return lookup::both_resolved(pairs, filter);
     }
-    true
+    pairs
 }
 
-/// Are a node's columns known among its inputs' fields? Its rows and roots are well formed, and the sides lie in the array.
-fn node_known(cells: &[u64], rows: &[u16], node: Node, fields: &[u16], sides: Sides) -> bool
+/// What a node's references find among its inputs' fields. Its rows and roots are well formed. The sides lie in the array, and the fields of
+/// each by themselves do not clash.
+fn node_resolved(cells: &[u64], rows: &[u16], node: Node, fields: &[u16], sides: Sides) -> Resolved
     requires { ⌜ PartsOk (parts (now cells) (now rows)) node ⌝ }
-    requires { ⌜ SidesIn (now fields) sides ⌝ }
-    ensures { λ r. ⌜ r ≡ knownHead (headOf (parts (now (cells .entry)) (now (rows .entry))) node) (leftRow (now (fields .entry)) sides) (rightRow (now (fields .entry)) sides) ⌝ }
+    requires { ⌜ SidesClear (now fields) sides ⌝ }
+    ensures { λ r. ⌜ r ≡ resolving (passesHead (headOf (parts (now (cells .entry)) (now (rows .entry))) node) (leftRow (now (fields .entry)) sides) (rightRow (now (fields .entry)) sides)) ⌝ }
 {
     let k = sides.left;
     let width = sides.lwidth;
     match node {
-        Node::Projection { first, n } => known_roots(cells, rows, first, n, fields, k, width),
-        Node::Filter { root } => lookup::known_expr(cells, root, fields, k, width),
-        Node::Sort { first, n } => known_roots(cells, rows, first, n, fields, k, width),
-        Node::Limit { skip: _, fetch: _ } => true,
+        Node::Projection { first, n } => resolve_roots(cells, rows, first, n, fields, k, width),
+        Node::Filter { root } => lookup::resolve_expr(cells, root, fields, k, width),
+        Node::Sort { first, n } => resolve_roots(cells, rows, first, n, fields, k, width),
+        Node::Limit { skip: _, fetch: _ } => Resolved::Fine,
         Node::Aggregate {
             first,
             groups,
             aggregates,
         } => {
-            if known_roots(cells, rows, first, groups, fields, k, width) {
-                let next = first + groups;
-                return known_aggs(cells, rows, next, aggregates, fields, k, width);
-            }
-            false
+            let keys = resolve_roots(cells, rows, first, groups, fields, k, width);
+            let next = first + groups;
+            let calls = resolve_aggs(cells, rows, next, aggregates, fields, k, width);
+            lookup::both_resolved(keys, calls)
         }
-        Node::Window { first, n } => known_wins(cells, rows, first, n, fields, k, width),
-        Node::SubqueryAlias { qualifier: _ } => true,
-        Node::Union { right: _ } => true,
-        Node::Distinct => true,
-        Node::Join(j) => join_known(cells, rows, j, fields, sides),
-        Node::Scan(_) => true,
+        Node::Window { first, n } => resolve_wins(cells, rows, first, n, fields, k, width),
+        Node::SubqueryAlias { qualifier: _ } => Resolved::Fine,
+        Node::Union { right: _ } => Resolved::Fine,
+        Node::Distinct => Resolved::Fine,
+        Node::Join(j) => join_resolved(cells, rows, j, fields, sides),
+        Node::Scan(_) => Resolved::Fine,
         Node::Empty {
             one_row: _,
             first: _,
             n: _,
-        } => true,
+        } => Resolved::Fine,
     }
 }
 
@@ -376,7 +379,7 @@ fn two_sides(left: usize, lwidth: usize, right: usize, rwidth: usize) -> Sides
     }
 }
 
-/// The verdict on node `k` alone, whose sides are its inputs' fields: 8, 9, 10, 7 in that order. Its fields are stored. Its rows and roots are
+/// The verdict on node `k` alone, whose sides are its inputs' fields: 8, 17, 9, 10, 7 in that order. Its fields are stored. Its rows and roots are
 /// well formed, and what gives its fields lies in the arrays.
 fn own_verdict(
     cells: &[u64],
@@ -392,9 +395,11 @@ fn own_verdict(
     requires { ⌜ SidesReady (now fields) k sides × (k < length (now widths)) ⌝ }
     ensures { λ r. ⌜ ((C : Catalogue) → Named C (now (names .entry)) node → Judged C (headOf (parts (now (cells .entry)) (now (rows .entry))) node) (leftRow (now (fields .entry)) sides) (rightRow (now (fields .entry)) sides) k (now (fields .entry)) (now (widths .entry)) (now (fields .exit)) (now (widths .exit)) r) ⌝ }
 {
-    let known = node_known(cells, rows, node, fields, sides);
-    if !known {
-        return Verdict::Bad(UNKNOWN, k);
+    let resolved = node_resolved(cells, rows, node, fields, sides);
+    match resolved {
+        Resolved::Fine => {}
+        Resolved::Unknown => return Verdict::Bad(UNKNOWN, k),
+        Resolved::Ambiguous => return Verdict::Bad(AMBIGUOUS, k),
     }
     let even = is_even(node, sides.lwidth, sides.rwidth);
     if !even {

@@ -45,16 +45,17 @@ fn judge(q: u16, n: u16, r: u16, m: u16)
     }
 }
 
-// The place of a pair among three fields.
+// What a reference finds among four fields, two of which have one name.
 fn place(q: u16, n: u16) {
-    let fields = [1u16, 1, 1, 2, 0, 3];
-    match lookup::look_up(&fields, 0, 3, q, n) {
+    let fields = [1u16, 1, 1, 2, 0, 3, 2, 1];
+    match lookup::look_up(&fields, 0, 4, q, n) {
         Lookup::Found(i) => {
             text(b"found ");
             number(i);
             text(b"\n");
         }
         Lookup::Absent => text(b"absent\n"),
+        Lookup::Ambiguous => text(b"ambiguous\n"),
     }
 }
 
@@ -78,7 +79,11 @@ fn main() {
     judge(1, 1, 2, 1);
     place(1, 2);
     place(0, 2);
+    place(2, 2);
     place(0, 3);
+    place(1, 3);
+    place(2, 1);
+    place(0, 1);
     ask(&[0, 2]);
     ask(&[1, 1]);
     ask(&[0, 3]);

@@ -6,6 +6,7 @@ use mathlib.Core.Option.{Option, none, some}
 use Prim.Native.Nat.{ℕ, _<_}
 use native.Mathlib.Omega.{arith}
 use Rattle.cpl.specs.Plan.{Plan, Catalogue, Source}
+use Rattle.cpl.specs.Codes.{AMBIGUOUS}
 use Rattle.cpl.specs.Read.{Res, ok, bad}
 use Rattle.cpl.specs.ReadPlan.{readFile}
 use Rattle.cpl.specs.Accept.{Fault, fault, check}
@@ -16,25 +17,30 @@ use Rattle.rules.specs.Check.{Finding, accepted, faulty, found, finding, Checke
 
 -- ── codes ───────────────────────────────────────────────────────────────────────────────────
 
+-- "2 to 10", and 17 in its place
+abbrev pub RefusalCode : ℕ → Type 0
+RefusalCode code = Within 2 10 code ⊎ (code ≡ AMBIGUOUS)
+
 abbrev pub Sound : Finding → Type 0
 Sound (accepted C p) = Unit {0}
-Sound (faulty code place) = Within 2 10 code
+Sound (faulty code place) = RefusalCode code
 
 found-sound : (C : Catalogue) (p : Plan) (f : Option Fault) → Faulty f → Sound (found C p f)
 found-sound C p none h = tt
-found-sound C p (some (fault code node)) h = (omega (arith, h .0), omega (arith, h .1))
+found-sound C p (some (fault code node)) (inl h) = inl (omega (arith, h .0), omega (arith, h .1))
+found-sound C p (some (fault code node)) (inr e) = inr e
 
 finding-sound : (r : Res Source) → Coded r → Sound (finding r)
 unfolding finding
 finding-sound (ok s next tags nodes) h = found-sound (s .catalogue) (s .plan) (check (s .catalogue) (s .plan) 0) (check-coded (s .catalogue) (s .plan) 0)
-finding-sound (bad code place) h = (omega (arith, h .0), omega (arith, h .1))
+finding-sound (bad code place) h = inl (omega (arith, h .0), omega (arith, h .1))
 
 pub file-sound : (file : List ℕ) → Sound (finding (readFile file))
 file-sound file = finding-sound (readFile file) (reading-coded file)
 
 -- "the node count and root field count or codes 2 to 10"
 abbrev pub Told : Checked → Type 0
-Told c = ((c .code ≡ 0) × (c .place ≡ 0)) ⊎ (Within 2 10 (c .code) × (c .nodes ≡ 0) × (c .fields ≡ 0))
+Told c = ((c .code ≡ 0) × (c .place ≡ 0)) ⊎ (RefusalCode (c .code) × (c .nodes ≡ 0) × (c .fields ≡ 0))
 
 numbers-told : (f : Finding) → Sound f → Told (numbersOf f)
 unfolding numbersOf

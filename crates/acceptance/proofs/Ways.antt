@@ -1,5 +1,6 @@
 -- The ways that a reading can end: refused by the reader or at a node, or accepted. Assumes nothing.
 use mathlib.Core.Path.{_≡_, refl, sym, _∙_, ap, subst, subst⁻¹}
+use mathlib.Core.Logic.{⊎-elim}
 use mathlib.Core.List.{List, [], _∷_}
 use mathlib.Core.Option.{none, some}
 use Prim.Native.Nat.{ℕ, suc, _≤_, _<_}
@@ -45,7 +46,7 @@ module _ (file cells rows nodes fields widths : List ℕ) (r : Reading) where
   unfolding checkFile numbersOf
   refused code place e h = record {
     says = subst⁻¹ (λ f. CheckedIs (numbersOf f) (r .checked)) h (record { code-is = e .0; place-is = e .1; nodes-is = e .2; fields-is = e .3 });
-    plan = λ z. absurd (let s : Sound (faulty code place) = subst Sound h (file-sound file) in omega (arith, s .0, e .0));
+    plan = λ z. absurd (let s : Sound (faulty code place) = subst Sound h (file-sound file) in ⊎-elim (λ w. omega (arith, w .0, e .0)) (λ w. omega (arith, w, e .0)) s);
   }
 
   pub refuse-read : (code place : ℕ) → Refuses (r .checked) code place → readFile file ≡ bad code place → ReadingIs file cells rows nodes fields widths r

@@ -1,11 +1,13 @@
 -- The laws of definitions: what a column finds, and what replacing makes of an expression. Assumes nothing.
 use mathlib.Core.Path.{_≡_, refl, sym, ap, ap₂, _∙_}
-use mathlib.Core.Bool.{Bool, true, false, cond, _&&_}
+use mathlib.Core.Bool.{Bool, true, false, cond, _&&_, _||_}
 use mathlib.Core.List.{List}
 use Prim.Native.Nat.{ℕ, zero, suc, _+_, _-_, _<_, _≤_}
 use native.Mathlib.Omega.{arith}
 use lib.Dec.{eqb}
-use Rattle.cpl.specs.Plan.{Expr, Item, Pair, bare, bin, col, eqP, itemPair, lit, miss, named, pair, un}
+use Rattle.cpl.specs.Plan.{Expr, Item, Pair, bare, bin, col, itemPair, lit, miss, named, pair, un}
+use Rattle.cpl.specs.Exprs.{fits}
+use Rattle.cpl.proofs.Lookup.{fits-is}
 use Rattle.rules.specs.Merge.{defOf, replace}
 use Rattle.arena.specs.Cells.{Wf, exprAt}
 use Rattle.arena.specs.Rows.{RowIs, RowOk, RowsOk, itemAt, itemsAt, markAt, pairAt, rootAt, rowItem}
@@ -24,28 +26,27 @@ module _ (s : List ℕ) (f n : ℕ) (c : Pair) where
   pub passed-none : Passed s f n c 0
   passed-none = record { upto = omega arith; same = ap₂ (λ a b. findIn s a b c) (omega arith) (omega arith) }
 
-  find-next : (i : ℕ) → i < n → findIn s (f + i) (n - i) c ≡ cond (eqP c (pairAt s (f + i))) (At (rootAt s (f + i))) (findIn s (f + (i + 1)) (n - (i + 1)) c)
+  find-next : (i : ℕ) → i < n → findIn s (f + i) (n - i) c ≡ cond (fits c (pairAt s (f + i))) (At (rootAt s (f + i))) (findIn s (f + (i + 1)) (n - (i + 1)) c)
   unfolding findIn
   find-next i h =
       let e : n - i ≡ suc (n - (i + 1)) = omega arith in
       let g : suc (f + i) ≡ f + (i + 1) = omega arith in
-      ap (λ k. findIn s (f + i) k c) e ∙ ap (λ k. cond (eqP c (pairAt s (f + i))) (At (rootAt s (f + i))) (findIn s k (n - (i + 1)) c)) g
+      ap (λ k. findIn s (f + i) k c) e ∙ ap (λ k. cond (fits c (pairAt s (f + i))) (At (rootAt s (f + i))) (findIn s k (n - (i + 1)) c)) g
 
   pub passed-all : (i : ℕ) → Passed s f n c i → n ≤ i → Nothing ≡ findIn s f n c
   unfolding findIn
   passed-all i p h = let e : n - i ≡ 0 = omega arith in sym (ap (λ k. findIn s (f + i) k c) e) ∙ p .same
 
 -- the code's test of a row's pair
-pub pair-test : {s : List ℕ} {i a b t k : ℕ} {z : Bool} (q m : ℕ) → RowIs s i a b t k → eqb q a && eqb m b ≡ z → eqP (pair q m) (pairAt s i) ≡ z
-unfolding eqP
-pair-test q m r e = sym (ap (eqP (pair q m)) (r .pair-is)) ∙ e
+fits-test : {s : List ℕ} {i a b t k : ℕ} {z : Bool} (q m : ℕ) → RowIs s i a b t k → eqb m b && (eqb q 0 || eqb q a) ≡ z → fits (pair q m) (pairAt s i) ≡ z
+fits-test {a = a} {b} q m r e = sym (ap (fits (pair q m)) (r .pair-is)) ∙ fits-is q m a b ∙ e
 
 module _ (s : List ℕ) (f n q m : ℕ) where
-  pub passed-more : (i a b t k : ℕ) → Passed s f n (pair q m) i → i < n → RowIs s (f + i) a b t k → eqb q a && eqb m b ≡ false → Passed s f n (pair q m) (i + 1)
-  passed-more i a b t k p h r e = record { upto = omega arith; same = sym (find-next s f n (pair q m) i h ∙ rw (pair-test q m r e)) ∙ p .same }
+  pub passed-more : (i a b t k : ℕ) → Passed s f n (pair q m) i → i < n → RowIs s (f + i) a b t k → eqb m b && (eqb q 0 || eqb q a) ≡ false → Passed s f n (pair q m) (i + 1)
+  passed-more i a b t k p h r e = record { upto = omega arith; same = sym (find-next s f n (pair q m) i h ∙ rw (fits-test q m r e)) ∙ p .same }
 
-  pub passed-found : (i a b t k : ℕ) → Passed s f n (pair q m) i → i < n → RowIs s (f + i) a b t k → eqb q a && eqb m b ≡ true → At k ≡ findIn s f n (pair q m)
-  passed-found i a b t k p h r e = ap At (r .root-is) ∙ sym (find-next s f n (pair q m) i h ∙ rw (pair-test q m r e)) ∙ p .same
+  pub passed-found : (i a b t k : ℕ) → Passed s f n (pair q m) i → i < n → RowIs s (f + i) a b t k → eqb m b && (eqb q 0 || eqb q a) ≡ true → At k ≡ findIn s f n (pair q m)
+  passed-found i a b t k p h r e = ap At (r .root-is) ∙ sym (find-next s f n (pair q m) i h ∙ rw (fits-test q m r e)) ∙ p .same
 
 -- ── the definition of a column ──────────────────────────────────────────────────────────────
 
@@ -61,7 +62,7 @@ less : {s cells : List ℕ} {f n : ℕ} → RowsOk s cells f (suc n) → RowsOk 
 less o = record { room = omega (arith, o .room); each = λ k h l. o .each k (omega arith) (omega arith) }
 
 module _ (s cells : List ℕ) (c : Pair) where
-  def-next : (f n : ℕ) → RowOk s cells f → defOf c (itemsAt s cells f (suc n)) ≡ cond (eqP c (pairAt s f)) (exprAt cells (rootAt s f)) (defOf c (itemsAt s cells (suc f) n))
+  def-next : (f n : ℕ) → RowOk s cells f → defOf c (itemsAt s cells f (suc n)) ≡ cond (fits c (pairAt s f)) (exprAt cells (rootAt s f)) (defOf c (itemsAt s cells (suc f) n))
   unfolding defOf itemsAt
   def-next f n o = rw (item-pair s cells f, item-expr s cells f o)
 
@@ -70,7 +71,7 @@ module _ (s cells : List ℕ) (c : Pair) where
   def-found f zero j o e = let z : _≡_ {A = ℕ} 0 1 = cc in absurd (omega arith)
   def-found f (suc n) j o e =
       let r = o .each f (omega arith) (omega arith) in
-      go (def-found (suc f) n j (less o)) (r .node) (eqP c (pairAt s f)) e (def-next f n r)
+      go (def-found (suc f) n j (less o)) (r .node) (fits c (pairAt s f)) e (def-next f n r)
     where
       go : (findIn s (suc f) n c ≡ At j → (defOf c (itemsAt s cells (suc f) n) ≡ exprAt cells j) × Wf cells (j + 1)) → Wf cells (rootAt s f + 1) → (b : Bool)
           → cond b (At (rootAt s f)) (findIn s (suc f) n c) ≡ At j → defOf c (itemsAt s cells f (suc n)) ≡ cond b (exprAt cells (rootAt s f)) (defOf c (itemsAt s cells (suc f) n))
@@ -81,7 +82,7 @@ module _ (s cells : List ℕ) (c : Pair) where
   pub def-none : (f n : ℕ) → RowsOk s cells f n → findIn s f n c ≡ Nothing → defOf c (itemsAt s cells f n) ≡ miss
   unfolding findIn defOf itemsAt
   def-none f zero o e = refl
-  def-none f (suc n) o e = go (def-none (suc f) n (less o)) (eqP c (pairAt s f)) e (def-next f n (o .each f (omega arith) (omega arith)))
+  def-none f (suc n) o e = go (def-none (suc f) n (less o)) (fits c (pairAt s f)) e (def-next f n (o .each f (omega arith) (omega arith)))
     where
       go : (findIn s (suc f) n c ≡ Nothing → defOf c (itemsAt s cells (suc f) n) ≡ miss) → (b : Bool) → cond b (At (rootAt s f)) (findIn s (suc f) n c) ≡ Nothing
           → defOf c (itemsAt s cells f (suc n)) ≡ cond b (exprAt cells (rootAt s f)) (defOf c (itemsAt s cells (suc f) n)) → defOf c (itemsAt s cells f (suc n)) ≡ miss

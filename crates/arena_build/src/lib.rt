@@ -34,13 +34,14 @@ pub fn push(cells: &mut [u64], used: usize, tag: u64, x: u64, y: u64) -> Built
     Built::Full
 }
 
-/// What a column finds among definitions: the node of one, or nothing.
+/// What a reference finds among definitions: the node of one, or nothing.
 pub enum Found {
     At(usize),
     Nothing,
 }
 
-/// The node of the first row whose pair is (q, n). The list's rows lie in the array.
+/// The node of the first row whose pair fits the reference (q, n): a name without qualifier fits every pair of that name. The list's rows
+/// lie in the array.
 pub fn find_def(items: &[u16], first: usize, count: usize, q: u16, n: u16) -> Found
     requires { ⌜ (first + count) * 4 ≤ length (now items) ⌝ }
     ensures { λ r. ⌜ r ≡ findIn (now (items .entry)) first count (pair q n) ⌝ }
@@ -48,7 +49,7 @@ pub fn find_def(items: &[u16], first: usize, count: usize, q: u16, n: u16) -> Fo
     let mut i = 0;
     while i < count {
         let row = arena::row_at(items, first + i);
-        if (q == row.qualifier) & (n == row.name) {
+        if (n == row.name) & ((q == 0) | (q == row.qualifier)) {
             return Found::At(row.root);
         }
         i += 1;
@@ -62,7 +63,7 @@ pub const COPY: usize = 0;
 pub const REPLACE: usize = 1;
 
 /// Builds the expression of node `i` of `src` behind the nodes in use. At level COPY it is a copy; at any other level each column is
-/// replaced by its definition, which is copied: the expression of the row of the list (items, first, count, cells) with its pair.
+/// replaced by its definition, which is copied: the expression of the row of the list (items, first, count, cells) that it finds.
 /// The node, the list's rows and the nodes in use are well formed. Rust: `rewrite_expr`.
 pub fn subst(
     src: &[u64],

@@ -219,7 +219,7 @@ fn compare() {
     line();
 }
 
-// The upper list over the lower one.
+// What a name alone finds in the lower list; and the upper list over the lower one.
 fn build() {
     let cells = CELLS;
     let items = ITEMS;
@@ -227,7 +227,7 @@ fn build() {
     let upper = UPPER;
     let mut rows = [0u16; 36];
     let mut dst = [0u64; 54];
-    let f = arena_build::find_def(&items, 0, 5, 2, 8);
+    let f = arena_build::find_def(&items, 0, 5, 0, 8);
     match f {
         Found::At(j) => number(j as u64),
         Found::Nothing => line(),

@@ -6,69 +6,89 @@ use mathlib.Core.Option.{Option, none, some}
 use Prim.Native.Nat.{ℕ, suc, _+_, _≤_}
 use lib.Dec.{T, leb, leb→le, le→leb}
 use lib.ListN.{length}
-use Rattle.cpl.specs.Tests.{allB}
 use Rattle.cpl.specs.Limits.{maxFields}
-use Rattle.cpl.specs.Codes.{CLASH, UNKNOWN, WIDTH, FIELDS}
-use Rattle.cpl.specs.Plan.{Pair, Binary, union, join, Plan, leaf, unary, binary, Catalogue}
-use Rattle.cpl.specs.Exprs.{known, unaryExprs, planNodes}
+use Rattle.cpl.specs.Codes.{CLASH, UNKNOWN, AMBIGUOUS, WIDTH, FIELDS}
+use Rattle.cpl.specs.Plan.{Pair, Expr, Binary, union, join, Plan, leaf, unary, binary, Catalogue}
+use Rattle.cpl.specs.Exprs.{known, definite, unaryExprs, planNodes}
 use Rattle.cpl.specs.Fields.{leafFields, unaryFields, binaryFields, fieldsOf}
-use Rattle.cpl.specs.Accept.{clash, knownBinary, even, together, Fault, _then_, must, nodeFault, check}
+use Rattle.cpl.specs.Accept.{clash, Test, allPass, binaryPasses, even, together, Fault, _then_, must, nodeFault, check}
+use Rattle.cpl.specs.Lists.{All}
+use Rattle.cpl.proofs.Lists.{All-map, All-both, all-T, T-all}
 use Rattle.cpl.proofs.Clash.{Clear, clear, no-clash, clear-join}
 
+-- each reference finds one field, and no second one fits
+pub record Resolved (all-pass : Test → Bool) : Type 0 where
+  pub all-found : T (all-pass known)
+  pub all-definite : T (all-pass definite)
+
 -- a node without a fault
-pub record NodeOk (all-known inputs-even : Bool) (fs gs : List Pair) : Type 0 where
-  pub all-found : T all-known
+pub record NodeOk (all-pass : Test → Bool) (inputs-even : Bool) (fs gs : List Pair) : Type 0 where
+  pub resolved : Resolved all-pass
   pub as-wide : T inputs-even
   pub few : length fs ≤ maxFields
   pub distinct : Clear gs
 
 unfoldable pub Accepted : Catalogue → Plan → Type 0
-Accepted C (leaf h) = NodeOk true true (leafFields C h) (leafFields C h)
-Accepted C (unary h p) = Accepted C p × NodeOk (allB (known (fieldsOf C p)) (unaryExprs h)) true (unaryFields h (fieldsOf C p)) (unaryFields h (fieldsOf C p))
+Accepted C (leaf h) = NodeOk (λ test. true) true (leafFields C h) (leafFields C h)
+Accepted C (unary h p) = Accepted C p × NodeOk (allPass (unaryExprs h) (fieldsOf C p)) true (unaryFields h (fieldsOf C p)) (unaryFields h (fieldsOf C p))
 Accepted C (binary h p₁ p₂) =
     Accepted C p₁ × Accepted C p₂
-    × NodeOk (knownBinary h (fieldsOf C p₁) (fieldsOf C p₂)) (even h (fieldsOf C p₁) (fieldsOf C p₂)) (binaryFields h (fieldsOf C p₁) (fieldsOf C p₂)) (together h (fieldsOf C p₁) (fieldsOf C p₂))
+    × NodeOk (binaryPasses h (fieldsOf C p₁) (fieldsOf C p₂)) (even h (fieldsOf C p₁) (fieldsOf C p₂)) (binaryFields h (fieldsOf C p₁) (fieldsOf C p₂)) (together h (fieldsOf C p₁) (fieldsOf C p₂))
+
+-- ── expression by expression ────────────────────────────────────────────────────────────────
+
+pub record Sees (fs : List Pair) (e : Expr) : Type 0 where
+  pub is-known : T (known fs e)
+  pub is-definite : T (definite fs e)
+
+pub each-sees : (es : List Expr) (fs : List Pair) → Resolved (allPass es fs) → All (Sees fs) es
+each-sees es fs r = All-map (λ e h. record { is-known = h .0; is-definite = h .1 }) (All-both (all-T (known fs) es (r .all-found)) (all-T (definite fs) es (r .all-definite)))
+
+pub all-see : {es : List Expr} (fs : List Pair) → All (Sees fs) es → Resolved (allPass es fs)
+all-see fs h = record { all-found = T-all (known fs) (All-map (λ e s. s .is-known) h); all-definite = T-all (definite fs) (All-map (λ e s. s .is-definite) h) }
 
 -- ── one test after the other ────────────────────────────────────────────────────────────────
 
-then-none : (f g : Option Fault) → (f then g) ≡ none → (f ≡ none) × (g ≡ none)
+pub then-none : (f g : Option Fault) → (f then g) ≡ none → (f ≡ none) × (g ≡ none)
 unfolding _then_
 then-none none g e = (refl, e)
 then-none (some x) g e = absurd (let z : true ≡ false = cc in true≢false z)
 
-none-then : {f g : Option Fault} → f ≡ none → g ≡ none → (f then g) ≡ none
+pub none-then : {f g : Option Fault} → f ≡ none → g ≡ none → (f then g) ≡ none
 unfolding _then_
 none-then e h = ap₂ _then_ e h
 
-must-none : (b : Bool) (code at : ℕ) → must b code at ≡ none → T b
+pub must-none : (b : Bool) (code at : ℕ) → must b code at ≡ none → T b
 unfolding must
 must-none true code at e = tt
 must-none false code at e = absurd (let z : true ≡ false = cc in true≢false z)
 
-none-must : (b : Bool) (code at : ℕ) → T b → must b code at ≡ none
+pub none-must : (b : Bool) (code at : ℕ) → T b → must b code at ≡ none
 unfolding must
 none-must true code at t = refl
 none-must false code at t = absurd t
 
-node-ok : (at : ℕ) (k e : Bool) (fs gs : List Pair) → nodeFault at k e fs gs ≡ none → NodeOk k e fs gs
+node-ok : (at : ℕ) (k : Test → Bool) (e : Bool) (fs gs : List Pair) → nodeFault at k e fs gs ≡ none → NodeOk k e fs gs
 unfolding nodeFault
 node-ok at k e fs gs n =
-    let h₁ = then-none (must k UNKNOWN at) _ n in
-    let h₂ = then-none (must e WIDTH at) _ (h₁ .1) in
+    let h₁ = then-none (must (k known) UNKNOWN at) _ n in
+    let h₀ = then-none (must (k definite) AMBIGUOUS at) _ (h₁ .1) in
+    let h₂ = then-none (must e WIDTH at) _ (h₀ .1) in
     let h₃ = then-none (must (leb (length fs) maxFields) FIELDS at) _ (h₂ .1) in
     record {
-      all-found = must-none k UNKNOWN at (h₁ .0);
+      resolved = record { all-found = must-none (k known) UNKNOWN at (h₁ .0); all-definite = must-none (k definite) AMBIGUOUS at (h₀ .0) };
       as-wide = must-none e WIDTH at (h₂ .0);
       few = leb→le (length fs) maxFields (must-none (leb (length fs) maxFields) FIELDS at (h₃ .0));
       distinct = clear gs (must-none (not (clash gs)) CLASH at (h₃ .1));
     }
 
-ok-node : (at : ℕ) {k e : Bool} {fs gs : List Pair} → NodeOk k e fs gs → nodeFault at k e fs gs ≡ none
+ok-node : (at : ℕ) {k : Test → Bool} {e : Bool} {fs gs : List Pair} → NodeOk k e fs gs → nodeFault at k e fs gs ≡ none
 unfolding nodeFault
 ok-node at {k} {e} {fs} {gs} o =
-    none-then (none-must k UNKNOWN at (o .all-found))
+    none-then (none-must (k known) UNKNOWN at (o .resolved .all-found))
+    (none-then (none-must (k definite) AMBIGUOUS at (o .resolved .all-definite))
     (none-then (none-must e WIDTH at (o .as-wide))
-    (none-then (none-must (leb (length fs) maxFields) FIELDS at (le→leb (length fs) maxFields (o .few))) (none-must (not (clash gs)) CLASH at (no-clash (o .distinct)))))
+    (none-then (none-must (leb (length fs) maxFields) FIELDS at (le→leb (length fs) maxFields (o .few))) (none-must (not (clash gs)) CLASH at (no-clash (o .distinct))))))
 
 -- ── plans ───────────────────────────────────────────────────────────────────────────────────
 

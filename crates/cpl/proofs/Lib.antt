@@ -5,8 +5,10 @@ pub mod Lists
 pub mod Pairs
 -- acceptance
 pub mod Clash
+pub mod Lookup
 pub mod Accepted
 pub mod FitFields
+pub mod BareNames
 -- reading and writing are inverse
 pub mod Stands
 pub mod Codec

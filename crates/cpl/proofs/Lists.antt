@@ -2,13 +2,13 @@
 use mathlib.Core.Path.{_≡_, refl, ap, ap₂}
 use mathlib.Core.List.{List, [], _∷_, _++_, map}
 use mathlib.Core.Bool.{Bool, true, false, cond}
-use Prim.Native.Nat.{suc}
+use Prim.Native.Nat.{ℕ, suc}
 use native.Mathlib.Omega.{arith}
-use lib.Dec.{T}
+use lib.Dec.{T, eqb, eqb-refl}
 use lib.ListN.{length, take, drop}
-use Rattle.cpl.specs.Tests.{allB, concatMap}
+use Rattle.cpl.specs.Tests.{anyB, allB, concatMap}
 use Rattle.cpl.specs.Lists.{All, a[], _a∷_, z[], _z∷_, Fit}
-use Rattle.cpl.proofs.Bools.{halves, both-T}
+use Rattle.cpl.proofs.Bools.{halves, both-T, left-T, right-T}
 
 -- ── map ─────────────────────────────────────────────────────────────────────────────────────
 
@@ -39,6 +39,10 @@ module _ {A : Type 0} {P : A → Type 0} where
   pub All-map : {Q : A → Type 0} → ((x : A) → P x → Q x) → {xs : List A} → All P xs → All Q xs
   All-map f a[] = a[]
   All-map f (_a∷_ {x = x} h hs) = f x h a∷ All-map f hs
+
+  pub All-both : {Q : A → Type 0} {xs : List A} → All P xs → All Q xs → All (λ x. P x × Q x) xs
+  All-both a[] a[] = a[]
+  All-both (h a∷ hs) (k a∷ ks) = (h, k) a∷ All-both hs ks
 
   pub All-++ : {xs ys : List A} → All P xs → All P ys → All P (xs ++ ys)
   All-++ a[] k = k
@@ -72,6 +76,16 @@ module _ {A : Type 0} {P : A → Type 0} where
       go : {B : Type 0} {Q : B → Type 0} {ys zs : List B} → All Q ys → All Q zs → All Q (ys ++ zs)
       go a[] k = k
       go (h a∷ hs) k = h a∷ go hs k
+
+pub All-unmapped : {A B : Type 0} {Q : B → Type 0} (f : A → B) (xs : List A) → All Q (map f xs) → All (λ x. Q (f x)) xs
+All-unmapped f [] a[] = a[]
+All-unmapped f (x ∷ xs) (h a∷ hs) = h a∷ All-unmapped f xs hs
+
+-- what holds of every number that is found in a list
+pub each-number : (P : ℕ → Type 0) (ns : List ℕ) → ((i : ℕ) → T (anyB (eqb i) ns) → P i) → All P ns
+unfolding anyB
+each-number P [] h = a[]
+each-number P (n ∷ ns) h = h n (left-T (eqb n n) (anyB (eqb n) ns) (eqb-refl n)) a∷ each-number P ns (λ i t. h i (right-T (eqb i n) (anyB (eqb i) ns) t))
 
 -- a test that all pass, and what each passes
 pub all-T : {A : Type 0} (p : A → Bool) (xs : List A) → T (allB p xs) → All (λ x. T (p x)) xs

@@ -1,4 +1,6 @@
--- Every refusal of reading has a code from 2 to 6 (only that of the mark is 2), and every fault of acceptance one from 7 to 10.
+-- Every refusal of reading has a code from 2 to 6 (only that of the mark is 2), and every fault of acceptance one from 7 to 10, or 17.
+use mathlib.Core.Logic.{_⊎_, inl, inr}
+use mathlib.Core.Path.{_≡_, refl}
 use mathlib.Core.Bool.{Bool, true, false}
 use mathlib.Core.List.{List, [], _∷_}
 use mathlib.Core.Option.{Option, none, some}
@@ -7,12 +9,13 @@ use native.Mathlib.Omega.{arith}
 use lib.Dec.{ltb, leb, eqb}
 use lib.ListN.{length, getD}
 use Rattle.cpl.specs.Limits.{maxTables, maxColumns, maxItems, maxKeys, maxNodes, maxTags, maxFields}
-use Rattle.cpl.specs.Codes.{VALUE, MANY, CLASH, UNKNOWN, WIDTH, FIELDS, aliasTag}
+use Rattle.cpl.specs.Codes.{VALUE, MANY, CLASH, UNKNOWN, AMBIGUOUS, WIDTH, FIELDS, aliasTag}
 use Rattle.cpl.specs.Plan.{Pair, Plan, leaf, unary, binary, Catalogue, Source}
 use Rattle.cpl.specs.Read.{Res, ok, bad, Reader, andThen, _>>=_, give, refuse, pick, here, field, value, isNot, nonzero, below, count, any, tag, nodeTag, times, counted}
 use Rattle.cpl.specs.ReadExpr.{readPair, readColumn, readLiteral, leafRest, exprRest, exprTo, readExpr, readAlias, readBare, readItem, readKey, readCall, readAgg, readWin, readOn}
 use Rattle.cpl.specs.ReadPlan.{Head, h0, h1, h2, readLimit, readAggregate, readCond, readJoin, readColumns, readScan, readEmpty, readHead, readInputs, planTo, starts, markBytes, readMark, readCatalogue, readEnd, readSource, readFile}
-use Rattle.cpl.specs.Accept.{Fault, fault, _then_, must, nodeFault, check}
+use Rattle.cpl.specs.Accept.{Test, Fault, fault, _then_, must, nodeFault, check}
+use Rattle.cpl.specs.Exprs.{known, definite}
 
 -- ── readers ─────────────────────────────────────────────────────────────────────────────────
 
@@ -227,26 +230,30 @@ reading-coded file =
 
 -- ── acceptance ──────────────────────────────────────────────────────────────────────────────
 
+abbrev pub FaultCode : ℕ → Type 0
+FaultCode code = Within 7 10 code ⊎ (code ≡ AMBIGUOUS)
+
 abbrev pub Faulty : Option Fault → Type 0
 Faulty none = Unit {0}
-Faulty (some (fault code node)) = Within 7 10 code
+Faulty (some (fault code node)) = FaultCode code
 
 faulty-then : (f g : Option Fault) → Faulty f → Faulty g → Faulty (f then g)
 unfolding _then_
 faulty-then none g h k = k
 faulty-then (some e) g h k = h
 
-faulty-must : (b : Bool) (code at : ℕ) → Within 7 10 code → Faulty (must b code at)
+faulty-must : (b : Bool) (code at : ℕ) → FaultCode code → Faulty (must b code at)
 unfolding must
 faulty-must true code at h = tt
 faulty-must false code at h = h
 
-faulty-node : (at : ℕ) (k e : Bool) (fs gs : List Pair) → Faulty (nodeFault at k e fs gs)
+faulty-node : (at : ℕ) (k : Test → Bool) (e : Bool) (fs gs : List Pair) → Faulty (nodeFault at k e fs gs)
 unfolding nodeFault
 faulty-node at k e fs gs =
-    faulty-then (must k UNKNOWN at) _ (faulty-must k UNKNOWN at (omega arith, omega arith))
-    (faulty-then (must e WIDTH at) _ (faulty-must e WIDTH at (omega arith, omega arith))
-    (faulty-then (must (leb (length fs) maxFields) FIELDS at) _ (faulty-must _ FIELDS at (omega arith, omega arith)) (faulty-must _ CLASH at (omega arith, omega arith))))
+    faulty-then (must (k known) UNKNOWN at) _ (faulty-must (k known) UNKNOWN at (inl (omega arith, omega arith)))
+    (faulty-then (must (k definite) AMBIGUOUS at) _ (faulty-must (k definite) AMBIGUOUS at (inr refl))
+    (faulty-then (must e WIDTH at) _ (faulty-must e WIDTH at (inl (omega arith, omega arith)))
+    (faulty-then (must (leb (length fs) maxFields) FIELDS at) _ (faulty-must _ FIELDS at (inl (omega arith, omega arith))) (faulty-must _ CLASH at (inl (omega arith, omega arith))))))
 
 pub check-coded : (C : Catalogue) (p : Plan) (at : ℕ) → Faulty (check C p at)
 unfolding check

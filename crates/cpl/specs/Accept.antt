@@ -1,4 +1,5 @@
--- Acceptance: codes 7 to 10 of document 01, each with its node. "8, 9, 10, 7 at each node, children first, left before right."
+-- Acceptance: codes 7 to 10 of document 01 and 17 of document 02, each with its node. "8, 9, 10, 7 at each node, children first, left before
+-- right", and 17 "at each node between 8 and 9".
 use mathlib.Core.List.{List, [], _∷_, _++_}
 use mathlib.Core.Bool.{Bool, true, false, cond, not, _&&_, _||_}
 use mathlib.Core.Option.{Option, none, some}
@@ -7,9 +8,9 @@ use lib.Dec.{eqb, leb}
 use lib.ListN.{length}
 use Rattle.cpl.specs.Tests.{anyB, allB}
 use Rattle.cpl.specs.Limits.{maxFields}
-use Rattle.cpl.specs.Codes.{CLASH, UNKNOWN, WIDTH, FIELDS}
-use Rattle.cpl.specs.Plan.{Pair, pair, eqP, On, on, Binary, union, join, Plan, leaf, unary, binary, Catalogue}
-use Rattle.cpl.specs.Exprs.{known, unaryExprs, condExprs, planNodes}
+use Rattle.cpl.specs.Codes.{CLASH, UNKNOWN, AMBIGUOUS, WIDTH, FIELDS}
+use Rattle.cpl.specs.Plan.{Pair, pair, eqP, Expr, On, on, Binary, union, join, Plan, leaf, unary, binary, Catalogue}
+use Rattle.cpl.specs.Exprs.{known, definite, unaryExprs, condExprs, planNodes}
 use Rattle.cpl.specs.Fields.{leafFields, unaryFields, binaryFields, fieldsOf}
 
 -- ── the tests ───────────────────────────────────────────────────────────────────────────────
@@ -26,13 +27,21 @@ unfoldable pub clash : List Pair → Bool
 clash [] = false
 clash (f ∷ fs) = anyB (conflict f) fs || clash fs
 
--- "of a join: pair halves each in their own side, the condition in both"
-unfoldable pub knownOn : List Pair → List Pair → On → Bool
-knownOn fl fr (on a b) = known fl a && known fr b
+-- what an expression is to pass, over the fields that it sees: to be known, or definite
+abbrev pub Test : Type 0
+Test = List Pair → Expr → Bool
 
-unfoldable pub knownBinary : Binary → List Pair → List Pair → Bool
-knownBinary union fl fr = true
-knownBinary (join t os c) fl fr = allB (knownOn fl fr) os && allB (known (fl ++ fr)) (condExprs c)
+-- do all expressions pass over these fields?
+abbrev pub allPass : List Expr → List Pair → Test → Bool
+allPass es fs test = allB (test fs) es
+
+-- "of a join: pair halves each in their own side, the condition in both"
+unfoldable pub onPasses : List Pair → List Pair → Test → On → Bool
+onPasses fl fr test (on a b) = test fl a && test fr b
+
+unfoldable pub binaryPasses : Binary → List Pair → List Pair → Test → Bool
+binaryPasses union fl fr test = true
+binaryPasses (join t os c) fl fr test = allB (onPasses fl fr test) os && allPass (condExprs c) (fl ++ fr) test
 
 -- "WIDTH: Union inputs of unequal width"
 unfoldable pub even : Binary → List Pair → List Pair → Bool
@@ -58,18 +67,18 @@ unfoldable pub must : Bool → (code at : ℕ) → Option Fault
 must true code at = none
 must false code at = some (fault code at)
 
--- of node `at`: its columns are known, its inputs even, its own fields fs few, and gs without a clash
-unfoldable pub nodeFault : (at : ℕ) (all-known inputs-even : Bool) (fs gs : List Pair) → Option Fault
-nodeFault at all-known inputs-even fs gs =
-    must all-known UNKNOWN at then must inputs-even WIDTH at then must (leb (length fs) maxFields) FIELDS at then must (not (clash gs)) CLASH at
+-- of node `at`: its references are known and definite, its inputs even, its own fields fs few, and gs without a clash
+unfoldable pub nodeFault : (at : ℕ) (all-pass : Test → Bool) (inputs-even : Bool) (fs gs : List Pair) → Option Fault
+nodeFault at all-pass inputs-even fs gs =
+    must (all-pass known) UNKNOWN at then must (all-pass definite) AMBIGUOUS at then must inputs-even WIDTH at then must (leb (length fs) maxFields) FIELDS at then must (not (clash gs)) CLASH at
 
 -- the first fault of a plan whose root is node `at`. "Nodes are numbered in prefix order from 0."
 unfoldable pub check : Catalogue → Plan → (at : ℕ) → Option Fault
-check C (leaf h) at = nodeFault at true true (leafFields C h) (leafFields C h)
+check C (leaf h) at = nodeFault at (λ test. true) true (leafFields C h) (leafFields C h)
 check C (unary h p) at =
     let fs = fieldsOf C p in
-    check C p (suc at) then nodeFault at (allB (known fs) (unaryExprs h)) true (unaryFields h fs) (unaryFields h fs)
+    check C p (suc at) then nodeFault at (allPass (unaryExprs h) fs) true (unaryFields h fs) (unaryFields h fs)
 check C (binary h p₁ p₂) at =
     let fl = fieldsOf C p₁ in
     let fr = fieldsOf C p₂ in
-    check C p₁ (suc at) then check C p₂ (suc (at + planNodes p₁)) then nodeFault at (knownBinary h fl fr) (even h fl fr) (binaryFields h fl fr) (together h fl fr)
+    check C p₁ (suc at) then check C p₂ (suc (at + planNodes p₁)) then nodeFault at (binaryPasses h fl fr) (even h fl fr) (binaryFields h fl fr) (together h fl fr)

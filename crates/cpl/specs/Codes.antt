@@ -48,6 +48,10 @@ LARGE = 12
 abbrev pub ROOM : ℕ
 ROOM = 13
 
+-- document 02: "17 AMBIGUOUS if two fields fit, at each node between 8 and 9; 8 only if none does"
+abbrev pub AMBIGUOUS : ℕ
+AMBIGUOUS = 17
+
 -- ── expressions: "3, 4 not E; is-missing E", "5 to 11 add, subtract, multiply, equal, less, and, or" ──
 
 unfoldable pub op1Tag : Op1 → ℕ

@@ -3,8 +3,9 @@ use mathlib.Core.List.{List, [], _∷_, _++_, map}
 use mathlib.Core.Bool.{Bool, true, false, cond, _&&_, _||_}
 use mathlib.Core.Option.{Option, none, some}
 use Prim.Native.Nat.{ℕ, suc, _+_}
-use Rattle.cpl.specs.Tests.{anyB, concatMap, sumOf}
-use Rattle.cpl.specs.Plan.{Pair, eqP, Expr, col, lit, miss, un, bin, Item, bare, named, Key, Call, rows, over, Agg, agg, Win, win, On, on, Unary, projection, filter, sort, limit, aggregate, window, subqueryAlias, distinct, Binary, union, join, Plan, leaf, unary, binary, itemExpr, keyExpr}
+use lib.Dec.{eqb, leb}
+use Rattle.cpl.specs.Tests.{concatMap, sumOf}
+use Rattle.cpl.specs.Plan.{Pair, pair, Expr, col, lit, miss, un, bin, Item, bare, named, Key, Call, rows, over, Agg, agg, Win, win, On, on, Unary, projection, filter, sort, limit, aggregate, window, subqueryAlias, distinct, Binary, union, join, Plan, leaf, unary, binary, itemExpr, keyExpr}
 
 -- ── the expressions of a node ───────────────────────────────────────────────────────────────
 
@@ -35,15 +36,15 @@ unaryExprs distinct = []
 
 -- ── columns ─────────────────────────────────────────────────────────────────────────────────
 
--- "A column is found by its exact pair."
-abbrev pub fits : Pair → Pair → Bool
-fits c f = eqP c f
+-- "A column reference without a qualifier shall also find a qualified field of that name; a reference with one still needs the exact pair."
+unfoldable pub fits : (reference field : Pair) → Bool
+fits (pair q n) (pair r m) = eqb n m && (eqb q 0 || eqb q r)
 
 unfoldable pub next : Option ℕ → Option ℕ
 next none = none
 next (some i) = some (suc i)
 
--- the place of the field that a column finds
+-- the place of the field that a reference finds: "the first that fits"
 unfoldable pub find : Pair → List Pair → Option ℕ
 find c [] = none
 find c (f ∷ fs) = cond (fits c f) (some 0) (next (find c fs))
@@ -52,7 +53,12 @@ unfoldable pub present : Option ℕ → Bool
 present none = false
 present (some i) = true
 
--- is every column of the expression found among the fields?
+-- how many of the fields fit a reference
+unfoldable pub fitting : Pair → List Pair → ℕ
+fitting c [] = 0
+fitting c (f ∷ fs) = cond (fits c f) (suc (fitting c fs)) (fitting c fs)
+
+-- does every reference of the expression find a field? "8 only if none does"
 unfoldable pub known : List Pair → Expr → Bool
 known fs (col c) = present (find c fs)
 known fs (lit z) = true
@@ -60,16 +66,33 @@ known fs miss = true
 known fs (un o a) = known fs a
 known fs (bin o a b) = known fs a && known fs b
 
--- does a column of the expression find this field?
-unfoldable pub uses : Expr → Pair → Bool
-uses (col c) f = fits c f
-uses (lit z) f = false
-uses miss f = false
-uses (un o a) f = uses a f
-uses (bin o a b) f = uses a f || uses b f
+-- does no second field fit a reference of the expression? "17 AMBIGUOUS if two fields fit"
+unfoldable pub definite : List Pair → Expr → Bool
+definite fs (col c) = leb (fitting c fs) 1
+definite fs (lit z) = true
+definite fs miss = true
+definite fs (un o a) = definite fs a
+definite fs (bin o a b) = definite fs a && definite fs b
 
-unfoldable pub usesAny : List Expr → Pair → Bool
-usesAny es f = anyB (λ e. uses e f) es
+-- the places that the references of the expression find
+unfoldable pub found : Option ℕ → List ℕ
+found none = []
+found (some i) = i ∷ []
+
+unfoldable pub places : List Pair → Expr → List ℕ
+places fs (col c) = found (find c fs)
+places fs (lit z) = []
+places fs miss = []
+places fs (un o a) = places fs a
+places fs (bin o a b) = places fs a ++ places fs b
+
+-- the references of the expression, as they are written
+unfoldable pub references : Expr → List Pair
+references (col c) = c ∷ []
+references (lit z) = []
+references miss = []
+references (un o a) = references a
+references (bin o a b) = references a ++ references b
 
 -- does the expression use a column?
 unfoldable pub columns? : Expr → Bool

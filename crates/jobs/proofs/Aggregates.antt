@@ -59,7 +59,7 @@ pub record Taken (n : ℕ) (r set all kept : RequiredIndices) : Type 0 where
   pub kept-is : Holds kept (bitOr (setOf all) (setOf set * 2 ^ n)) (flagOf all)
 
 module _ (gs : List Item) (vs : List Agg) {n : ℕ} {fs : List Pair} {r set : RequiredIndices} {R : Mask} (en : n ≡ length gs) (s : Holds set (setOf r / 2 ^ n) (flagOf r))
-    (p : Posed fs (unaryFields (aggregate gs vs) fs) r R) where
+    (p : Posed (aggregate gs vs) fs r R) where
   abbrev A : Mask
   A = drop (length gs) R
 
@@ -86,7 +86,7 @@ module _ (gs : List Item) (vs : List Agg) {n : ℕ} {fs : List Pair} {r set : Re
   kept-fits = follow-fits n set-asks (omega (arith, Fit-length rest-fit, own-long, Fit-length own-fit, p .few))
 
 module _ (gs : List Item) (vs : List Agg) {n : ℕ} {fs : List Pair} {r set all kept : RequiredIndices} {R : Mask} (en : n ≡ length gs) (t : Taken n r set all kept)
-    (p : Posed fs (unaryFields (aggregate gs vs) fs) r R) where
+    (p : Posed (aggregate gs vs) fs r R) where
   abbrev A′ : Mask
   A′ = drop (length gs) R
 
@@ -138,7 +138,7 @@ module _ (gs : List Item) (vs : List Agg) {n : ℕ} {fs : List Pair} {r set all 
         job =
             some-left gs (select A′ vs) fs K (λ z. eqb-false (count K) 0 (sym (empty-mask kept-asks) ∙ e) (count-kept ∙ z))
             ∙ ap₂ (λ x M. rules.ask x (used es fs) true (unary (aggregate gs (select M vs))) (λ L. K)) (sym (d .flag ∙ n₀ .flag)) (sym (asks-mask own long));
-        asks = adds-alone es fs n₀ d (p .clear);
+        asks = adds-alone es fs n₀ d;
         fit = used-fit es fs;
         set = subst (λ x. setOf set < 2 ^ x) long (own .within);
         rest = record { L = K; asks = kept-asks; is = λ L. refl };

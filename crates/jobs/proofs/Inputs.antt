@@ -2,7 +2,7 @@
 use mathlib.Core.Path.{_≡_, refl, sym, subst, _∙_}
 use mathlib.Core.Bool.{Bool, true, false}
 use mathlib.Core.List.{List, [], _∷_, _++_, map}
-use mathlib.Core.Option.{Option}
+use mathlib.Core.Option.{Option, none, some}
 use Prim.Native.Nat.{ℕ, _*_, _^_, _<_, _≤_}
 use native.Mathlib.Omega.{arith}
 use lib.Bits.{bitOr}
@@ -14,7 +14,7 @@ use Rattle.cpl.specs.Lists.{Fit}
 use Rattle.cpl.specs.Plan.{Expr, On, Pair, join, onLeft, onRight, union}
 use Rattle.cpl.proofs.Lists.{Fit-length}
 use Rattle.rules.specs.Mask.{Mask}
-use Rattle.rules.specs.Rules.{binaryKept, leftAsk, leftExprs, leftPart, plus, rightAsk, rightExprs, rightPart}
+use Rattle.rules.specs.Rules.{binaryKept, joinExprs, leftAsk, leftPart, rightAsk, rightPart}
 use Rattle.rules.proofs.Asked.{ask-fits, part-fits, plus-fit}
 use Rattle.required_indices.specs.Request.{Asks, Holds, setOf, wordsN}
 use Rattle.required_indices.specs.declared.RequiredIndices.{RequiredIndices}
@@ -45,16 +45,24 @@ union-two set right fl fr g = record {
 -- ── the sides of a join ─────────────────────────────────────────────────────────────────────
 
 sided : {es : List Expr} {fs : List Pair} {part q out : RequiredIndices} → Adds es fs part q → Holds out (setOf q) true → Sided es fs part out
-sided d g = record { flag = g .flag; asks = λ Q k l a. flag-asks (d .asks Q k l a) g }
+sided d g = record { flag = g .flag; asks = λ Q f a. flag-asks (d .asks Q f a) g }
 
-module _ (has : Bool) (es : List Expr) (e : Expr) {fs : List Pair} {part s out : RequiredIndices} (d : Adds es fs part s) where
-  pub sided-some : {q : RequiredIndices} → has ≡ true → Adds (e ∷ []) fs s q → Holds out (setOf q) true → Sided (es ++ condExprs (if? has e)) fs part out
-  unfolding condExprs
-  sided-some h c g = subst (λ x. Sided (es ++ condExprs (if? x e)) fs part out) (sym h) (sided (adds-then es (e ∷ []) d c) g)
+-- the left roots, the right roots and the condition, in that order
+module _ (os : List On) (has : Bool) (e : Expr) {ls rs : List Expr} {fs : List Pair} {part s t out : RequiredIndices} (el : map onLeft os ≡ ls) (er : map onRight os ≡ rs) (d : Adds ls fs part s)
+    (f : Adds rs fs s t) where
+  sided-all : (c : Option Expr) {q : RequiredIndices} → Adds (condExprs c) fs t q → Holds out (setOf q) true → Sided (joinExprs os c) fs part out
+  unfolding joinExprs
+  sided-all c {q} g h =
+      let a : Adds (map onLeft os ++ (map onRight os ++ condExprs c)) fs part q = rw (el, er) (adds-then ls (rs ++ condExprs c) d (adds-then rs (condExprs c) f g)) in
+      sided a h
 
-  pub sided-none : has ≡ false → Holds out (setOf s) true → Sided (es ++ condExprs (if? has e)) fs part out
+  pub sided-some : {q : RequiredIndices} → has ≡ true → Adds (e ∷ []) fs t q → Holds out (setOf q) true → Sided (joinExprs os (if? has e)) fs part out
   unfolding condExprs
-  sided-none h g = subst (λ x. Sided (es ++ condExprs (if? x e)) fs part out) (sym h) (sided (adds-then es [] d adds-none) g)
+  sided-some h c g = subst (λ x. Sided (joinExprs os (if? x e)) fs part out) (sym h) (sided-all (some e) c g)
+
+  pub sided-none : has ≡ false → Holds out (setOf t) true → Sided (joinExprs os (if? has e)) fs part out
+  unfolding condExprs
+  sided-none h g = subst (λ x. Sided (joinExprs os (if? x e)) fs part out) (sym h) (sided-all none adds-none g)
 
 -- ── the fields of a join ────────────────────────────────────────────────────────────────────
 
@@ -109,9 +117,8 @@ module _ {left : ℕ} (fl fr : List Pair) {q : RequiredIndices} {Q : Mask} (e : 
 
 -- ── Join ────────────────────────────────────────────────────────────────────────────────────
 
-module _ (t : JoinType) (os : List On) (c : Option Expr) (fl fr : List Pair) {left : ℕ} {r : RequiredIndices} {s : Split} {ls rs : List Expr} {q second : RequiredIndices}
-    (e : left ≡ length fl) (el : map onLeft os ≡ ls) (er : map onRight os ≡ rs) (parts : Parted t left r s)
-    (sl : Sided (ls ++ condExprs c) fl (s .below) q) (sr : Sided (rs ++ condExprs c) fr (s .rest) second) where
+module _ (t : JoinType) (os : List On) (c : Option Expr) (fl fr : List Pair) {left : ℕ} {r : RequiredIndices} {s : Split} {q second : RequiredIndices} (e : left ≡ length fl)
+    (parts : Parted t left r s) (sl : Sided (joinExprs os c) fl (s .below) q) (sr : Sided (joinExprs os c) fr (s .rest) second) where
   module _ {R : Mask} (p : PosedTwo (join (joinIs t) os c) fl fr r R) where
     own-fit : Fit R (joinFields (joinIs t) fl fr)
     unfolding binaryFields
@@ -123,23 +130,19 @@ module _ (t : JoinType) (os : List On) (c : Option Expr) (fl fr : List Pair) {le
 
     left-fit : Fit (leftAsk (join (joinIs t) os c) fl fr R) fl
     unfolding leftAsk
-    left-fit = plus-fit (leftExprs os c) (part-fits (joinIs t) fl fr own-fit .0)
+    left-fit = plus-fit (joinExprs os c) (part-fits (joinIs t) fl fr own-fit .0)
 
     right-fit : Fit (rightAsk (join (joinIs t) os c) fl fr R) fr
     unfolding rightAsk
-    right-fit = plus-fit (rightExprs os c) (part-fits (joinIs t) fl fr own-fit .1)
+    right-fit = plus-fit (joinExprs os c) (part-fits (joinIs t) fl fr own-fit .1)
 
     left-asks : Asks q (leftAsk (join (joinIs t) os c) fl fr R)
-    unfolding leftAsk leftExprs
-    left-asks =
-        subst (λ x. Asks q (plus (x ++ condExprs c) fl (leftPart (joinIs t) fl R))) (sym el)
-        (sl .asks (leftPart (joinIs t) fl R) (p .clear-left) (Fit-length (part-fits (joinIs t) fl fr own-fit .0)) (parts .parts fl fr R e own-fit (p .asks) .0))
+    unfolding leftAsk
+    left-asks = sl .asks (leftPart (joinIs t) fl R) (part-fits (joinIs t) fl fr own-fit .0) (parts .parts fl fr R e own-fit (p .asks) .0)
 
     right-asks : Asks second (rightAsk (join (joinIs t) os c) fl fr R)
-    unfolding rightAsk rightExprs
-    right-asks =
-        subst (λ x. Asks second (plus (x ++ condExprs c) fr (rightPart (joinIs t) fl fr R))) (sym er)
-        (sr .asks (rightPart (joinIs t) fl fr R) (p .clear-right) (Fit-length (part-fits (joinIs t) fl fr own-fit .1)) (parts .parts fl fr R e own-fit (p .asks) .1))
+    unfolding rightAsk
+    right-asks = sr .asks (rightPart (joinIs t) fl fr R) (part-fits (joinIs t) fl fr own-fit .1) (parts .parts fl fr R e own-fit (p .asks) .1)
 
     -- what joining the two sides requires
     pub join-able : Joinable t left second

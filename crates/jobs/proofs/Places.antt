@@ -10,8 +10,7 @@ use Rattle.cpl.specs.Limits.{maxFields}
 use Rattle.cpl.specs.Lists.{Fit}
 use Rattle.cpl.specs.Plan.{Binary, Catalogue, Leaf, Pair, Unary, empty}
 use Rattle.cpl.specs.ReadPlan.{h0, h1, h2}
-use Rattle.cpl.proofs.Accepted.{Accepted, distinct-fields}
-use Rattle.cpl.proofs.Clash.{no-clash}
+use Rattle.cpl.proofs.Accepted.{Accepted}
 use Rattle.rules.specs.Mask.{Mask}
 use Rattle.required_indices.specs.Request.{flagOf}
 use Rattle.required_indices.specs.declared.RequiredIndices.{RequiredIndices}
@@ -24,7 +23,7 @@ use Rattle.tree.specs.declared.Node.the-variants.{Empty}
 use Rattle.tree.proofs.Plans.{taken}
 use Rattle.lookup.specs.Fields.{rowAt, widthAt}
 use Rattle.lookup.proofs.Lists.{list-length}
-use Rattle.lookup.proofs.Standing.{fields-clear, fields-few, row-is}
+use Rattle.lookup.proofs.Standing.{fields-few, row-is}
 use Rattle.requests.specs.Asked.{Below}
 use Rattle.requests.proofs.Rows.{row-below}
 use Rattle.jobs.specs.Asked.{Asked}
@@ -111,11 +110,10 @@ module _ {cells rows fields widths : List ℕ} {node : Node} {k : ℕ} {r : Requ
       pub one-below : Below fields (k + 1) w
       one-below = row-below (q .standing) (k + 1) (one-input .below) ew
 
-      pub one-posed : Posed (rowAt fields (k + 1) w) (unaryFields h (rowAt fields (k + 1) w)) r (q .R)
+      pub one-posed : Posed h (rowAt fields (k + 1) w) r (q .R)
       one-posed =
-          subst (λ fs. Posed fs (unaryFields h fs) r (q .R)) (sym (row-is (q .standing) (k + 1) (one-input .below) ew))
+          subst (λ fs. Posed h fs r (q .R)) (sym (row-is (q .standing) (k + 1) (one-input .below) ew))
           (record {
-            clear = fields-clear (q .standing) (k + 1) (one-input .below);
             few = subst (λ x. length x ≤ maxFields) one-fields (fields-few (q .standing) k (q .within));
             fit = subst (λ x. Fit (q .R) x) one-fields (q .fit);
             asks = q .asks;
@@ -147,8 +145,6 @@ module _ {cells rows fields widths : List ℕ} {node : Node} {k : ℕ} {r : Requ
     both =
         let o = subst (Accepted C) (two-inputs .plan) (q .standing .accepted k (q .within)) in
         record {
-          clear-left = no-clash (distinct-fields C (planAt arrays (k + 1)) (o .0));
-          clear-right = no-clash (distinct-fields C (planAt arrays right) (o .1));
           as-wide = o .2 .as-wide;
           few = o .2 .few;
           fit = subst (λ x. Fit (q .R) x) two-fields (q .fit);

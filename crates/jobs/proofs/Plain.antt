@@ -8,7 +8,7 @@ use lib.ListN.{length}
 use Rattle.cpl.specs.Fields.{requalify, unaryFields}
 use Rattle.cpl.specs.Lists.{Fit}
 use Rattle.cpl.specs.Plan.{Catalogue, Expr, Key, Pair, Unary, distinct, filter, keyExpr, limit, sort, subqueryAlias, unary}
-use Rattle.cpl.proofs.Lists.{Fit-length, Fit-map, Fit-trans}
+use Rattle.cpl.proofs.Lists.{Fit-map, Fit-trans}
 use Rattle.rules.specs.Mask.{Mask}
 use Rattle.rules.specs.Mask as mask
 use Rattle.rules.specs.Rules as rules
@@ -81,7 +81,7 @@ module _ {fs : List Pair} {r s q : RequiredIndices} {j : Job} where
   adding h es w e f d g t = record {
     is = λ C R p.
         through-is C h fs (flagOf r) R (plus es fs R) t w (e C (flagOf r) R ∙ ap (λ x. rules.ask x (plus es fs R) true (unary h) (λ K. K)) (sym (g .flag)))
-        (flag-asks (d .asks R (p .clear) (Fit-length (f R (p .fit))) (p .asks)) g) (plus-fit es (f R (p .fit)));
+        (flag-asks (d .asks R (f R (p .fit)) (p .asks)) g) (plus-fit es (f R (p .fit)));
   }
 
   pub filter-one : {e : Expr} → Adds (e ∷ []) fs r s → Holds q (setOf s) true → Through q true j → OneJob (filter e) fs r j

@@ -41,7 +41,7 @@ some-left [] fs b R S e = absurd (e refl)
 some-left (w ∷ ws) fs b R S e = refl
 
 module _ (ws : List Win) {width : ℕ} {fs : List Pair} {r below set : RequiredIndices} {R : Mask} (ew : width ≡ length fs) (hb : Holds below (setOf r % 2 ^ width) (flagOf r))
-    (hs : Holds set (setOf r / 2 ^ width) (flagOf r)) (p : Posed fs (unaryFields (window ws) fs) r R) where
+    (hs : Holds set (setOf r / 2 ^ width) (flagOf r)) (p : Posed (window ws) fs r R) where
   abbrev R₀ : Mask
   R₀ = take (length fs) R
 
@@ -112,7 +112,7 @@ module _ (ws : List Win) {width : ℕ} {fs : List Pair} {r below set : RequiredI
         job =
             some-left (select S ws) fs (flagOf r) R₀ S (λ z. eqb-false (count S) 0 (sym (empty-mask set-asks) ∙ e) (left-count ∙ z))
             ∙ ap₂ (λ x M. rules.ask x (plus es fs R₀) true (unary (window (select M ws))) (λ K. K ++ S)) (sym (d .flag ∙ hb .flag)) (sym (asks-mask set-asks (Fit-length rest-fit)));
-        asks = d .asks R₀ (p .clear) (Fit-length pass-fit) pass-asks;
+        asks = d .asks R₀ pass-fit pass-asks;
         fit = plus-fit es pass-fit;
         set = set-within;
         rest = then-is (todos.One true) q none;

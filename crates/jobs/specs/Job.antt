@@ -1,11 +1,11 @@
 -- What a job that was worked out says of the rule of its node.
 use mathlib.Core.Path.{_≡_}
-use mathlib.Core.Bool.{Bool, true, false, not}
+use mathlib.Core.Bool.{Bool, true, false}
 use mathlib.Core.List.{List, _++_}
 use Prim.Native.Nat.{ℕ, _+_, _*_, _^_, _<_, _≤_}
 use lib.Dec.{T}
 use lib.ListN.{length}
-use Rattle.cpl.specs.Accept.{clash, even}
+use Rattle.cpl.specs.Accept.{even}
 use Rattle.cpl.specs.Fields.{leafFields, unaryFields, binaryFields, fieldsOf, joinFields}
 use Rattle.cpl.specs.Limits.{maxFields}
 use Rattle.cpl.specs.Lists.{Fit}
@@ -63,11 +63,9 @@ pub record KeptOf (j : Job) (input out : RequiredIndices) : Type 0 where
 
 -- ── a node with one input, over the input's fields fs ───────────────────────────────────────
 
--- what is asked of a node with the fields `own`, over the fields fs
-pub record Posed (fs own : List Pair) (r : RequiredIndices) (R : Mask) : Type 0 where
-  pub clear : T (not (clash fs))
-  pub few : length own ≤ maxFields
-  pub fit : Fit R own
+pub record Posed (h : Unary) (fs : List Pair) (r : RequiredIndices) (R : Mask) : Type 0 where
+  pub few : length (unaryFields h fs) ≤ maxFields
+  pub fit : Fit R (unaryFields h fs)
   pub asks : Asks r R
 
 -- nothing is left but the one-row Empty
@@ -95,7 +93,7 @@ OneIs C h fs b R j (todos.One topped) = InputIs C h fs b R topped (unary (unaryP
 OneIs C h fs b R j (todos.Two right) = ⊥
 
 pub record OneJob (h : Unary) (fs : List Pair) (r : RequiredIndices) (j : Job) : Type 0 where
-  pub is : (C : Catalogue) (R : Mask) → Posed fs (unaryFields h fs) r R → OneIs C h fs (flagOf r) R j (j .todo)
+  pub is : (C : Catalogue) (R : Mask) → Posed h fs r R → OneIs C h fs (flagOf r) R j (j .todo)
 
 -- the input asked with `ask`, whose fields that are left are the node's
 pub record Through (ask : RequiredIndices) (topped : Bool) (j : Job) : Type 0 where
@@ -106,8 +104,6 @@ pub record Through (ask : RequiredIndices) (topped : Bool) (j : Job) : Type 0 wh
 -- ── a node with two inputs, over their fields fl and fr ─────────────────────────────────────
 
 pub record PosedTwo (h : Binary) (fl fr : List Pair) (r : RequiredIndices) (R : Mask) : Type 0 where
-  pub clear-left : T (not (clash fl))
-  pub clear-right : T (not (clash fr))
   pub as-wide : T (even h fl fr)
   pub few : length (binaryFields h fl fr) ≤ maxFields
   pub fit : Fit R (binaryFields h fl fr)
@@ -129,7 +125,7 @@ pub record TwoJob (h : Binary) (fl fr : List Pair) (r : RequiredIndices) (right 
 -- one side of a join: its part of the request and the columns of es, with the flag
 pub record Sided (es : List Expr) (fs : List Pair) (part out : RequiredIndices) : Type 0 where
   pub flag : flagOf out ≡ true
-  pub asks : (Q : Mask) → T (not (clash fs)) → length Q ≡ length fs → Asks part Q → Asks out (plus es fs Q)
+  pub asks : (Q : Mask) → Fit Q fs → Asks part Q → Asks out (plus es fs Q)
 
 -- the two sides' sets can be joined
 abbrev pub Joinable : JoinType → (left : ℕ) → RequiredIndices → Type 0

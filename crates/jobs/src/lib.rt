@@ -4,22 +4,21 @@
 //! A job says what is to be done: a leaf is written; nothing is left but the one-row Empty; the input stands in the node's place; one
 //! input is rewritten, and topped up or not; or two are, and topped up.
 ghost use mathlib.Core.Bool.{Bool, true, false};
-ghost use mathlib.Core.List.{List, _++_};
+ghost use mathlib.Core.List.{List};
 ghost use mathlib.Core.Option.{Option};
 ghost use mathlib.Core.Path.{_≡_};
 ghost use Prim.Native.Nat.{ℕ, _+_, _<_, _≤_};
 ghost use lib.ListN.{length};
-ghost use Rattle.cpl.specs.Exprs.{condExprs};
-ghost use Rattle.cpl.specs.Fields.{unaryFields};
 ghost use Rattle.cpl.specs.Plan.{Pair, aggregate, distinct, empty, filter, join, limit, scan, sort, subqueryAlias, union, window};
 ghost use Rattle.rules.specs.Mask.{Mask};
+ghost use Rattle.rules.specs.Rules.{joinExprs};
 ghost use Rattle.arena.specs.Cells.{exprAt, Wf};
 ghost use Rattle.arena.specs.Rows.{itemsAt, RowsOk};
 ghost use Rattle.tree.specs.Node.{joinIs};
 ghost use Rattle.tree.specs.Rows.{AggOk, AllAt, EachOk, KeyOk, OnOk, WinOk, aggsAt, keysAt, onsAt, winSize, winsAt};
 ghost use Rattle.tree.specs.Tree.{if?};
 ghost use Rattle.lookup.specs.Fields.{rowAt};
-ghost use Rattle.requests.specs.Asked.{Below, RootsOk, rootsAt};
+ghost use Rattle.requests.specs.Asked.{Below};
 ghost use Rattle.jobs.specs.Asked.{Asked, KindIs};
 ghost use Rattle.jobs.specs.Job.{JobAt, Joinable, Joined, KeptOf, LeafJob, Leftover, OneJob, Posed, PosedTwo, Sided, Through, TwoJob};
 use required_indices::RequiredIndices;
@@ -177,7 +176,7 @@ fn aggregate_job(
     requires { ⌜ RowsOk (now rows) (now cells) first groups ⌝ }
     requires { ⌜ EachOk (AggOk (now rows) (now cells)) (now rows) (first + groups) aggregates ⌝ }
     requires { ⌜ Below (now fields) k width ⌝ }
-    requires { ⌜ ((R : Mask) × Posed (rowAt (now fields) k width) (unaryFields (aggregate (itemsAt (now rows) (now cells) first groups) (aggsAt (now rows) (now cells) (first + groups) aggregates)) (rowAt (now fields) k width)) r R) ⌝ }
+    requires { ⌜ ((R : Mask) × Posed (aggregate (itemsAt (now rows) (now cells) first groups) (aggsAt (now rows) (now cells) (first + groups) aggregates)) (rowAt (now fields) k width) r R) ⌝ }
     ensures { λ j. ⌜ OneJob (aggregate (itemsAt (now (rows .entry)) (now (cells .entry)) first groups) (aggsAt (now (rows .entry)) (now (cells .entry)) (first + groups) aggregates)) (rowAt (now (fields .entry)) k width) r j ⌝ }
 {
     let none = RequiredIndices::new();
@@ -270,31 +269,31 @@ fn join_kept(
     }
 }
 
-/// What a join asks of one side, whose fields are the first `width` of node `k`: its part of the request, the columns of its halves of the
-/// pairs (the roots at place `at` of their rows) and those of the condition.
+/// What a join asks of one side, whose fields are the first `width` of node `k`: its part of the request, and the columns that the
+/// references of both halves of the pairs and of the condition find there.
 fn side_ask(
     part: RequiredIndices,
     j: JoinNode,
-    at: usize,
     cells: &[u64],
     rows: &[u16],
     fields: &[u16],
     k: usize,
     width: usize,
 ) -> RequiredIndices
-    requires { ⌜ RootsOk (now rows) (now cells) at (j .first) (j .n) ⌝ }
+    requires { ⌜ EachOk (OnOk (now rows) (now cells)) (now rows) (j .first) (j .n) ⌝ }
     requires { ⌜ (j .«has_filter» ≡ true → Wf (now cells) (j .filter + 1)) ⌝ }
     requires { ⌜ Below (now fields) k width ⌝ }
-    ensures { λ out. ⌜ Sided (rootsAt (now (rows .entry)) (now (cells .entry)) at (j .first) (j .n) ++ condExprs (if? (j .«has_filter») (exprAt (now (cells .entry)) (j .filter)))) (rowAt (now (fields .entry)) k width) part out ⌝ }
+    ensures { λ out. ⌜ Sided (joinExprs (onsAt (now (rows .entry)) (now (cells .entry)) (j .first) (j .n)) (if? (j .«has_filter») (exprAt (now (cells .entry)) (j .filter)))) (rowAt (now (fields .entry)) k width) part out ⌝ }
 {
     let first = j.first;
     let n = j.n;
-    let halves = requests::with_roots(part, rows, first, n, at, cells, fields, k, width);
+    let lefts = requests::with_roots(part, rows, first, n, 2, cells, fields, k, width);
+    let halves = requests::with_roots(lefts, rows, first, n, 3, cells, fields, k, width);
     let has = j.has_filter;
     if has {
         let filter = j.filter;
-        let both = requests::add_expr(halves, cells, filter, fields, k, width);
-        return both.with_projection_beneficial();
+        let all = requests::add_expr(halves, cells, filter, fields, k, width);
+        return all.with_projection_beneficial();
     }
     halves.with_projection_beneficial()
 }
@@ -320,8 +319,8 @@ fn join_job(
     let join_type = j.join_type;
     let right = j.right;
     let split = requests::split_join_requirements(join_type, width, r);
-    let ask = side_ask(split.below, j, 2, cells, rows, fields, k, width);
-    let second = side_ask(split.rest, j, 3, cells, rows, fields, right, rwidth);
+    let ask = side_ask(split.below, j, cells, rows, fields, k, width);
+    let second = side_ask(split.rest, j, cells, rows, fields, right, rwidth);
     let kept = join_kept(join_type, width, ask, second);
     let set = RequiredIndices::new();
     Job {

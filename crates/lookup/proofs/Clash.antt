@@ -2,18 +2,23 @@
 use mathlib.Core.Path.{_≡_, refl, sym, ap, ap₂, _∙_}
 use mathlib.Core.Bool.{Bool, true, false, cond, not, _&&_, _||_}
 use mathlib.Core.List.{List, [], _∷_, _++_}
-use Prim.Native.Nat.{ℕ, _+_, _-_, _*_, _<_}
+use Prim.Native.Nat.{ℕ, zero, suc, _+_, _-_, _*_, _<_}
 use native.Mathlib.Omega.{arith}
-use lib.Dec.{eqb}
+use lib.Dec.{eqb, eqb·zero-suc, eqb·suc-zero, eqb·suc-suc}
 use borrow.Author.Tests.{eqb-true, eq-eqb}
 use Rattle.cpl.specs.Tests.{anyB}
 use Rattle.cpl.specs.Plan.{Pair, pair, eqP}
 use Rattle.cpl.specs.Accept.{halfNamed, conflict, clash}
 use Rattle.tree.specs.Rows.{listAt, one}
-use Rattle.lookup.proofs.Known.{any-append, eqb-sym}
 use Rattle.lookup.proofs.Lists.{list-append}
 use Rattle.lookup.specs.Fields.{fieldAt, rowAt}
 use Rattle.lookup.proofs.Rows.{row-more}
+
+eqb-sym : (a b : ℕ) → eqb a b ≡ eqb b a
+eqb-sym zero zero = refl
+eqb-sym zero (suc b) = eqb·zero-suc b ∙ sym (eqb·suc-zero b)
+eqb-sym (suc a) zero = eqb·suc-zero a ∙ sym (eqb·zero-suc a)
+eqb-sym (suc a) (suc b) = eqb·suc-suc a b ∙ eqb-sym a b ∙ sym (eqb·suc-suc b a)
 
 -- one name, and one qualifier or none at one of the two
 by-name : (n q z w : Bool) → (z ≡ true → w ≡ true → q ≡ true) → n && ((q || z) || w) ≡ (q && n) || (n && cond z (not w) w)
@@ -42,6 +47,15 @@ conflict-sym (pair q n) (pair r m) =
     swap false false false = refl
 
 -- ── two lists ───────────────────────────────────────────────────────────────────────────────
+
+or-assoc : (a b c : Bool) → (a || b) || c ≡ a || (b || c)
+or-assoc true b c = refl
+or-assoc false b c = refl
+
+any-append : {A : Type 0} (p : A → Bool) (xs ys : List A) → anyB p (xs ++ ys) ≡ anyB p xs || anyB p ys
+unfolding anyB
+any-append p [] ys = refl
+any-append p (x ∷ xs) ys = ap (p x ||_) (any-append p xs ys) ∙ sym (or-assoc (p x) (anyB p xs) (anyB p ys))
 
 -- is a field of ys in conflict with one of xs?
 unfoldable pub across : List Pair → List Pair → Bool

@@ -1,9 +1,11 @@
 -- How two lent arrays stand for the fields of nodes. Field j is the two numbers at 2 * j of `fields`, its qualifier and its name. The fields of
 -- node k are those from 128 * k on, as many as `widths` has at k.
 use mathlib.Core.Path.{_≡_}
+use mathlib.Core.Bool.{false}
 use mathlib.Core.List.{List}
 use Prim.Native.Nat.{ℕ, _+_, _*_, _<_, _≤_}
 use lib.ListN.{length, getD}
+use Rattle.cpl.specs.Accept.{clash}
 use Rattle.cpl.specs.Plan.{Pair, pair}
 use Rattle.tree.specs.Rows.{listAt, one}
 use Rattle.lookup.specs.declared.Field.{Field}
@@ -19,6 +21,11 @@ rowAt s k width = listAt (fieldAt s) one (k * 128) width
 -- they lie in the array
 abbrev pub RowIn : List ℕ → (k width : ℕ) → Type 0
 RowIn s k width = (k * 128 + width) * 2 ≤ length s
+
+-- and do not clash
+pub record RowClear (s : List ℕ) (k width : ℕ) : Type 0 where
+  pub inside : RowIn s k width
+  pub clear : clash (rowAt s k width) ≡ false
 
 abbrev pub widthAt : List ℕ → ℕ → ℕ
 widthAt w k = getD w k 0
@@ -61,3 +68,8 @@ rightRow s x = rowAt s (x .right) (x .rwidth)
 pub record SidesIn (s : List ℕ) (x : Sides) : Type 0 where
   pub left-in : RowIn s (x .left) (x .lwidth)
   pub right-in : RowIn s (x .right) (x .rwidth)
+
+-- and the fields of each by themselves do not clash
+pub record SidesClear (s : List ℕ) (x : Sides) : Type 0 where
+  pub left-clear : RowClear s (x .left) (x .lwidth)
+  pub right-clear : RowClear s (x .right) (x .rwidth)

@@ -1,4 +1,4 @@
-//! The fields of nodes in lent arrays: how many there are, lookup, known columns, clashes, and rows that are filled.
+//! The fields of nodes in lent arrays: how many there are, lookup, references resolved, clashes, and rows that are filled.
 //!
 //! Field j is two numbers of `fields`, its qualifier and its name, at 2 * j. Node k's fields are those from 128 * k on.
 ghost use mathlib.Core.Bool.{Bool, false};
@@ -8,13 +8,14 @@ ghost use Prim.Native.Nat.{ℕ, _+_, _*_, _<_, _≤_};
 ghost use lib.ListN.{length};
 ghost use Rattle.arena.specs.Cells.{exprAt, Wf};
 ghost use Rattle.cpl.specs.Accept.{clash, conflict};
-ghost use Rattle.cpl.specs.Exprs.{find, known, present};
+ghost use Rattle.cpl.specs.Exprs.{find, fitting};
 ghost use Rattle.cpl.specs.Fields.{requalify};
-ghost use Rattle.cpl.specs.Plan.{pair};
+ghost use Rattle.cpl.specs.Plan.{col, pair};
 ghost use Rattle.cpl.specs.Tests.{anyB};
-ghost use Rattle.lookup.specs.Answers.{placeOf};
+ghost use Rattle.lookup.specs.Answers.{lookupOf, placeOf, resolving, worse};
 ghost use Rattle.lookup.specs.Marks.{Marked, Marks, slotOf, slots};
-ghost use Rattle.lookup.specs.Fields.{fieldAt, Filled, Kept, leftRow, pairOf, rightRow, rowAt, RowIn, SidesIn, widthAt};
+ghost use Rattle.lookup.specs.Fields.{fieldAt, Filled, Kept, leftRow, pairOf, rightRow, rowAt, RowClear, RowIn, SidesClear, SidesIn, widthAt};
+ghost use Rattle.tree.specs.Rows.{listAt, one};
 use arena::View;
 
 /// A field: a qualifier, 0 for none, and a name.
@@ -31,10 +32,24 @@ pub struct Sides {
     pub rwidth: usize,
 }
 
-/// Where a column is found among fields.
+/// The first field that fits a reference: its place, or there is none.
+pub enum Fit {
+    At(usize),
+    Nothing,
+}
+
+/// What a reference finds among fields: the place of the one that fits, or none fits, or more than one does.
 pub enum Lookup {
     Found(usize),
     Absent,
+    Ambiguous,
+}
+
+/// What the references of expressions find: each one field, or some none, or else some more than one.
+pub enum Resolved {
+    Fine,
+    Unknown,
+    Ambiguous,
 }
 
 /// Field `j`, which lies in the array.
@@ -70,63 +85,114 @@ pub fn width_at(widths: &[u64], k: usize) -> usize
     0
 }
 
-/// The place of a column among the first `width` fields of node `k`, which lie in the array.
-pub fn look_up(fields: &[u16], k: usize, width: usize, qualifier: u16, name: u16) -> Lookup
-    requires { ⌜ RowIn (now fields) k width ⌝ }
-    ensures { λ r. ⌜ placeOf r ≡ find (pair qualifier name) (rowAt (now (fields .entry)) k width) ⌝ }
+/// The place of the first that fits a reference among `count` fields from field `first` on, which lie in the array. Without a qualifier a
+/// reference fits each field of its name; with one it fits that pair alone.
+pub fn first_fit(fields: &[u16], first: usize, count: usize, qualifier: u16, name: u16) -> Fit
+    requires { ⌜ (first + count) * 2 ≤ length (now fields) ⌝ }
+    ensures { λ r. ⌜ placeOf r ≡ find (pair qualifier name) (listAt (fieldAt (now (fields .entry))) one first count) ⌝ }
 {
     let mut i = 0;
-    while i < width {
-        let f = field_at(fields, k * 128 + i);
-        if (f.qualifier == qualifier) & (f.name == name) {
-            return Lookup::Found(i);
+    while i < count {
+        let f = field_at(fields, first + i);
+        if (name == f.name) & ((qualifier == 0) | (qualifier == f.qualifier)) {
+            return Fit::At(i);
         }
         i += 1;
     }
-    Lookup::Absent
+    Fit::Nothing
 }
 
-/// Is the column found in one of two sides, which lie in the array?
-pub fn known_column(fields: &[u16], sides: Sides, qualifier: u16, name: u16) -> bool
-    requires { ⌜ SidesIn (now fields) sides ⌝ }
-    ensures { λ r. ⌜ r ≡ present (find (pair qualifier name) (leftRow (now (fields .entry)) sides ++ rightRow (now (fields .entry)) sides)) ⌝ }
+/// What a reference finds among the first `width` fields of node `k`, which lie in the array and do not clash. So where its own pair is found,
+/// no second field fits.
+pub fn look_up(fields: &[u16], k: usize, width: usize, qualifier: u16, name: u16) -> Lookup
+    requires { ⌜ RowClear (now fields) k width ⌝ }
+    ensures { λ r. ⌜ r ≡ lookupOf (find (pair qualifier name) (rowAt (now (fields .entry)) k width)) (fitting (pair qualifier name) (rowAt (now (fields .entry)) k width)) ⌝ }
 {
-    let Lookup::Found(_) = look_up(fields, sides.left, sides.lwidth, qualifier, name) else {
-        let Lookup::Found(_) = look_up(fields, sides.right, sides.rwidth, qualifier, name) else {
-            return false;
-        };
-        return true;
+    let first = k * 128;
+    let Fit::At(i) = first_fit(fields, first, width, qualifier, name) else {
+        return Lookup::Absent;
     };
-    true
+    let f = field_at(fields, first + i);
+    if f.qualifier == qualifier {
+        return Lookup::Found(i);
+    }
+    let next = i + 1;
+    let Fit::Nothing = first_fit(fields, first + next, width - next, qualifier, name) else {
+        return Lookup::Ambiguous;
+    };
+    Lookup::Found(i)
 }
 
-/// Is each column of node `i`'s expression found in one of two sides, which lie in the array? The nodes up to `i` are well formed.
-pub fn known_both(cells: &[u64], i: usize, fields: &[u16], sides: Sides) -> bool
-    requires { ⌜ Wf (now cells) (i + 1) ⌝ }
-    requires { ⌜ SidesIn (now fields) sides ⌝ }
-    ensures { λ r. ⌜ r ≡ known (leftRow (now (fields .entry)) sides ++ rightRow (now (fields .entry)) sides) (exprAt (now (cells .entry)) i) ⌝ }
+/// What a reference finds in two sides together. The sides lie in the array, and the fields of each by themselves do not clash.
+fn resolve_column(fields: &[u16], sides: Sides, qualifier: u16, name: u16) -> Resolved
+    requires { ⌜ SidesClear (now fields) sides ⌝ }
+    ensures { λ r. ⌜ r ≡ resolving (λ test. test (leftRow (now (fields .entry)) sides ++ rightRow (now (fields .entry)) sides) (col (pair qualifier name))) ⌝ }
 {
-    let v = arena::node_at(cells, i);
-    match v {
-        View::Col(q, n) => known_column(fields, sides, q, n),
-        View::Lit(_) => true,
-        View::Miss => true,
-        View::One(_, x) => known_both(cells, x, fields, sides),
-        View::Two(_, x, y) => {
-            if known_both(cells, x, fields, sides) {
-                return known_both(cells, y, fields, sides);
+    let left = look_up(fields, sides.left, sides.lwidth, qualifier, name);
+    let right = look_up(fields, sides.right, sides.rwidth, qualifier, name);
+    match left {
+        Lookup::Found(_) => {
+            match right {
+                Lookup::Found(_) => Resolved::Ambiguous,
+                Lookup::Absent => Resolved::Fine,
+                Lookup::Ambiguous => Resolved::Ambiguous,
             }
-            false
+        }
+        Lookup::Absent => {
+            match right {
+                Lookup::Found(_) => Resolved::Fine,
+                Lookup::Absent => Resolved::Unknown,
+                Lookup::Ambiguous => Resolved::Ambiguous,
+            }
+        }
+        Lookup::Ambiguous => Resolved::Ambiguous,
+    }
+}
+
+/// What two lists of expressions find together: unknown comes before ambiguous.
+pub fn both_resolved(a: Resolved, b: Resolved) -> Resolved
+    ensures { λ r. ⌜ r ≡ worse «a» «b» ⌝ }
+{
+    match a {
+        Resolved::Fine => b,
+        Resolved::Unknown => a,
+        Resolved::Ambiguous => {
+            match b {
+                Resolved::Fine => a,
+                Resolved::Unknown => b,
+                Resolved::Ambiguous => a,
+            }
         }
     }
 }
 
-/// Is each column of node `i`'s expression found among the first `width` fields of node `k`, which lie in the array? The nodes up to `i` are
-/// well formed.
-pub fn known_expr(cells: &[u64], i: usize, fields: &[u16], k: usize, width: usize) -> bool
+/// What the references of node `i`'s expression find in two sides together. The nodes up to `i` are well formed. The sides lie in the array,
+/// and the fields of each by themselves do not clash.
+pub fn resolve_both(cells: &[u64], i: usize, fields: &[u16], sides: Sides) -> Resolved
     requires { ⌜ Wf (now cells) (i + 1) ⌝ }
-    requires { ⌜ RowIn (now fields) k width ⌝ }
-    ensures { λ r. ⌜ r ≡ known (rowAt (now (fields .entry)) k width) (exprAt (now (cells .entry)) i) ⌝ }
+    requires { ⌜ SidesClear (now fields) sides ⌝ }
+    ensures { λ r. ⌜ r ≡ resolving (λ test. test (leftRow (now (fields .entry)) sides ++ rightRow (now (fields .entry)) sides) (exprAt (now (cells .entry)) i)) ⌝ }
+{
+    let v = arena::node_at(cells, i);
+    match v {
+        View::Col(q, n) => resolve_column(fields, sides, q, n),
+        View::Lit(_) => Resolved::Fine,
+        View::Miss => Resolved::Fine,
+        View::One(_, x) => resolve_both(cells, x, fields, sides),
+        View::Two(_, x, y) => {
+            let first = resolve_both(cells, x, fields, sides);
+            let second = resolve_both(cells, y, fields, sides);
+            both_resolved(first, second)
+        }
+    }
+}
+
+/// What the references of node `i`'s expression find among the first `width` fields of node `k`, which lie in the array and do not clash. The
+/// nodes up to `i` are well formed.
+pub fn resolve_expr(cells: &[u64], i: usize, fields: &[u16], k: usize, width: usize) -> Resolved
+    requires { ⌜ Wf (now cells) (i + 1) ⌝ }
+    requires { ⌜ RowClear (now fields) k width ⌝ }
+    ensures { λ r. ⌜ r ≡ resolving (λ test. test (rowAt (now (fields .entry)) k width) (exprAt (now (cells .entry)) i)) ⌝ }
 {
     let one = Sides {
         left: k,
@@ -134,7 +200,7 @@ pub fn known_expr(cells: &[u64], i: usize, fields: &[u16], k: usize, width: usiz
         right: k,
         rwidth: 0,
     };
-    known_both(cells, i, fields, one)
+    resolve_both(cells, i, fields, one)
 }
 
 /// May two fields not stand in one list? Two equal pairs, or one name both with and without qualifier.

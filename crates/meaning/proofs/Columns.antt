@@ -1,39 +1,40 @@
 -- Projections of columns by their own pairs: top-up, and the projection that changes nothing.
 use mathlib.Core.Path.{_≡_, refl, sym, _∙_, ap, ap₂}
 use mathlib.Core.List.{List, _∷_, map}
-use mathlib.Core.Bool.{Bool, true, false, cond}
+use mathlib.Core.Bool.{Bool, true, false, cond, not}
 use lib.Dec.{T}
 use Rattle.cpl.specs.Lists.{All, z[], _z∷_, Fit}
 use Rattle.cpl.specs.Plan.{Pair, col, Item, bare, projection, Plan, unary, Catalogue, itemPair, itemExpr}
-use Rattle.cpl.specs.Exprs.{fits, usesAny}
+use Rattle.cpl.specs.Accept.{conflict}
 use Rattle.cpl.specs.Fields.{unaryFields, fieldsOf}
 use Rattle.cpl.proofs.Lists.{All-map, map-cong, map-congA, map-map, map-id, Fit-map, fit-self}
-use Rattle.cpl.proofs.Pairs.{eqP-refl}
-use Rattle.cpl.proofs.Clash.{Clear, n[], _n∷_, differ}
+use Rattle.cpl.proofs.Lookup.{fits-self, apart}
+use Rattle.cpl.proofs.Clash.{Clear, n[], _n∷_}
 use Rattle.rules.specs.Mask.{Mask, select, ones, LeM}
 use Rattle.rules.specs.Rules.{sameColumns, overChild}
-use Rattle.rules.proofs.Masks.{Cov, select-map, select-select, select-ones, Fit-select, All-select}
+use Rattle.rules.proofs.Masks.{select-map, select-select, select-ones, Fit-select, All-select}
+use Rattle.rules.proofs.Covers.{Cov}
 use Rattle.rules.proofs.Known.{bare-fields, clear-select}
 use Rattle.rules.proofs.UnaryKinds.{same-columns}
 use Rattle.meaning.specs.Value.{Val, Row, Log}
 use Rattle.meaning.specs.Eval.{lookup, eval, evalAll}
 use Rattle.meaning.specs.Operators.{projectionRows, unaryRows}
 use Rattle.meaning.specs.Meaning.{meaning}
-use Rattle.meaning.proofs.Commute.{lookup-cons, evalAll-select}
+use Rattle.meaning.proofs.Commute.{lookup-here, lookup-past, evalAll-select}
 use Rattle.meaning.proofs.Wide.{WideRows}
 
 -- ── columns looked up by their own pairs ────────────────────────────────────────────────────
 
--- the fields behind f are none of them f
-others : (f : Pair) (v : Val) (fs : List Pair) (r : Row) {gs : List Pair} → All (λ g. fits g f ≡ false) gs → map (lookup (f ∷ fs) (v ∷ r)) gs ≡ map (lookup fs r) gs
-others f v fs r h = map-congA (All-map (λ g e. lookup-cons g f fs v r ∙ ap (λ b. cond b v (lookup fs r g)) e) h)
+-- f is found by none of the fields behind it
+others : (f : Pair) (v : Val) (fs : List Pair) (r : Row) {gs : List Pair} → All (λ g. T (not (conflict f g))) gs → map (lookup (f ∷ fs) (v ∷ r)) gs ≡ map (lookup fs r) gs
+others f v fs r h = map-congA (All-map (λ g t. lookup-past g f fs v r (apart f g t .1)) h)
 
 pub own-columns : {fs : List Pair} {r : Row} {R : Mask} → Clear fs → Fit r fs → Fit R fs → map (lookup fs r) (select R fs) ≡ select R r
 unfolding select
 own-columns n[] z[] z[] = refl
 own-columns (_n∷_ {f = f} {fs = fs} h hs) (_z∷_ {x = v} {xs = r} _ w) (_z∷_ {x = true} {xs = R} _ k) =
-    ap₂ _∷_ (lookup-cons f f fs v r ∙ ap (λ b. cond b v (lookup fs r f)) (eqP-refl f)) (others f v fs r (All-select R (differ f h)) ∙ own-columns hs w k)
-own-columns (_n∷_ {f = f} {fs = fs} h hs) (_z∷_ {x = v} {xs = r} _ w) (_z∷_ {x = false} {xs = R} _ k) = others f v fs r (All-select R (differ f h)) ∙ own-columns hs w k
+    ap₂ _∷_ (lookup-here f f fs v r (fits-self f)) (others f v fs r (All-select R h) ∙ own-columns hs w k)
+own-columns (_n∷_ {f = f} {fs = fs} h hs) (_z∷_ {x = v} {xs = r} _ w) (_z∷_ {x = false} {xs = R} _ k) = others f v fs r (All-select R h) ∙ own-columns hs w k
 
 pub all-columns : {fs : List Pair} {r : Row} → Clear fs → Fit r fs → map (lookup fs r) fs ≡ r
 unfolding ones
@@ -49,7 +50,7 @@ bare-values cs fs r = ap (map (eval fs r)) (map-map itemExpr bare cs) ∙ map-ma
 -- ── projections ─────────────────────────────────────────────────────────────────────────────
 
 -- the items at R, over narrowed rows
-pub projection-select : {fs : List Pair} {K : Mask} (R : Mask) (is : List Item) → Cov (usesAny (map itemExpr (select R is))) fs K → (rs : List Row)
+pub projection-select : {fs : List Pair} {K : Mask} (R : Mask) (is : List Item) → Cov (map itemExpr (select R is)) fs K → (rs : List Row)
     → projectionRows (select R is) (select K fs) (map (select K) rs) ≡ map (select R) (projectionRows is fs rs)
 unfolding projectionRows evalAll
 projection-select {fs} {K} R is v rs =

@@ -1,4 +1,4 @@
--- Expressions, and the operators on lists that rows are made with, give the same over narrowed rows, where the mask keeps the columns that are used.
+-- Expressions, and the operators on lists that rows are made with, give the same over narrowed rows, where the mask covers what is used.
 use mathlib.Core.Path.{_≡_, refl, sym, _∙_, ap, ap₂}
 use mathlib.Core.List.{List, [], _∷_, _++_, map}
 use mathlib.Core.Bool.{Bool, true, false, cond, _||_}
@@ -9,12 +9,13 @@ use lib.ListN.{length, take, drop, length-map}
 use Rattle.cpl.specs.Tests.{anyB, concatMap}
 use Rattle.cpl.specs.Lists.{All, a[], _a∷_}
 use Rattle.cpl.specs.Plan.{Pair, Expr, col, lit, miss, un, bin, Key, key, Call, rows, over, keyExpr}
-use Rattle.cpl.specs.Exprs.{fits, find, next, uses, usesAny, callExprs}
+use Rattle.cpl.specs.Exprs.{fits, find, next, references, callExprs}
 use Rattle.cpl.proofs.Bools.{cond-ap}
-use Rattle.cpl.proofs.Lists.{map-cong, map-map, map-++, always}
-use Rattle.rules.specs.Mask.{Mask, select, LeB}
-use Rattle.rules.proofs.Masks.{Cov, c[], _c∷_, Cov-sub, LeB-left, LeB-right, select-nil}
-use Rattle.rules.proofs.Known.{used-head, used-tail}
+use Rattle.cpl.proofs.Lookup.{find-none, find-here, find-past}
+use Rattle.cpl.proofs.Lists.{map-cong, map-map, map-++, always, All-left, All-right}
+use Rattle.rules.specs.Mask.{Mask, select}
+use Rattle.rules.proofs.Masks.{select-nil}
+use Rattle.rules.proofs.Covers.{Holds, h[], here, past, Covers, Cov, used-head, used-tail}
 use Rattle.meaning.specs.Value.{Val, missing, num, Row, op1, op2}
 use Rattle.meaning.specs.Eval.{valueAt, lookup, eval, evalAll}
 use Rattle.meaning.specs.Lists.{filterB, page, around, orElse}
@@ -96,55 +97,67 @@ lookup-nil c fs = go (find c fs)
     go (some i) = refl
 
 pub lookup-none : (c : Pair) (r : Row) → lookup [] r c ≡ missing
-unfolding lookup find valueAt
-lookup-none c r = refl
+unfolding lookup valueAt
+lookup-none c r = ap (valueAt r) (find-none c)
 
-pub lookup-cons : (c f : Pair) (fs : List Pair) (v : Val) (r : Row) → lookup (f ∷ fs) (v ∷ r) c ≡ cond (fits c f) v (lookup fs r c)
-unfolding lookup find valueAt next
-lookup-cons c f fs v r = go (fits c f) (find c fs)
-  where
-    go : (b : Bool) (i : Option ℕ) → valueAt (v ∷ r) (cond b (some 0) (next i)) ≡ cond b v (valueAt r i)
-    go true i = refl
-    go false none = refl
-    go false (some i) = refl
+-- the field that is found has the row's value, and one that does not fit is passed over
+module _ (c f : Pair) (fs : List Pair) (v : Val) (r : Row) where
+  pub lookup-here : fits c f ≡ true → lookup (f ∷ fs) (v ∷ r) c ≡ v
+  unfolding lookup valueAt
+  lookup-here e = ap (valueAt (v ∷ r)) (find-here c f fs e)
 
-skip : (b : Bool) (v : Val) {u w : Val} → LeB b false → u ≡ w → u ≡ cond b v w
-skip true v h e = absurd h
-skip false v h e = e
+  pub lookup-past : fits c f ≡ false → lookup (f ∷ fs) (v ∷ r) c ≡ lookup fs r c
+  unfolding lookup valueAt next
+  lookup-past e = ap (valueAt (v ∷ r)) (find-past c f fs e) ∙ go (find c fs)
+    where
+      go : (i : Option ℕ) → valueAt (v ∷ r) (next i) ≡ valueAt r i
+      go none = refl
+      go (some i) = refl
 
-lookup-select : (c : Pair) {fs : List Pair} {ks : Mask} → Cov (fits c) fs ks → (r : Row) → lookup (select ks fs) (select ks r) c ≡ lookup fs r c
+  pub lookup-cons : lookup (f ∷ fs) (v ∷ r) c ≡ cond (fits c f) v (lookup fs r c)
+  lookup-cons = go (fits c f) refl
+    where
+      go : (b : Bool) → fits c f ≡ b → lookup (f ∷ fs) (v ∷ r) c ≡ cond b v (lookup fs r c)
+      go true e = lookup-here e
+      go false e = lookup-past e
+
+empty-row : (c : Pair) (fs : List Pair) (ks : Mask) → lookup (select ks fs) (select ks []) c ≡ lookup fs [] c
+empty-row c fs ks = ap (λ r. lookup (select ks fs) r c) (select-nil ks) ∙ (lookup-nil c (select ks fs) ∙ sym (lookup-nil c fs))
+
+lookup-select : (c : Pair) {fs : List Pair} {ks : Mask} → Holds c fs ks → (r : Row) → lookup (select ks fs) (select ks r) c ≡ lookup fs r c
 unfolding select
-lookup-select c c[] r = lookup-none c [] ∙ sym (lookup-none c r)
-lookup-select c (_c∷_ {x = f} {k = k} {xs = fs} {ks = ks} h hs) [] = ap (λ r. lookup (select (k ∷ ks) (f ∷ fs)) r c) (select-nil (k ∷ ks)) ∙ (lookup-nil c (select (k ∷ ks) (f ∷ fs)) ∙ sym (lookup-nil c (f ∷ fs)))
-lookup-select c (_c∷_ {x = f} {k = true} {xs = fs} {ks = ks} h hs) (v ∷ r) =
-    lookup-cons c f (select ks fs) v (select ks r) ∙ (ap (cond (fits c f) v) (lookup-select c hs r) ∙ sym (lookup-cons c f fs v r))
-lookup-select c (_c∷_ {x = f} {k = false} {xs = fs} h hs) (v ∷ r) = skip (fits c f) v h (lookup-select c hs r) ∙ sym (lookup-cons c f fs v r)
+lookup-select c h[] r = lookup-none c [] ∙ sym (lookup-none c r)
+lookup-select c {fs} {ks} (here e fit) [] = empty-row c fs ks
+lookup-select c {fs} {ks} (past e h) [] = empty-row c fs ks
+lookup-select c (here {f = f} {fs = fs} {ks = ks} e fit) (v ∷ r) = lookup-here c f (select ks fs) v (select ks r) e ∙ sym (lookup-here c f fs v r e)
+lookup-select c (past {f = f} {k = true} {fs = fs} {ks = ks} e h) (v ∷ r) = lookup-past c f (select ks fs) v (select ks r) e ∙ (lookup-select c h r ∙ sym (lookup-past c f fs v r e))
+lookup-select c (past {f = f} {k = false} {fs = fs} e h) (v ∷ r) = lookup-select c h r ∙ sym (lookup-past c f fs v r e)
 
 -- ── expressions ─────────────────────────────────────────────────────────────────────────────
 
 module _ {fs : List Pair} {ks : Mask} where
-  pub eval-select : (e : Expr) → Cov (uses e) fs ks → (r : Row) → eval (select ks fs) (select ks r) e ≡ eval fs r e
-  unfolding eval uses
-  eval-select (col c) v r = lookup-select c v r
+  pub eval-select : (e : Expr) → Covers e fs ks → (r : Row) → eval (select ks fs) (select ks r) e ≡ eval fs r e
+  unfolding eval references
+  eval-select (col c) (h a∷ a[]) r = lookup-select c h r
   eval-select (lit z) v r = refl
   eval-select miss v r = refl
   eval-select (un o a) v r = ap (op1 o) (eval-select a v r)
   eval-select (bin o a b) v r =
-      ap₂ (op2 o) (eval-select a (Cov-sub (λ f. LeB-left (uses a f) (uses b f)) v) r) (eval-select b (Cov-sub (λ f. LeB-right (uses a f) (uses b f)) v) r)
+      ap₂ (op2 o) (eval-select a (All-left (references a) (references b) v) r) (eval-select b (All-right (references a) (references b) v) r)
 
-  pub evalAll-select : (es : List Expr) → Cov (usesAny es) fs ks → (r : Row) → evalAll (select ks fs) (select ks r) es ≡ evalAll fs r es
+  pub evalAll-select : (es : List Expr) → Cov es fs ks → (r : Row) → evalAll (select ks fs) (select ks r) es ≡ evalAll fs r es
   unfolding evalAll
   evalAll-select [] v r = refl
   evalAll-select (e ∷ es) v r = ap₂ _∷_ (eval-select e (used-head e es v) r) (evalAll-select es (used-tail e es v) r)
 
-  pub before-select : (os : List Key) → Cov (usesAny (map keyExpr os)) fs ks → (r s : Row) → before (select ks fs) os (select ks r) (select ks s) ≡ before fs os r s
+  pub before-select : (os : List Key) → Cov (map keyExpr os) fs ks → (r s : Row) → before (select ks fs) os (select ks r) (select ks s) ≡ before fs os r s
   unfolding before keyExpr
   before-select [] v r s = refl
   before-select (key d m e ∷ os) v r s =
       let h = used-head e (map keyExpr os) v in
       rw (eval-select e h r, eval-select e h s, before-select os (used-tail e (map keyExpr os) v) r s)
 
-  pub call-select : (g : Call) → Cov (usesAny (callExprs g)) fs ks → (rs : List Row) → callOver (select ks fs) (map (select ks) rs) g ≡ callOver fs rs g
+  pub call-select : (g : Call) → Cov (callExprs g) fs ks → (rs : List Row) → callOver (select ks fs) (map (select ks) rs) g ≡ callOver fs rs g
   unfolding callOver callExprs
   call-select rows v rs = ap (λ n. num (pos n)) (length-map rs (select ks))
   call-select (over g e) v rs = ap (λ vs. apply g (numbers vs)) (map-map (λ r. eval (select ks fs) r e) (select ks) rs ∙ map-cong (eval-select e (used-head e [] v)) rs)

@@ -14,7 +14,7 @@ use Rattle.rules.specs.Mask.{select}
 use Rattle.rules.specs.Request.{maskOf}
 use Rattle.rules.specs.Merge.{mergeStep}
 use Rattle.rules.specs.Rewrite.{Walked, rewrite}
-use Rattle.rules.proofs.Successes.{fit-mask}
+use Rattle.rules.proofs.Requests.{fit-mask}
 use Rattle.meaning.specs.Value.{Log}
 use Rattle.meaning.specs.Meaning.{meaning}
 use Rattle.meaning.specs.Reads.{Agree}

@@ -7,11 +7,11 @@ use lib.IntN.{pos}
 use Rattle.cpl.specs.Tests.{concatMap}
 use Rattle.cpl.specs.Lists.{Fit}
 use Rattle.cpl.specs.Plan.{Pair, Expr, Key, rows, over, Agg, agg, Win, win, keyExpr}
-use Rattle.cpl.specs.Exprs.{usesAny, callExprs, aggExprs, winExprs}
+use Rattle.cpl.specs.Exprs.{callExprs, aggExprs, winExprs}
 use Rattle.cpl.proofs.Lists.{All-map, map-cong, map-congA, map-map, Fit-map, Fit-trans, Fit-sym}
 use Rattle.rules.specs.Mask.{Mask, select, ones}
-use Rattle.rules.proofs.Masks.{Cov, select-map, select-ones, select-++}
-use Rattle.rules.proofs.Known.{used-left, used-right}
+use Rattle.rules.proofs.Masks.{select-map, select-ones, select-++}
+use Rattle.rules.proofs.Covers.{Cov, used-left, used-right}
 use Rattle.meaning.specs.Value.{num, Row, sameRow}
 use Rattle.meaning.specs.Eval.{evalAll}
 use Rattle.meaning.specs.Lists.{filterB, firsts, around}
@@ -23,22 +23,22 @@ use Rattle.meaning.proofs.Wide.{WideRows, wide-keys}
 module _ {fs : List Pair} {ks : Mask} where
   -- ── Aggregate ─────────────────────────────────────────────────────────────────────────────
 
-  keys-select : (gs : List Expr) → Cov (usesAny gs) fs ks → (rs : List Row) → groupKeys gs (select ks fs) (map (select ks) rs) ≡ groupKeys gs fs rs
+  keys-select : (gs : List Expr) → Cov gs fs ks → (rs : List Row) → groupKeys gs (select ks fs) (map (select ks) rs) ≡ groupKeys gs fs rs
   unfolding groupKeys
   keys-select [] v rs = refl
   keys-select (g ∷ gs) v rs = ap (firsts sameRow) (map-map (λ r. evalAll (select ks fs) r (g ∷ gs)) (select ks) rs ∙ map-cong (evalAll-select (g ∷ gs) v) rs)
 
-  members-select : (gs : List Expr) → Cov (usesAny gs) fs ks → (rs : List Row) (k : Row) → members gs (select ks fs) (map (select ks) rs) k ≡ map (select ks) (members gs fs rs k)
+  members-select : (gs : List Expr) → Cov gs fs ks → (rs : List Row) (k : Row) → members gs (select ks fs) (map (select ks) rs) k ≡ map (select ks) (members gs fs rs k)
   unfolding members
   members-select gs v rs k = filter-map (select ks) _ _ (λ r. ap (λ s. sameRow s k) (evalAll-select gs v r)) rs
 
-  aggValues-select : (vs : List Agg) → Cov (usesAny (concatMap aggExprs vs)) fs ks → (ms : List Row) → map (aggValue (select ks fs) (map (select ks) ms)) vs ≡ map (aggValue fs ms) vs
+  aggValues-select : (vs : List Agg) → Cov (concatMap aggExprs vs) fs ks → (ms : List Row) → map (aggValue (select ks fs) (map (select ks) ms)) vs ≡ map (aggValue fs ms) vs
   unfolding concatMap aggExprs aggValue
   aggValues-select [] v ms = refl
   aggValues-select (agg c g ∷ vs) v ms =
       ap₂ _∷_ (call-select g (used-left (callExprs g) (concatMap aggExprs vs) v) ms) (aggValues-select vs (used-right (callExprs g) (concatMap aggExprs vs) v) ms)
 
-  module _ (gs : List Expr) (vs : List Agg) (A : Mask) (v : Cov (usesAny gs) fs ks) (w : Cov (usesAny (concatMap aggExprs (select A vs))) fs ks) (rs : List Row) where
+  module _ (gs : List Expr) (vs : List Agg) (A : Mask) (v : Cov gs fs ks) (w : Cov (concatMap aggExprs (select A vs)) fs ks) (rs : List Row) where
     groupRow-select : (k : Row) → Fit k gs → groupRow gs (select A vs) (select ks fs) (map (select ks) rs) k ≡ select (ones gs ++ A) (groupRow gs vs fs rs k)
     unfolding groupRow ones
     groupRow-select k h =
@@ -55,18 +55,18 @@ module _ {fs : List Pair} {ks : Mask} where
 
   -- ── Window ────────────────────────────────────────────────────────────────────────────────
 
-  part-select : (ps : List Expr) → Cov (usesAny ps) fs ks → (r s : Row) → samePart (select ks fs) ps (select ks r) (select ks s) ≡ samePart fs ps r s
+  part-select : (ps : List Expr) → Cov ps fs ks → (r s : Row) → samePart (select ks fs) ps (select ks r) (select ks s) ≡ samePart fs ps r s
   unfolding samePart
   part-select ps v r s = ap₂ sameRow (evalAll-select ps v r) (evalAll-select ps v s)
 
-  number-select : (ps : List Expr) (os : List Key) → Cov (usesAny ps) fs ks → Cov (usesAny (map keyExpr os)) fs ks → (pre : List Row) (r : Row) (post : List Row)
+  number-select : (ps : List Expr) (os : List Key) → Cov ps fs ks → Cov (map keyExpr os) fs ks → (pre : List Row) (r : Row) (post : List Row)
       → rowNumber (select ks fs) ps os (map (select ks) pre) (select ks r) (map (select ks) post) ≡ rowNumber fs ps os pre r post
   unfolding rowNumber
   number-select ps os v w pre r post =
       ap₂ (λ m n. suc (m + n)) (count-map (select ks) _ _ (λ s. ap₂ (λ a b. a && not b) (part-select ps v r s) (before-select os w r s)) pre)
       (count-map (select ks) _ _ (λ s. ap₂ _&&_ (part-select ps v r s) (before-select os w s r)) post)
 
-  winValue-select : (w : Win) → Cov (usesAny (winExprs w)) fs ks → (all pre : List Row) (r : Row) (post : List Row)
+  winValue-select : (w : Win) → Cov (winExprs w) fs ks → (all pre : List Row) (r : Row) (post : List Row)
       → winValue (select ks fs) (map (select ks) all) (map (select ks) pre) (select ks r) (map (select ks) post) w ≡ winValue fs all pre r post w
   unfolding winValue winExprs callExprs
   winValue-select (win c rows ps os) v all pre r post = ap (λ n. num (pos n)) (number-select ps os (used-left ps (map keyExpr os) v) (used-right ps (map keyExpr os) v) pre r post)
@@ -75,7 +75,7 @@ module _ {fs : List Pair} {ks : Mask} where
       ap (λ rs. callOver (select ks fs) rs (over g e)) (filter-map (select ks) (samePart fs ps r) _ (part-select ps u r) all)
       ∙ call-select (over g e) (used-left (callExprs (over g e)) (ps ++ map keyExpr os) v) (filterB (samePart fs ps r) all)
 
-  winValues-select : (ws : List Win) → Cov (usesAny (concatMap winExprs ws)) fs ks → (all pre : List Row) (r : Row) (post : List Row)
+  winValues-select : (ws : List Win) → Cov (concatMap winExprs ws) fs ks → (all pre : List Row) (r : Row) (post : List Row)
       → map (winValue (select ks fs) (map (select ks) all) (map (select ks) pre) (select ks r) (map (select ks) post)) ws ≡ map (winValue fs all pre r post) ws
   unfolding concatMap
   winValues-select [] v all pre r post = refl
@@ -83,7 +83,7 @@ module _ {fs : List Pair} {ks : Mask} where
       ap₂ _∷_ (winValue-select w (used-left (winExprs w) (concatMap winExprs ws) v) all pre r post) (winValues-select ws (used-right (winExprs w) (concatMap winExprs ws) v) all pre r post)
 
   -- the input's fields at ks, and the windows at S
-  pub window-select : (ws : List Win) (S : Mask) → Fit ks fs → Cov (usesAny (concatMap winExprs (select S ws))) fs ks → {rs : List Row} → WideRows fs rs
+  pub window-select : (ws : List Win) (S : Mask) → Fit ks fs → Cov (concatMap winExprs (select S ws)) fs ks → {rs : List Row} → WideRows fs rs
       → windowRows (select S ws) (select ks fs) (map (select ks) rs) ≡ map (select (ks ++ S)) (windowRows ws fs rs)
   unfolding windowRows winRow
   window-select ws S f v {rs} h = around-mapA (select ks) (select (ks ++ S)) _ _ each [] h

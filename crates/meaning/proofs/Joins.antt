@@ -6,13 +6,13 @@ use mathlib.Core.Option.{Option, none, some}
 use Rattle.cpl.specs.Tests.{anyB}
 use Rattle.cpl.specs.Lists.{Fit}
 use Rattle.cpl.specs.Plan.{Pair, o-eq, Expr, JoinType, j-inner, j-left, j-right, j-full, j-lsemi, j-lanti, j-rsemi, j-ranti, On, on, onLeft, onRight}
-use Rattle.cpl.specs.Exprs.{usesAny, condExprs}
+use Rattle.cpl.specs.Exprs.{condExprs}
 use Rattle.cpl.specs.Fields.{joinFields}
 use Rattle.cpl.proofs.Lists.{All-map, always, map-cong, map-congA, map-map, map-++, Fit-trans, Fit-sym}
 use Rattle.rules.specs.Mask.{Mask, select}
-use Rattle.rules.specs.Rules.{leftExprs, rightExprs}
-use Rattle.rules.proofs.Masks.{Cov, Cov-++, select-map, select-++}
-use Rattle.rules.proofs.Known.{used-head, used-tail, used-left, used-right}
+use Rattle.rules.specs.Rules.{joinExprs}
+use Rattle.rules.proofs.Masks.{select-map, select-++}
+use Rattle.rules.proofs.Covers.{Cov, used-head, used-tail, used-left, used-right, cov-both}
 use Rattle.meaning.specs.Value.{missing, Row, op2, yes?}
 use Rattle.meaning.specs.Eval.{eval}
 use Rattle.meaning.specs.Lists.{filterB, orElse}
@@ -31,7 +31,7 @@ module _ (fl fr : List Pair) (kl kr : Mask) (fit : Fit kl fl) where
 
   -- ── matches ───────────────────────────────────────────────────────────────────────────────
 
-  onMatch-select : (os : List On) → Cov (usesAny (map onLeft os)) fl kl → Cov (usesAny (map onRight os)) fr kr → (l r : Row)
+  onMatch-select : (os : List On) → Cov (map onLeft os) fl kl → Cov (map onRight os) fr kr → (l r : Row)
       → onMatch os (select kl fl) (select kr fr) (select kl l) (select kr r) ≡ onMatch os fl fr l r
   unfolding onMatch onLeft onRight
   onMatch-select [] v w l r = refl
@@ -39,19 +39,23 @@ module _ (fl fr : List Pair) (kl kr : Mask) (fit : Fit kl fl) where
       ap₂ _&&_ (ap₂ (λ x y. yes? (op2 o-eq x y)) (eval-select a (used-head a (map onLeft os) v) l) (eval-select b (used-head b (map onRight os) w) r))
       (onMatch-select os (used-tail a (map onLeft os) v) (used-tail b (map onRight os) w) l r)
 
-  condMatch-select : (c : Option Expr) → Cov (usesAny (condExprs c)) fl kl → Cov (usesAny (condExprs c)) fr kr → (l r : Row) → Fit l fl
+  condMatch-select : (c : Option Expr) → Cov (condExprs c) fl kl → Cov (condExprs c) fr kr → (l r : Row) → Fit l fl
       → condMatch c (select kl fl ++ select kr fr) (select kl l ++ select kr r) ≡ condMatch c (fl ++ fr) (l ++ r)
   unfolding condMatch condExprs
   condMatch-select none v w l r h = refl
   condMatch-select (some e) v w l r h =
-      ap₂ (λ fs s. yes? (eval fs s e)) (sym (select-++ fit kr fr)) (cut l r h) ∙ ap yes? (eval-select e (Cov-++ (used-head e [] v) (used-head e [] w)) (l ++ r))
+      ap₂ (λ fs s. yes? (eval fs s e)) (sym (select-++ fit kr fr)) (cut l r h) ∙ ap yes? (eval-select e (used-head e [] (cov-both v w)) (l ++ r))
 
-  pub matches-select : (os : List On) (c : Option Expr) → Cov (usesAny (leftExprs os c)) fl kl → Cov (usesAny (rightExprs os c)) fr kr → (l r : Row) → Fit l fl
+  pub matches-select : (os : List On) (c : Option Expr) → Cov (joinExprs os c) fl kl → Cov (joinExprs os c) fr kr → (l r : Row) → Fit l fl
       → matches os c (select kl fl) (select kr fr) (select kl l) (select kr r) ≡ matches os c fl fr l r
-  unfolding matches leftExprs rightExprs
+  unfolding matches joinExprs
   matches-select os c v w l r h =
-      ap₂ _&&_ (onMatch-select os (used-left (map onLeft os) (condExprs c) v) (used-left (map onRight os) (condExprs c) w) l r)
-      (condMatch-select c (used-right (map onLeft os) (condExprs c) v) (used-right (map onRight os) (condExprs c) w) l r h)
+      let lefts = map onLeft os in
+      let rights = map onRight os in
+      let v′ = used-right lefts (rights ++ condExprs c) v in
+      let w′ = used-right lefts (rights ++ condExprs c) w in
+      ap₂ _&&_ (onMatch-select os (used-left lefts (rights ++ condExprs c) v) (used-left rights (condExprs c) w′) l r)
+      (condMatch-select c (used-right rights (condExprs c) v′) (used-right rights (condExprs c) w′) l r h)
 
   -- ── rows, for any two tests that agree ────────────────────────────────────────────────────
 

@@ -3,25 +3,19 @@ use mathlib.Core.Path.{_≡_, refl, ap, ap₂}
 use mathlib.Core.List.{List, [], _∷_, map, head-eq-of-cons-eq, tail-eq-of-cons-eq}
 use Prim.Native.Nat.{ℕ}
 use native.Mathlib.Omega.{arith}
-use lib.Dec.{T, eqb, eqb-refl}
+use lib.Dec.{eqb, eqb-refl}
 use lib.ListN.{length, getD}
 use Rattle.cpl.specs.Tests.{anyB}
-use Rattle.cpl.specs.Lists.{All, a[], _a∷_}
+use Rattle.cpl.specs.Lists.{All}
 use Rattle.cpl.specs.Plan.{Leaf, scan, empty, Plan, leaf, unary, binary, Catalogue}
 use Rattle.cpl.specs.Fields.{columnsOf, fieldsOf}
 use Rattle.cpl.proofs.Bools.{both-T, left-T, right-T}
-use Rattle.cpl.proofs.Lists.{All-map, map-congA}
+use Rattle.cpl.proofs.Lists.{All-map, map-congA, each-number}
 use Rattle.meaning.specs.Value.{missing, Row, Log}
 use Rattle.meaning.specs.Operators.{unaryRows}
 use Rattle.meaning.specs.Joins.{binaryRows}
 use Rattle.meaning.specs.Meaning.{tableRows, rowAt, leafRows, meaning}
 use Rattle.meaning.specs.Reads.{leafReads, reads, rowCount, column, Agree}
-
--- what holds of every number that is found in a list
-each-number : (P : ℕ → Type 0) (ns : List ℕ) → ((i : ℕ) → T (anyB (eqb i) ns) → P i) → All P ns
-unfolding anyB
-each-number P [] h = a[]
-each-number P (n ∷ ns) h = h n (left-T (eqb n n) (anyB (eqb n) ns) (eqb-refl n)) a∷ each-number P ns (λ i t. h i (right-T (eqb i n) (anyB (eqb i) ns) t))
 
 -- equal columns, equal rows
 transpose : (is : List ℕ) (rs ss : List Row) → length rs ≡ length ss → All (λ i. map (λ r. getD r i missing) rs ≡ map (λ r. getD r i missing) ss) is → map (rowAt is) rs ≡ map (rowAt is) ss

@@ -3,18 +3,19 @@ use mathlib.Core.Path.{_≡_, refl, sym, _∙_, ap, ap₂, subst, subst⁻¹}
 use mathlib.Core.List.{List, [], _∷_, _++_, map, append-nil}
 use mathlib.Core.Bool.{Bool, true, false}
 use lib.ListN.{length, take, drop, getD}
-use Rattle.cpl.specs.Tests.{anyB, concatMap}
-use Rattle.cpl.specs.Lists.{z[], _z∷_, Fit}
+use Rattle.cpl.specs.Tests.{concatMap}
+use Rattle.cpl.specs.Lists.{a[], Fit}
 use Rattle.cpl.specs.Plan.{Pair, Item, Agg, Win, Leaf, scan, empty, Unary, projection, filter, sort, limit, aggregate, window, subqueryAlias, distinct, Plan, leaf, unary, Catalogue, itemPair, itemExpr, keyExpr, aggPair, winPair}
-use Rattle.cpl.specs.Exprs.{usesAny, aggExprs, winExprs, unaryExprs}
+use Rattle.cpl.specs.Exprs.{aggExprs, winExprs, unaryExprs}
 use Rattle.cpl.specs.Fields.{columnsOf, scanField, leafFields, requalify, unaryFields, fieldsOf}
 use Rattle.cpl.proofs.Lists.{All-mapped, map-cong, map-map, Fit-map, fit-self, Fit-trans, take-fit}
 use Rattle.cpl.proofs.Clash.{Clear}
 use Rattle.rules.specs.Mask.{Mask, select, ones, LeM}
 use Rattle.rules.specs.Rules.{used, leafRule, leafKept, Job, done, ask, projectionJob, aggregateJob, windowJob, unaryJob}
-use Rattle.rules.proofs.Masks.{Cov, c[], _c∷_, LeM-refl, LeM-trans, LeM-parts, LeM-fit, fit-ones, ones-le, Fit-select, select-map, select-ones}
-use Rattle.rules.proofs.Asked.{used-fit, used-cov, plus-fit, plus-cov, plus-keeps, all-groups, aggregate-fields, window-fields}
-use Rattle.rules.proofs.Known.{used-head, used-left, used-right, clear-select}
+use Rattle.rules.proofs.Masks.{LeM-refl, LeM-trans, LeM-parts, LeM-fit, fit-ones, ones-le, Fit-select, select-map, select-ones}
+use Rattle.rules.proofs.Asked.{used-fit, plus-fit, plus-cov, plus-keeps, all-groups, aggregate-fields, window-fields}
+use Rattle.rules.proofs.Covers.{Cov, used-cov, used-head, used-left, used-right}
+use Rattle.rules.proofs.Known.{clear-select}
 use Rattle.meaning.specs.Value.{missing, Row, Log, yes?, sameRow}
 use Rattle.meaning.specs.Lists.{firsts}
 use Rattle.meaning.specs.Operators.{projectionRows, members, aggValue, groupKeys, groupRow, aggregateRows, windowRows, unaryRows}
@@ -35,13 +36,6 @@ pub record Narrowed (C : Catalogue) (D : Log) (fs : List Pair) (rs : List Row) (
 unfoldable pub JobNarrows : Catalogue → Log → List Pair → List Row → (R : Mask) (gs : List Pair) (qs : List Row) → Job → Type 0
 JobNarrows C D fs rs R gs qs (done p′ K) = Narrowed C D gs qs R K p′
 JobNarrows C D fs rs R gs qs (ask b Q topped node left) = Fit Q fs × ((K : Mask) (p′ : Plan) → Narrowed C D fs rs Q K p′ → Narrowed C D gs qs R (left K) (node p′))
-
--- ── one input ───────────────────────────────────────────────────────────────────────────────
-
-no-windows : {fs : List Pair} {K : Mask} → Fit K fs → Cov (usesAny (concatMap winExprs [])) fs K
-unfolding usesAny anyB concatMap
-no-windows z[] = c[]
-no-windows (_ z∷ hs) = tt c∷ no-windows hs
 
 -- ── one input ───────────────────────────────────────────────────────────────────────────────
 
@@ -75,7 +69,7 @@ module _ (C : Catalogue) (D : Log) (fs : List Pair) (rs : List Row) where
       let es = map itemExpr gs in
       let v = used-cov (es ++ concatMap aggExprs ws) fs l in
       ap (λ us. aggregateRows es us (select K fs) (map (select K) rs)) e
-      ∙ (aggregate-select es vs A (used-left es (concatMap aggExprs ws) v) (subst (λ us. Cov (usesAny (concatMap aggExprs us)) fs K) e (used-right es (concatMap aggExprs ws) v)) rs
+      ∙ (aggregate-select es vs A (used-left es (concatMap aggExprs ws) v) (subst (λ us. Cov (concatMap aggExprs us) fs K) e (used-right es (concatMap aggExprs ws) v)) rs
       ∙ ap (λ M. map (select (M ++ A)) (aggregateRows es vs fs rs)) (map-map (λ g. true) itemExpr gs))
 
   -- neither group nor aggregate: one row of no values
@@ -115,7 +109,7 @@ module _ (C : Catalogue) (D : Log) (fs : List Pair) (rs : List Row) where
               keeps = LeM-parts (length fs) R (n .keeps) (LeM-refl S);
               fields = n .fields ∙ (sym (append-nil (select K fs)) ∙ (ap (λ us. select K fs ++ map winPair us) e ∙ window-fields k S ws));
               rows = n .rows ∙ (sym (window-none (select K fs) (map (select K) rs))
-                  ∙ (ap (λ us. windowRows us (select K fs) (map (select K) rs)) e ∙ window-select ws S k (subst (λ us. Cov (usesAny (concatMap winExprs us)) fs K) e (no-windows k)) w));
+                  ∙ (ap (λ us. windowRows us (select K fs) (map (select K) rs)) e ∙ window-select ws S k (subst (λ us. Cov (concatMap winExprs us) fs K) e (unfold concatMap in a[])) w));
             },
       )
   window-narrows w ws (v ∷ vs) b R f e =
@@ -126,7 +120,7 @@ module _ (C : Catalogue) (D : Log) (fs : List Pair) (rs : List Row) where
         λ K p′ n.
             let k = LeM-fit (n .keeps) (plus-fit es p) in
             node (window (v ∷ vs)) n (K ++ S) (LeM-parts (length fs) R (plus-keeps es p (n .keeps)) (LeM-refl S)) (ap (λ us. select K fs ++ map winPair us) e ∙ window-fields k S ws)
-            (ap (λ us. windowRows us (select K fs) (map (select K) rs)) e ∙ window-select ws S k (subst (λ us. Cov (usesAny (concatMap winExprs us)) fs K) e (plus-cov es p (n .keeps))) w),
+            (ap (λ us. windowRows us (select K fs) (map (select K) rs)) e ∙ window-select ws S k (subst (λ us. Cov (concatMap winExprs us) fs K) e (plus-cov es p (n .keeps))) w),
       )
 
   -- ── every kind ────────────────────────────────────────────────────────────────────────────

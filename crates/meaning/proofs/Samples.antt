@@ -88,6 +88,8 @@ record Rows : Type 0 where
   -- under a new qualifier
   aliased : meaning C D (unary (filter (un o-missing (col (pair 9 1)))) (unary (subqueryAlias 9) AB)) ≡ (missing ∷ n 5 ∷ []) ∷ []
   filtered : meaning C D (unary (filter (bin o-lt (col b) (lit (pos 20)))) AB) ≡ (n 1 ∷ n 10 ∷ []) ∷ (missing ∷ n 5 ∷ []) ∷ []
+  -- a name without a qualifier has the value of the field that it finds
+  by-name : meaning C D (unary (filter (bin o-lt (col (pair 0 2)) (lit (pos 20)))) AB) ≡ (n 1 ∷ n 10 ∷ []) ∷ (missing ∷ n 5 ∷ []) ∷ []
   -- the four flags: descending, missing first; descending, missing last; ascending, missing first; ascending, missing last, where equal keys stay in order
   sorted : meaning C D (unary (sort (key true true (col b) ∷ [])) AB) ≡ (n 2 ∷ missing ∷ []) ∷ (n 1 ∷ n 30 ∷ []) ∷ (n 1 ∷ n 10 ∷ []) ∷ (missing ∷ n 5 ∷ []) ∷ []
   descending : meaning C D (unary (sort (key true false (col b) ∷ [])) AB) ≡ (n 1 ∷ n 30 ∷ []) ∷ (n 1 ∷ n 10 ∷ []) ∷ (missing ∷ n 5 ∷ []) ∷ (n 2 ∷ missing ∷ []) ∷ []
@@ -139,6 +141,7 @@ all-rows =
       projected = refl;
       aliased = refl;
       filtered = refl;
+      by-name = refl;
       sorted = refl;
       descending = refl;
       ascending = refl;

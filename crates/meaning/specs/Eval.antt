@@ -12,7 +12,7 @@ unfoldable pub valueAt : Row → Option ℕ → Val
 valueAt r none = missing
 valueAt r (some i) = getD r i missing
 
--- "A column is found by its exact pair." (A column of an accepted plan is found.)
+-- a reference has the value of the field that it finds. (A reference of an accepted plan finds one, and no second one fits.)
 unfoldable pub lookup : List Pair → Row → Pair → Val
 lookup fs r c = valueAt r (find c fs)
 

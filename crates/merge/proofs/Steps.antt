@@ -1,70 +1,87 @@
 -- The laws of one step of merging. Assumes nothing.
 use mathlib.Core.Path.{_≡_, refl, sym, ap, ap₂, subst, _∙_}
-use mathlib.Core.Bool.{Bool, true, false, cond, not, _&&_, _||_}
+use mathlib.Core.Bool.{Bool, true, false, not, _&&_, _||_}
 use mathlib.Core.List.{List, [], _∷_, map}
 use mathlib.Core.Option.{none, some}
-use Prim.Native.Nat.{ℕ, _+_, _*_, _-_, _/_, _%_, _^_, _<_, _≤_}
+use Prim.Native.Nat.{ℕ, _+_, _*_, _/_, _%_, _^_, _<_, _≤_}
 use native.Mathlib.Omega.{arith}
-use borrow.Author.Tests.{lt-ltb, ltb-true}
+use borrow.Author.Tests.{lt-ltb}
 use lib.Dec.{eqb, ltb}
-use lib.ListN.{length, length-map}
+use lib.ListN.{length}
 use Rattle.cpl.specs.Codes.{tagOf}
-use Rattle.cpl.specs.Exprs.{exprTags, itemTags}
+use Rattle.cpl.specs.Exprs.{itemTags}
 use Rattle.cpl.specs.Limits.{maxTags}
-use Rattle.cpl.specs.Plan.{Expr, Item, itemExpr, itemPair, pair}
+use Rattle.cpl.specs.Plan.{Item, itemExpr, itemPair, pair}
 use Rattle.cpl.specs.Tests.{anyB, sumOf}
+use Rattle.cpl.proofs.Lookup.{nameless}
 use Rattle.rules.specs.Merge.{dropsChild, held, mergeStep, occursIn, pushes, replaceItem, usesNone}
 use Rattle.rules.specs.Rewrite.{tooLong}
+use Rattle.rules.proofs.Held.{held-items, stops}
 use Rattle.arena.specs.Cells.{Wf, exprAt}
-use Rattle.arena.specs.Rows.{RowIs, RowOk, RowsOk, itemAt, itemsAt, pairAt}
+use Rattle.arena.specs.Rows.{RowIs, RowOk, itemAt, itemsAt}
 use Rattle.arena.proofs.Laws.{here}
 use Rattle.arena.proofs.Rows.{read-expr, rest, rest-all, rest-next, rest-none, tags-le}
 use Rattle.arena.proofs.Same.{items-length}
 use Rattle.arena_build.specs.Lists.{Listing, ListRefused, nodesOf}
 use Rattle.arena_build.proofs.Defs.{item-pair}
 use Rattle.arena_build.proofs.Items.{tags-within}
-use Rattle.merge.specs.Step.{Held, Over, pushesTag}
+use Rattle.merge.specs.Step.{Reads, pushesTag}
 
 -- ── held ────────────────────────────────────────────────────────────────────────────────────
 
--- does the lower item hold the upper list back?
-abbrev pub holds : (m : ℕ) (js : List Item) → Item → Bool
-holds m js i = ltb 1 (occursIn (itemPair i) js) && not (pushes m (itemExpr i))
-
--- none that was passed does
+-- no item that was passed stops the merge
 pub record Passed (m : ℕ) (js : List Item) (s cells : List ℕ) (f n i : ℕ) : Type 0 where
   pub upto : i ≤ n
-  pub same : anyB (holds m js) (rest s cells f n i) ≡ held m js (itemsAt s cells f n)
+  pub same : anyB (stops m js) (rest s cells f n i) ≡ held m js (itemsAt s cells f n)
 
 module _ (m : ℕ) (js : List Item) (s cells : List ℕ) (f n : ℕ) where
-  pub passed-none : Passed m js s cells f n 0
-  unfolding held
-  passed-none = record { upto = omega arith; same = ap (anyB (holds m js)) (rest-all s cells f n) }
+  pub passed-none : Reads js (itemsAt s cells f n) → Passed m js s cells f n 0
+  passed-none r = record { upto = omega arith; same = ap (anyB (stops m js)) (rest-all s cells f n) ∙ sym (held-items m js (itemsAt s cells f n) (r .clear) (r .resolved)) }
 
   module _ (i : ℕ) (p : Passed m js s cells f n i) (h : i < n) where
-    next : holds m js (itemAt s cells (f + i)) || anyB (holds m js) (rest s cells f n (i + 1)) ≡ held m js (itemsAt s cells f n)
+    next : stops m js (itemAt s cells (f + i)) || anyB (stops m js) (rest s cells f n (i + 1)) ≡ held m js (itemsAt s cells f n)
     unfolding anyB
-    next = sym (ap (anyB (holds m js)) (rest-next s cells f n i h)) ∙ p .same
+    next = sym (ap (anyB (stops m js)) (rest-next s cells f n i h)) ∙ p .same
 
-    pub passed-more : holds m js (itemAt s cells (f + i)) ≡ false → Passed m js s cells f n (i + 1)
+    pub passed-more : stops m js (itemAt s cells (f + i)) ≡ false → Passed m js s cells f n (i + 1)
     passed-more e = record { upto = omega arith; same = rw e at next }
 
-    pub passed-held : holds m js (itemAt s cells (f + i)) ≡ true → true ≡ held m js (itemsAt s cells f n)
+    pub passed-held : stops m js (itemAt s cells (f + i)) ≡ true → true ≡ held m js (itemsAt s cells f n)
     passed-held e = rw e at next
 
   pub passed-all : (i : ℕ) → Passed m js s cells f n i → n ≤ i → false ≡ held m js (itemsAt s cells f n)
   unfolding anyB
-  passed-all i p h = sym (ap (anyB (holds m js)) (rest-none s cells f n i h)) ∙ p .same
+  passed-all i p h = sym (ap (anyB (stops m js)) (rest-none s cells f n i h)) ∙ p .same
 
--- the test of the code is the rule's
+and-no : (a : Bool) → a && false ≡ false
+and-no true = refl
+and-no false = refl
+
+and-yes : (a : Bool) → a && true ≡ a
+and-yes true = refl
+and-yes false = refl
+
+-- the tests of the code are the rule's
 module _ {s cells : List ℕ} {i q n mark root : ℕ} (m : ℕ) (js : List Item) (e : RowIs s i q n mark root) (o : RowOk s cells i) where
-  pub test-is : {uses tag : ℕ} {free b : Bool} → uses ≡ occursIn (pair q n) js → tag ≡ tagOf (exprAt cells root) → free ≡ pushesTag m tag → ltb 1 uses && not free ≡ b → holds m js (itemAt s cells i) ≡ b
+  item-is : itemPair (itemAt s cells i) ≡ pair q n
+  item-is = item-pair s cells i ∙ sym (e .pair-is)
+
+  free-is : {tag : ℕ} {free : Bool} → tag ≡ tagOf (exprAt cells root) → free ≡ pushesTag m tag → pushes m (itemExpr (itemAt s cells i)) ≡ free
   unfolding pushes
-  test-is {uses} {tag} {free} u t g h =
-      ap₂ (λ x y. ltb 1 x && not y)
-      (ap (λ c. occursIn c js) (item-pair s cells i ∙ sym (e .pair-is)) ∙ sym u)
-      (ap (λ x. eqb (m / 2 ^ tagOf x % 2) 1) (read-expr cells e o) ∙ ap (λ x. eqb (m / 2 ^ x % 2) 1) (sym t) ∙ sym g)
-      ∙ h
+  free-is t g = ap (λ x. eqb (m / 2 ^ tagOf x % 2) 1) (read-expr cells e o) ∙ ap (λ x. eqb (m / 2 ^ x % 2) 1) (sym t) ∙ sym g
+
+  -- is its pair, or its name alone, written more than once?
+  abbrev twice : Bool
+  twice = ltb 1 (occursIn (itemPair (itemAt s cells i)) js) || ltb 1 (occursIn (nameless (itemPair (itemAt s cells i))) js)
+
+  module _ {tag : ℕ} {free : Bool} (t : tag ≡ tagOf (exprAt cells root)) (g : free ≡ pushesTag m tag) where
+    pub stops-free : free ≡ true → false ≡ stops m js (itemAt s cells i)
+    stops-free h = sym (ap (λ x. twice && not x) (free-is t g ∙ h) ∙ and-no twice)
+
+    pub stops-is : free ≡ false → {own name : ℕ} → own ≡ occursIn (pair q n) js → name ≡ occursIn (pair 0 n) js → ltb 1 own || ltb 1 name ≡ stops m js (itemAt s cells i)
+    stops-is h u v =
+        ap₂ (λ x y. ltb 1 x || ltb 1 y) (u ∙ sym (ap (λ c. occursIn c js) item-is)) (v ∙ sym (ap (λ c. occursIn (nameless c) js) item-is))
+        ∙ sym (ap (λ x. twice && not x) (free-is t g ∙ h) ∙ and-yes twice)
 
 -- ── the step ────────────────────────────────────────────────────────────────────────────────
 

@@ -1,15 +1,18 @@
 -- What one step of merging says of the two lists.
 use mathlib.Core.Path.{_≡_}
 use mathlib.Core.Bool.{Bool, true}
-use mathlib.Core.List.{List}
+use mathlib.Core.List.{List, map}
 use mathlib.Core.Option.{none, some}
 use Prim.Native.Nat.{ℕ, _*_, _/_, _%_, _^_, _≤_}
 use lib.Dec.{eqb}
 use lib.ListN.{length}
 use Rattle.cpl.specs.Exprs.{itemTags}
 use Rattle.cpl.specs.Limits.{maxTags}
-use Rattle.cpl.specs.Plan.{Item}
+use Rattle.cpl.specs.Accept.{allPass}
+use Rattle.cpl.specs.Plan.{Item, itemExpr, itemPair}
 use Rattle.cpl.specs.Tests.{sumOf}
+use Rattle.cpl.proofs.Accepted.{Resolved}
+use Rattle.cpl.proofs.Clash.{Clear}
 use Rattle.rules.specs.Merge.{mergeStep}
 use Rattle.rules.specs.Rewrite.{tooLong}
 use Rattle.arena.specs.Rows.{RowsOk, itemsAt}
@@ -19,6 +22,11 @@ use Rattle.merge.specs.declared.Step.the-variants.{Large, Merged, Same, 
 -- "bit t for a definition whose outermost tag beneath the alias is t"
 abbrev pub pushesTag : (mask tag : ℕ) → Bool
 pushesTag m t = eqb (m / 2 ^ t % 2) 1
+
+-- an upper list js of an accepted plan reads the lower list is: no two of the lower pairs clash, and each reference of js finds one of them
+pub record Reads (js is : List Item) : Type 0 where
+  pub clear : Clear (map itemPair is)
+  pub resolved : Resolved (allPass (map itemExpr js) (map itemPair is))
 
 -- rows for the list, and nodes for all that a list may have; a row names a node in 16 bits
 pub record Room (rows cells : List ℕ) (size : ℕ) : Type 0 where

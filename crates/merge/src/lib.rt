@@ -10,8 +10,9 @@ ghost use Rattle.cpl.specs.Exprs.{itemTags};
 ghost use Rattle.cpl.specs.Limits.{maxTags};
 ghost use Rattle.cpl.specs.Tests.{sumOf};
 ghost use Rattle.rules.specs.Merge.{dropsChild, held};
-ghost use Rattle.arena.specs.Rows.{itemsAt, RowsOk};
-ghost use Rattle.merge.specs.Step.{pushesTag, Room, Stepped};
+ghost use Rattle.rules.proofs.Held.{stops};
+ghost use Rattle.arena.specs.Rows.{itemAt, itemsAt, RowOk, RowsOk};
+ghost use Rattle.merge.specs.Step.{pushesTag, Reads, Room, Stepped};
 use arena_build::Listed;
 
 /// What a step does: the lists are equal, so the lower one is dropped; it stops; the merged list was written; that list is over 4,096 tags.
@@ -30,8 +31,35 @@ fn pushes(mask: u16, tag: u64) -> bool
     (mask as u64 >> tag) % 2 == 1
 }
 
-/// Is a column used more than once over the upper list whose definition in the lower list does not push to leaves? The rows of both are
-/// well formed, and the upper list is not over 4,096 tags.
+// Does row `i` of the lower list stop the merge: its definition does not push to leaves, and its pair is written more than once over the
+// upper list, or its name alone is? The row and the upper list's rows are well formed, and that list is not over 4,096 tags.
+fn stops_merge(
+    mask: u16,
+    upper: &[u16],
+    start: usize,
+    size: usize,
+    ucells: &[u64],
+    items: &[u16],
+    i: usize,
+    cells: &[u64],
+) -> bool
+    requires { ⌜ RowsOk (now upper) (now ucells) start size ⌝ }
+    requires { ⌜ sumOf itemTags (itemsAt (now upper) (now ucells) start size) ≤ maxTags ⌝ }
+    requires { ⌜ RowOk (now items) (now cells) i ⌝ }
+    ensures { λ r. ⌜ r ≡ stops mask (itemsAt (now (upper .entry)) (now (ucells .entry)) start size) (itemAt (now (items .entry)) (now (cells .entry)) i) ⌝ }
+{
+    let row = arena::row_at(items, i);
+    let tag = arena::tag_at(cells, row.root);
+    if pushes(mask, tag) {
+        return false;
+    }
+    let own = arena::list_uses(upper, start, size, ucells, row.qualifier, row.name);
+    let name = arena::list_uses(upper, start, size, ucells, 0, row.name);
+    (1 < own) | (1 < name)
+}
+
+/// Is a pair written more than once over the upper list that finds a definition in the lower list which does not push to leaves? The rows of
+/// both are well formed, the upper list is not over 4,096 tags, and each of its references finds one item of the lower list.
 pub fn is_held(
     mask: u16,
     upper: &[u16],
@@ -46,15 +74,12 @@ pub fn is_held(
     requires { ⌜ RowsOk (now upper) (now ucells) start size ⌝ }
     requires { ⌜ sumOf itemTags (itemsAt (now upper) (now ucells) start size) ≤ maxTags ⌝ }
     requires { ⌜ RowsOk (now items) (now cells) first count ⌝ }
+    requires { ⌜ Reads (itemsAt (now upper) (now ucells) start size) (itemsAt (now items) (now cells) first count) ⌝ }
     ensures { λ r. ⌜ r ≡ held mask (itemsAt (now (upper .entry)) (now (ucells .entry)) start size) (itemsAt (now (items .entry)) (now (cells .entry)) first count) ⌝ }
 {
     let mut i = 0;
     while i < count {
-        let row = arena::row_at(items, first + i);
-        let uses = arena::list_uses(upper, start, size, ucells, row.qualifier, row.name);
-        let tag = arena::tag_at(cells, row.root);
-        let free = pushes(mask, tag);
-        if (1 < uses) & !free {
+        if stops_merge(mask, upper, start, size, ucells, items, first + i, cells) {
             return true;
         }
         i += 1;
@@ -84,8 +109,8 @@ pub fn drops_child(
     same & (!house | plain)
 }
 
-/// One step. The rows of both lists are well formed, and the upper list is not over 4,096 tags; the lent arrays have room for the rows
-/// and for 4,096 nodes. Rust: `merge_consecutive_projections_one_level`.
+/// One step. The rows of both lists are well formed, the upper list is not over 4,096 tags, and each of its references finds one item of the
+/// lower list; the lent arrays have room for the rows and for 4,096 nodes. Rust: `merge_consecutive_projections_one_level`.
 pub fn merge_consecutive_projections(
     house: bool,
     mask: u16,
@@ -103,6 +128,7 @@ pub fn merge_consecutive_projections(
     requires { ⌜ RowsOk (now upper) (now ucells) start size ⌝ }
     requires { ⌜ sumOf itemTags (itemsAt (now upper) (now ucells) start size) ≤ maxTags ⌝ }
     requires { ⌜ RowsOk (now items) (now cells) first count ⌝ }
+    requires { ⌜ Reads (itemsAt (now upper) (now ucells) start size) (itemsAt (now items) (now cells) first count) ⌝ }
     requires { ⌜ Room (now rows) (now dst) size ⌝ }
     ensures { λ r. ⌜ Stepped house mask (itemsAt (now (upper .entry)) (now (ucells .entry)) start size) (itemsAt (now (items .entry)) (now (cells .entry)) first count) size r (now (rows .exit)) (now (dst .exit)) ⌝ }
 {

@@ -1,24 +1,23 @@
 -- The pending list over node k: its items at the request, over the node asked for the columns they use. Assumes nothing.
 use mathlib.Core.Path.{_≡_, refl, sym, ap, subst, subst⁻¹, _∙_}
 use mathlib.Core.Logic.{inl, inr, ⊎-elim}
-use mathlib.Core.Bool.{Bool, true, false, not}
+use mathlib.Core.Bool.{Bool, true, false}
 use mathlib.Core.List.{List, [], _∷_, map}
 use mathlib.Core.Option.{none, some}
 use Prim.Native.Nat.{ℕ, _+_, _*_, _^_, _<_, _≤_}
 use native.Mathlib.Omega.{arith}
-use lib.Dec.{T}
 use lib.ListN.{length, length-map}
-use Rattle.cpl.specs.Accept.{clash}
-use Rattle.cpl.specs.Exprs.{exprTags, itemTags, planTags, unaryTags, usesAny}
+use Rattle.cpl.specs.Exprs.{exprTags, itemTags, planTags, unaryTags}
 use Rattle.cpl.specs.Fields.{fieldsOf}
 use Rattle.cpl.specs.Lists.{Fit}
 use Rattle.cpl.specs.Plan.{Catalogue, Item, Pair, Plan, bare, named, itemExpr, itemPair}
 use Rattle.cpl.specs.Tests.{allB, sumOf}
-use Rattle.cpl.proofs.Lists.{Fit-length, Fit-map}
+use Rattle.cpl.proofs.Lists.{Fit-length}
 use Rattle.rules.specs.Mask.{Mask, select}
 use Rattle.rules.specs.Rules.{overChild, projectionJob, used}
 use Rattle.rules.specs.Rewrite as rules
 use Rattle.rules.specs.Rewrite.{Go, input, pend, runJob, walk}
+use Rattle.rules.proofs.Asked.{used-fit}
 use Rattle.rules.proofs.Masks.{select-short}
 use Rattle.required_indices.specs.Request.{Asks, flagOf, setOf}
 use Rattle.required_indices.specs.declared.RequiredIndices.{RequiredIndices}
@@ -29,7 +28,7 @@ use Rattle.arena_build.specs.Lists.{nodesOf}
 use Rattle.tree.specs.Tree.{Arrays, lent, planAt}
 use Rattle.lookup.specs.Fields.{rowAt, widthAt}
 use Rattle.lookup.specs.Standing.{Standing}
-use Rattle.lookup.proofs.Standing.{fields-clear, row-in, row-is, row-long}
+use Rattle.lookup.proofs.Standing.{row-in, row-is, row-long}
 use Rattle.result.specs.Result.{Results}
 use Rattle.result.specs.Records.{Grown, WfResults, results}
 use Rattle.result.proofs.Grow.{wf-grown, wf-more}
@@ -90,10 +89,6 @@ pend-is : (C : Catalogue) (js : List Item) (fs : List Pair) (go : Go) (b : Bool)
     ≡ record { plan = overChild C (select R js) (go false (used (map itemExpr (select R js)) fs) .plan); kept = R; overlong = go false (used (map itemExpr (select R js)) fs) .overlong }
 unfolding pend runJob projectionJob input
 pend-is C js fs go b R = refl
-
-pub used-fit : (js : List Item) (fs : List Pair) → Fit (used (map itemExpr js) fs) fs
-unfolding used
-used-fit js fs = Fit-map (usesAny (map itemExpr js)) fs
 
 -- ── the items copied, where they are not all bare ───────────────────────────────────────────
 
@@ -172,7 +167,7 @@ module _ {cells rows nodes fields widths arows acells sr items icells : List ℕ
     pub asks-q : Asks (c .ask) Q
     asks-q =
         subst (λ (gs : List Pair). Asks (c .ask) (used (map itemExpr (select (b .R) (pendingItems l rows cells arows acells))) gs)) (row-is (b .standing) k (b .within) refl)
-        (subst (λ (ks : List Item). Asks (c .ask) (used (map itemExpr ks) (rowAt fields k (widthAt widths k)))) kept-is (q .asks (subst⁻¹ (λ (gs : List Pair). T (not (clash gs))) (row-is (b .standing) k (b .within) refl) (fields-clear (b .standing) k (b .within)))))
+        (subst (λ (ks : List Item). Asks (c .ask) (used (map itemExpr ks) (rowAt fields k (widthAt widths k)))) kept-is (q .asks))
 
     module _ (fine : c .large ≡ false) where
       pub chosen : SelectionIs (select (b .R) (pendingItems l rows cells arows acells)) u items icells items₁ icells₁ (c .used) (c .list)
@@ -187,7 +182,7 @@ module _ {cells rows nodes fields widths arows acells sr items icells : List ℕ
             within = b .within;
             ready = taken-ready (b .ready) (select (b .R) (pendingItems l rows cells arows acells)) items₁ icells₁ (c .used) (c .list) chosen;
             R = used (map itemExpr (select (b .R) (pendingItems l rows cells arows acells))) (fieldsOf (b .standing .C) (planAt (lent cells rows nodes) k));
-            fit = used-fit (select (b .R) (pendingItems l rows cells arows acells)) (fieldsOf (b .standing .C) (planAt (lent cells rows nodes) k));
+            fit = used-fit (map itemExpr (select (b .R) (pendingItems l rows cells arows acells))) (fieldsOf (b .standing .C) (planAt (lent cells rows nodes) k));
             asks = asks-q;
           }
 
@@ -236,7 +231,7 @@ module _ {cells rows nodes fields widths arows acells sr items icells : List ℕ
           (x .is (input-before b fine))
 
       node-fit : (b : BeforeList cells rows nodes fields widths arows acells (results sr items icells) k l request u) → Fit (nodeWalk b .kept) (fieldsOf (b .standing .C) (planAt (lent cells rows nodes) k))
-      node-fit b = node-kept (b .standing) s k (b .within) false (used-fit (select (b .R) (pendingItems l rows cells arows acells)) (fieldsOf (b .standing .C) (planAt (lent cells rows nodes) k)))
+      node-fit b = node-kept (b .standing) s k (b .within) false (used-fit (map itemExpr (select (b .R) (pendingItems l rows cells arows acells))) (fieldsOf (b .standing .C) (planAt (lent cells rows nodes) k)))
 
       pub list-fields : BeforeList cells rows nodes fields widths arows acells (results sr items icells) k l request u → FieldsFor fields k (widthAt widths k) w (w .end)
       list-fields b = by (w .end) (node-end b)
@@ -281,7 +276,7 @@ module _ {cells rows nodes fields widths arows acells sr items icells : List ℕ
               (record { plan = overChild (b .standing .C) (select (b .R) (pendingItems l rows cells arows acells)) (nodeWalk b .plan); kept = b .R; overlong = nodeWalk b .overlong }) v
           by b (Done rec n) y p =
               let ks : List Item = select (b .R) (pendingItems l rows cells arows acells) in
-              let g = node-good (b .standing) s k (b .within) false (used-fit ks (fieldsOf (b .standing .C) (planAt (lent cells rows nodes) k))) in
+              let g = node-good (b .standing) s k (b .within) false (used-fit (map itemExpr ks) (fieldsOf (b .standing .C) (planAt (lent cells rows nodes) k))) in
               over-walk (based (taken-more (b .ready) ks items₁ icells₁ (c .used) (c .list) (chosen b fine)) (taken-records (b .ready) ks items₁ icells₁ (c .used) (c .list) (chosen b fine))
               (taken-grown (b .ready) ks items₁ icells₁ (c .used) (c .list) (chosen b fine)) (y .0)) sr₃ (overChild (b .standing .C) ks) (p .t) v
               (omega (arith, y .0 .tags, taken-cells (b .ready) ks items₁ icells₁ (c .used) (c .list) (chosen b fine) (b .standing .C) (nodeWalk b .plan))) (b .asks) (y .2)

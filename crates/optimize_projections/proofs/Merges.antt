@@ -8,15 +8,16 @@ use Prim.Native.Nat.{ℕ, _+_, _<_, _≤_}
 use native.Mathlib.Omega.{arith}
 use borrow.Author.Tests.{le-ltb}
 use lib.ListN.{length, length-map}
+use Rattle.cpl.specs.Accept.{allPass}
 use Rattle.cpl.specs.Exprs.{itemTags, planTags, unaryExprs, unaryTags}
 use Rattle.cpl.specs.Fields.{fieldsOf, unaryFields}
 use Rattle.cpl.specs.Limits.{maxItems, maxTags}
 use Rattle.cpl.specs.Lists.{Fit}
-use Rattle.cpl.specs.Plan.{Catalogue, Item, Pair, Plan, Unary, projection, filter, sort, limit, aggregate, window, subqueryAlias, distinct, itemPair, unary}
+use Rattle.cpl.specs.Plan.{Catalogue, Item, Pair, Plan, Unary, projection, filter, sort, limit, aggregate, window, subqueryAlias, distinct, itemExpr, itemPair, unary}
 use Rattle.cpl.specs.ReadPlan.{Head, h0, h1, h2}
 use Rattle.cpl.specs.Tests.{sumOf}
 use Rattle.cpl.specs.Writable.{FitList, FitPlan, FitUnary}
-use Rattle.cpl.proofs.Accepted.{Accepted}
+use Rattle.cpl.proofs.Accepted.{Accepted, Resolved}
 use Rattle.cpl.proofs.Lists.{Fit-length, length-Fit}
 use Rattle.rules.specs.Mask.{Mask}
 use Rattle.rules.specs.Merge.{Merge, mergeStep}
@@ -87,10 +88,14 @@ module _ {cells rows nodes fields widths : List ℕ} (z : Standing cells rows no
   unfolding Accepted FitPlan FitUnary unaryExprs
   lower-items =
       record {
-        all-found = lower-accepted .1 .all-found;
+        resolved = lower-accepted .1 .resolved;
         own = subst⁻¹ Fields lower-pairs (plan-fields (z .C) (z .tables) (planAt a k) (z .accepted k l) (z .tree .each k l .fit));
         fit = lower-fit .0;
       }
+
+  -- a list over node k reads its items
+  pub lower-reads : {js : List Item} → Items (fieldsOf (z .C) (planAt a k)) js → merge.Reads js (itemsAt rows cells first n)
+  lower-reads {js} i = record { clear = lower-items .own .distinct; resolved = subst⁻¹ (λ (fs : List Pair). Resolved (allPass (map itemExpr js) fs)) lower-pairs (i .resolved) }
 
   pub lower-few : n ≤ maxItems
   unfolding FitList

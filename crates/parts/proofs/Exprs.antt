@@ -1,4 +1,4 @@
--- The expressions of a node's parts, and when they are known. Assumes nothing.
+-- The expressions of a node's parts, and what their references find. Assumes nothing.
 use mathlib.Core.Path.{_≡_, refl, sym, ap, ap₂, _∙_}
 use mathlib.Core.Bool.{Bool, true, false, _&&_}
 use mathlib.Core.List.{List, [], _∷_, _++_, map}
@@ -6,8 +6,8 @@ use Prim.Native.Nat.{ℕ, zero, suc, _+_, _<_}
 use native.Mathlib.Omega.{arith}
 use borrow.Author.Tests.{eq-eqb, ne-eqb}
 use lib.ListN.{length}
-use Rattle.cpl.specs.Accept.{knownOn}
-use Rattle.cpl.specs.Exprs.{aggExprs, callExprs, known, winExprs}
+use Rattle.cpl.specs.Accept.{allPass, onPasses}
+use Rattle.cpl.specs.Exprs.{aggExprs, callExprs, definite, known, winExprs}
 use Rattle.cpl.specs.Plan.{Pair, Expr, itemExpr, keyExpr}
 use Rattle.cpl.specs.Tests.{allB, concatMap}
 use Rattle.arena.specs.Cells.{exprAt}
@@ -15,7 +15,11 @@ use Rattle.arena.specs.Rows.{RowsOk, itemAt, itemsAt}
 use Rattle.arena.proofs.Rows.{item-expr}
 use Rattle.tree.specs.Rows.{EachOk, ExprOk, KeyOk, aggAt, callOf, exprsAt, keyAt, keyOf, keysAt, listAt, one, onAt, winAt}
 use Rattle.tree.specs.Shows.{AggIs, OnIs, WinIs}
+use Rattle.lookup.specs.Answers.{resolvedOf, resolving, worse}
+use Rattle.lookup.specs.declared.Resolved.{Resolved}
+use Rattle.lookup.specs.declared.Resolved.the-variants.{Fine}
 use Rattle.lookup.proofs.Lists.{list-map, list-same}
+use Rattle.lookup.proofs.Resolving.{all-seen, seen, worse-both}
 
 -- ── rows that are so ────────────────────────────────────────────────────────────────────────
 
@@ -49,7 +53,7 @@ pub keys-exprs : (s cells : List ℕ) (f n : ℕ) → exprsAt s cells f n ≡ ma
 unfolding keyExpr keyAt keyOf
 keys-exprs s cells f n = sym (list-map keyExpr (keyAt s cells) one f n)
 
--- ── known ───────────────────────────────────────────────────────────────────────────────────
+-- ── tests ───────────────────────────────────────────────────────────────────────────────────
 
 and-assoc : (a b c : Bool) → (a && b) && c ≡ a && (b && c)
 and-assoc true b c = refl
@@ -71,31 +75,43 @@ module _ {A : Type 0} (p : A → Bool) where
   all-concat g [] = refl
   all-concat g (x ∷ xs) = ap (allB p (g x) &&_) (all-concat g xs) ∙ sym (all-append (g x) (concatMap g xs))
 
+-- ── what references find ────────────────────────────────────────────────────────────────────
+
 module _ (fs : List Pair) where
-  pub call-none : (f : ℕ) (e : Expr) → f ≡ 0 → true ≡ allB (known fs) (callExprs (callOf f e))
+  -- one expression; two lists; the expressions of each thing
+  pub seen-one : (e : Expr) → seen fs e ≡ resolving (allPass (e ∷ []) fs)
+  unfolding allB
+  seen-one e = ap₂ resolvedOf (and-true (known fs e)) (and-true (definite fs e))
+
+  pub seen-append : {x y z : Resolved} (es gs : List Expr) → x ≡ resolving (allPass es fs) → y ≡ resolving (allPass gs fs) → z ≡ worse x y → z ≡ resolving (allPass (es ++ gs) fs)
+  seen-append es gs p q w = w ∙ ap₂ worse p q ∙ worse-both (allPass es fs) (allPass gs fs) ∙ ap₂ resolvedOf (sym (all-append (known fs) es gs)) (sym (all-append (definite fs) es gs))
+
+  pub seen-concat : {A : Type 0} (E : A → List Expr) (xs : List A) → all-seen (λ x. allPass (E x) fs) xs ≡ resolving (allPass (concatMap E xs) fs)
+  seen-concat E xs = ap₂ resolvedOf (all-concat (known fs) E xs) (all-concat (definite fs) E xs)
+
+  pub call-none : (f : ℕ) (e : Expr) → f ≡ 0 → Fine ≡ resolving (allPass (callExprs (callOf f e)) fs)
   unfolding callOf callExprs allB
   call-none f e h = rw (eq-eqb f 0 h)
 
-  pub call-some : (f : ℕ) (e : Expr) {b : Bool} → (f ≡ 0 → ⊥) → b ≡ known fs e → b ≡ allB (known fs) (callExprs (callOf f e))
-  unfolding callOf callExprs allB
-  call-some f e h k = k ∙ rw (ne-eqb f 0 h) (and-true (known fs e))
+  pub call-some : (f : ℕ) (e : Expr) {x : Resolved} → (f ≡ 0 → ⊥) → x ≡ seen fs e → x ≡ resolving (allPass (callExprs (callOf f e)) fs)
+  unfolding callOf callExprs
+  call-some f e h k = k ∙ rw (ne-eqb f 0 h) (seen-one e)
 
-  pub agg-known : {s : List ℕ} {i q n f r : ℕ} (cells : List ℕ) {b : Bool} → AggIs s i q n f r → b ≡ allB (known fs) (callExprs (callOf f (exprAt cells r))) → b ≡ allB (known fs) (aggExprs (aggAt s cells i))
+  pub agg-seen : {s : List ℕ} {i q n f r : ℕ} (cells : List ℕ) {x : Resolved} → AggIs s i q n f r → x ≡ resolving (allPass (callExprs (callOf f (exprAt cells r))) fs) → x ≡ resolving (allPass (aggExprs (aggAt s cells i)) fs)
   unfolding aggExprs
-  agg-known cells a e = e ∙ sym (ap (λ x. allB (known fs) (aggExprs x)) (a .means cells))
+  agg-seen cells a e = e ∙ sym (ap (λ g. resolving (allPass (aggExprs g) fs)) (a .means cells))
 
-  pub on-known : {s : List ℕ} {i l r : ℕ} (cells : List ℕ) (fr : List Pair) {a b : Bool} → OnIs s i l r → a ≡ known fs (exprAt cells l) → b ≡ known fr (exprAt cells r) → a && b ≡ knownOn fs fr (onAt s cells i)
-  unfolding knownOn
-  on-known cells fr o d e = ap₂ _&&_ d e ∙ sym (ap (knownOn fs fr) (o .means cells))
+  pub on-seen : {s : List ℕ} {i l r : ℕ} (cells : List ℕ) (fr : List Pair) {x y z : Resolved} → OnIs s i l r → x ≡ seen fs (exprAt cells l) → y ≡ seen fr (exprAt cells r) → z ≡ worse x y → z ≡ resolving (λ test. onPasses fs fr test (onAt s cells i))
+  unfolding onPasses
+  on-seen {l = l} {r} cells fr o d e w =
+      w ∙ ap₂ worse d e ∙ worse-both (λ test. test fs (exprAt cells l)) (λ test. test fr (exprAt cells r)) ∙ sym (ap (λ v. resolving (λ test. onPasses fs fr test v)) (o .means cells))
 
   -- a window: its function's expression, its parts, its keys
-  module _ {s : List ℕ} {i q n f p key k r next : ℕ} (cells : List ℕ) (w : WinIs s i q n f p key k r next) where
-    pub win-known : {a b d : Bool} → a ≡ allB (known fs) (callExprs (callOf f (exprAt cells r))) → b ≡ allB (known fs) (exprsAt s cells (i + 1) p) → d ≡ allB (known fs) (exprsAt s cells key k)
-        → a && (b && d) ≡ allB (known fs) (winExprs (winAt s cells i))
-    unfolding winExprs
-    win-known x y z =
-        let c = callExprs (callOf f (exprAt cells r)) in
-        let ps = exprsAt s cells (i + 1) p in
-        let ks = map keyExpr (keysAt s cells key k) in
-        ap₂ _&&_ x (ap₂ _&&_ y (z ∙ ap (allB (known fs)) (keys-exprs s cells key k)) ∙ sym (all-append (known fs) ps ks))
-        ∙ sym (all-append (known fs) c (ps ++ ks)) ∙ sym (ap (λ v. allB (known fs) (winExprs v)) (w .means cells))
+  pub win-seen : {s : List ℕ} {i q n f p key k r next : ℕ} (cells : List ℕ) → WinIs s i q n f p key k r next → {a b d y z : Resolved} → a ≡ resolving (allPass (callExprs (callOf f (exprAt cells r))) fs)
+      → b ≡ resolving (allPass (exprsAt s cells (i + 1) p) fs) → d ≡ resolving (allPass (exprsAt s cells key k) fs) → y ≡ worse b d → z ≡ worse a y → z ≡ resolving (allPass (winExprs (winAt s cells i)) fs)
+  unfolding winExprs
+  win-seen {s} {i} {f = f} {p} {key} {k} {r} cells w x g h u v =
+      let ks = map keyExpr (keysAt s cells key k) in
+      let ps = exprsAt s cells (i + 1) p in
+      seen-append (callExprs (callOf f (exprAt cells r))) (ps ++ ks) x (seen-append ps ks g (h ∙ ap (λ es. resolving (allPass es fs)) (keys-exprs s cells key k)) u) v
+      ∙ sym (ap (λ m. resolving (allPass (winExprs m) fs)) (w .means cells))

@@ -1,13 +1,15 @@
 -- Things that take several rows each, one after the other. Assumes nothing.
 use mathlib.Core.Path.{_≡_, sym, ap, ap₂, _∙_, subst}
-use mathlib.Core.Bool.{Bool, true, false, _&&_}
 use mathlib.Core.List.{List, [], _∷_, _++_}
 use Prim.Native.Nat.{ℕ, suc, _+_, _-_, _*_, _<_, _≤_}
 use native.Mathlib.Omega.{arith}
 use Rattle.cpl.specs.Plan.{Pair}
-use Rattle.cpl.specs.Tests.{allB}
 use Rattle.tree.specs.Rows.{AllAt, listAt}
+use Rattle.lookup.specs.Answers.{resolving, worse}
 use Rattle.lookup.specs.Fields.{Filled, Kept, fieldAt, rowAt}
+use Rattle.lookup.specs.declared.Resolved.{Resolved}
+use Rattle.lookup.specs.declared.Resolved.the-variants.{Fine}
+use Rattle.lookup.proofs.Resolving.{Tests, all-seen, seen-next, seen-none, worse-assoc, worse-fine}
 use Rattle.lookup.proofs.Rows.{Filling, fill-all, fill-more, fill-none}
 
 module _ (Ok : ℕ → Type 0) (size : ℕ → ℕ) (r n i : ℕ) where
@@ -15,9 +17,15 @@ module _ (Ok : ℕ → Type 0) (size : ℕ → ℕ) (r n i : ℕ) where
   unfolding AllAt
   all-here o h = let e : n - i ≡ suc (n - (i + 1)) = omega arith in (subst (AllAt Ok size r) e o) .0
 
-  pub all-after : AllAt Ok size r (n - i) → i < n → AllAt Ok size (r + size r) (n - (i + 1))
+  all-after : AllAt Ok size r (n - i) → i < n → AllAt Ok size (r + size r) (n - (i + 1))
   unfolding AllAt
   all-after o h = let e : n - i ≡ suc (n - (i + 1)) = omega arith in (subst (AllAt Ok size r) e o) .1
+
+pub all-whole : (Ok : ℕ → Type 0) (size : ℕ → ℕ) (r n : ℕ) → AllAt Ok size r n → AllAt Ok size r (n - 0)
+all-whole Ok size r n o = let e : n ≡ n - 0 = omega arith in subst (AllAt Ok size r) e o
+
+pub all-next : (Ok : ℕ → Type 0) (size : ℕ → ℕ) (r n i : ℕ) {next : ℕ} → AllAt Ok size r (n - i) → i < n → next ≡ r + size r → AllAt Ok size next (n - (i + 1))
+all-next Ok size r n i o h d = subst (λ x. AllAt Ok size x (n - (i + 1))) (sym d) (all-after Ok size r n i o h)
 
 pub list-here : {A : Type 0} (read : ℕ → A) (size : ℕ → ℕ) (r n i : ℕ) → i < n → listAt read size r (n - i) ≡ read r ∷ listAt read size (r + size r) (n - (i + 1))
 unfolding listAt
@@ -27,34 +35,28 @@ pub list-end : {A : Type 0} (read : ℕ → A) (size : ℕ → ℕ) (r n i : ℕ
 unfolding listAt
 list-end read size r n i h = let e : n - i ≡ 0 = omega arith in ap (listAt read size r) e
 
--- i things passed, the next from row r on
-pub record Passed {A : Type 0} (Ok : ℕ → Type 0) (p : A → Bool) (read : ℕ → A) (size : ℕ → ℕ) (f n r i : ℕ) : Type 0 where
+-- x is what the first i things find; the next is at row r
+pub record Told {A : Type 0} (F : Tests A) (read : ℕ → A) (size : ℕ → ℕ) (f n r i : ℕ) (x : Resolved) : Type 0 where
   pub upto : i ≤ n
-  pub ok : AllAt Ok size r (n - i)
-  pub same : allB p (listAt read size r (n - i)) ≡ allB p (listAt read size f n)
+  pub same : worse x (all-seen F (listAt read size r (n - i))) ≡ all-seen F (listAt read size f n)
 
-module _ {A : Type 0} (Ok : ℕ → Type 0) (p : A → Bool) (read : ℕ → A) (size : ℕ → ℕ) (f n : ℕ) where
-  pub passed-none : AllAt Ok size f n → Passed Ok p read size f n f 0
-  passed-none o = let e : n ≡ n - 0 = omega arith in record { upto = omega arith; ok = subst (AllAt Ok size f) e o; same = ap (λ m. allB p (listAt read size f m)) (sym e) }
+module _ {A : Type 0} (F : Tests A) (read : ℕ → A) (size : ℕ → ℕ) (f n : ℕ) where
+  pub told-none : (r : ℕ) → r ≡ f → Told F read size f n r 0 Fine
+  told-none r e = let d : n - 0 ≡ n = omega arith in record { upto = omega arith; same = ap₂ (λ a b. all-seen F (listAt read size a b)) e d }
 
-  module _ (r i : ℕ) (l : Passed Ok p read size f n r i) where
-    here : i < n → p (read r) && allB p (listAt read size (r + size r) (n - (i + 1))) ≡ allB p (listAt read size f n)
-    unfolding allB
-    here h = ap (allB p) (sym (list-here read size r n i h)) ∙ l .same
+  module _ (r i : ℕ) {x : Resolved} (t : Told F read size f n r i x) where
+    pub told-more : (next : ℕ) {y z : Resolved} → i < n → y ≡ resolving (F (read r)) → z ≡ worse x y → next ≡ r + size r → Told F read size f n next (i + 1) z
+    told-more next {y} {z} h e w d =
+        let here = resolving (F (read r)) in
+        let later = all-seen F (listAt read size (r + size r) (n - (i + 1))) in
+        record {
+          upto = omega arith;
+          same = ap₂ (λ a b. worse a (all-seen F (listAt read size b (n - (i + 1))))) (w ∙ ap (worse x) e) d ∙ worse-assoc x here later
+              ∙ ap (worse x) (sym (ap (all-seen F) (list-here read size r n i h) ∙ seen-next F (read r) (listAt read size (r + size r) (n - (i + 1))))) ∙ t .same;
+        }
 
-    pub passed-more : (next : ℕ) → i < n → true ≡ p (read r) → next ≡ r + size r → Passed Ok p read size f n next (i + 1)
-    passed-more next h e d = record {
-      upto = omega arith;
-      ok = subst (λ x. AllAt Ok size x (n - (i + 1))) (sym d) (all-after Ok size r n i (l .ok) h);
-      same = ap (λ x. allB p (listAt read size x (n - (i + 1)))) d ∙ ap (_&& allB p (listAt read size (r + size r) (n - (i + 1)))) e ∙ here h;
-    }
-
-    pub passed-no : i < n → false ≡ p (read r) → false ≡ allB p (listAt read size f n)
-    passed-no h e = ap (_&& allB p (listAt read size (r + size r) (n - (i + 1)))) e ∙ here h
-
-    pub passed-all : n ≤ i → true ≡ allB p (listAt read size f n)
-    unfolding allB
-    passed-all h = ap (allB p) (sym (list-end read size r n i h)) ∙ l .same
+    pub told-all : n ≤ i → x ≡ all-seen F (listAt read size f n)
+    told-all h = sym (ap (worse x) (ap (all-seen F) (list-end read size r n i h) ∙ seen-none F) ∙ worse-fine x) ∙ t .same
 
 -- node k's fields from `at` on are filled, up to thing i
 pub record Strode (Ok : ℕ → Type 0) (read : ℕ → Pair) (size : ℕ → ℕ) (n k at r i : ℕ) (fs : List Pair) (s s′ : List ℕ) : Type 0 where
@@ -69,7 +71,7 @@ module _ (Ok : ℕ → Type 0) (read : ℕ → Pair) (size : ℕ → ℕ) (n k a
       let g : at ≡ at + 0 = omega arith in
       record {
         upto = omega arith;
-        ok = subst (AllAt Ok size f) e o;
+        ok = all-whole Ok size f n o;
         filling = record { row = ap₂ (λ x y. rowAt s k x ++ listAt read size f y) (sym g) (sym e); kept = fill-none k at [] s .kept };
       }
 
@@ -82,7 +84,7 @@ module _ (Ok : ℕ → Type 0) (read : ℕ → Pair) (size : ℕ → ℕ) (n k a
       let then = fill-more now (omega arith) e q in
       record {
         upto = omega arith;
-        ok = subst (λ x. AllAt Ok size x (n - (i + 1))) (sym d) (all-after Ok size r n i (p .ok) h);
+        ok = all-next Ok size r n i (p .ok) h d;
         filling = record { row = ap₂ (λ x y. rowAt s₂ k x ++ listAt read size y (n - (i + 1))) (sym g) d ∙ then .row; kept = then .kept };
       }
 

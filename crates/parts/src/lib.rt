@@ -1,27 +1,28 @@
-//! The parts of a node: are their columns known, and what fields do they give?
+//! The parts of a node: what do their references find, and what fields do they give?
 //!
 //! Table t has 65 numbers of `names` from 65 * t on: how many columns it has, then their names.
-ghost use mathlib.Core.Bool.{Bool};
 ghost use mathlib.Core.List.{_++_, map};
 ghost use mathlib.Core.Path.{_≡_};
 ghost use Prim.Native.Nat.{ℕ, _+_, _*_, _<_, _≤_};
 ghost use lib.ListN.{length, getD};
 ghost use Rattle.arena.specs.Cells.{exprAt, Wf};
 ghost use Rattle.arena.specs.Rows.{pairAt};
-ghost use Rattle.cpl.specs.Accept.{knownOn};
-ghost use Rattle.cpl.specs.Exprs.{aggExprs, callExprs, known, winExprs};
+ghost use Rattle.cpl.specs.Accept.{allPass, onPasses};
+ghost use Rattle.cpl.specs.Exprs.{aggExprs, callExprs, winExprs};
 ghost use Rattle.cpl.specs.Fields.{scanField};
 ghost use Rattle.cpl.specs.Tests.{allB, concatMap, iota};
-ghost use Rattle.lookup.specs.Fields.{Filled, leftRow, rightRow, rowAt, RowIn, SidesIn};
+ghost use Rattle.lookup.specs.Answers.{resolving};
+ghost use Rattle.lookup.specs.Fields.{Filled, leftRow, rightRow, rowAt, RowClear, RowIn, SidesClear};
 ghost use Rattle.parts.specs.Catalogue.{columnCount, tableAt, TableIn};
 ghost use Rattle.parts.specs.Parts.{ColumnOk, WinInside};
 ghost use Rattle.tree.specs.Rows.{AggOk, AllAt, EachOk, ExprOk, Inside, OnOk, WinOk, aggsAt, callOf, columnsAt, exprsAt, listAt, onsAt, pairsAt, winAt, winSize, winsAt};
 use lookup::Field;
+use lookup::Resolved;
 use lookup::Sides;
 
-/// Is each column of the expressions in `count` rows from `first` on found among the first `width` fields of node `k`? The rows are those of
-/// well formed expressions, and the fields lie in the array.
-pub fn known_roots(
+/// What the references of the expressions in `count` rows from `first` on find among the first `width` fields of node `k`. The rows are those
+/// of well formed expressions; the fields lie in the array and do not clash.
+pub fn resolve_roots(
     cells: &[u64],
     rows: &[u16],
     first: usize,
@@ -29,44 +30,45 @@ pub fn known_roots(
     fields: &[u16],
     k: usize,
     width: usize,
-) -> bool
+) -> Resolved
     requires { ⌜ EachOk (ExprOk (now rows) (now cells)) (now rows) first count ⌝ }
-    requires { ⌜ RowIn (now fields) k width ⌝ }
-    ensures { λ r. ⌜ r ≡ allB (known (rowAt (now (fields .entry)) k width)) (exprsAt (now (rows .entry)) (now (cells .entry)) first count) ⌝ }
+    requires { ⌜ RowClear (now fields) k width ⌝ }
+    ensures { λ r. ⌜ r ≡ resolving (allPass (exprsAt (now (rows .entry)) (now (cells .entry)) first count) (rowAt (now (fields .entry)) k width)) ⌝ }
 {
+    let mut all = Resolved::Fine;
     let mut i = 0;
     while i < count {
         let row = arena::row_at(rows, first + i);
-        let yes = lookup::known_expr(cells, row.root, fields, k, width);
-        if !yes {
-            return false;
-        }
+        let one = lookup::resolve_expr(cells, row.root, fields, k, width);
+        all = lookup::both_resolved(all, one);
         i += 1;
     }
-    true
+    all
 }
 
-/// Is each column of a call found? A function other than 0 has the root of a well formed expression, and the fields lie in the array.
-pub fn known_call(
+/// What the references of a call find. A function other than 0 has the root of a well formed expression; the fields lie in the array and do
+/// not clash.
+fn resolve_call(
     cells: &[u64],
     function: u16,
     root: usize,
     fields: &[u16],
     k: usize,
     width: usize,
-) -> bool
+) -> Resolved
     requires { ⌜ (0 < function → Wf (now cells) (root + 1)) ⌝ }
-    requires { ⌜ RowIn (now fields) k width ⌝ }
-    ensures { λ r. ⌜ r ≡ allB (known (rowAt (now (fields .entry)) k width)) (callExprs (callOf function (exprAt (now (cells .entry)) root))) ⌝ }
+    requires { ⌜ RowClear (now fields) k width ⌝ }
+    ensures { λ r. ⌜ r ≡ resolving (allPass (callExprs (callOf function (exprAt (now (cells .entry)) root))) (rowAt (now (fields .entry)) k width)) ⌝ }
 {
     if function == 0 {
-        return true;
+        return Resolved::Fine;
     }
-    lookup::known_expr(cells, root, fields, k, width)
+    lookup::resolve_expr(cells, root, fields, k, width)
 }
 
-/// Is each column of the aggregates in `count` rows from `first` on found? The rows are those of aggregates, and the fields lie in the array.
-pub fn known_aggs(
+/// What the references of the aggregates in `count` rows from `first` on find. The rows are those of aggregates; the fields lie in the array
+/// and do not clash.
+pub fn resolve_aggs(
     cells: &[u64],
     rows: &[u16],
     first: usize,
@@ -74,50 +76,46 @@ pub fn known_aggs(
     fields: &[u16],
     k: usize,
     width: usize,
-) -> bool
+) -> Resolved
     requires { ⌜ EachOk (AggOk (now rows) (now cells)) (now rows) first count ⌝ }
-    requires { ⌜ RowIn (now fields) k width ⌝ }
-    ensures { λ r. ⌜ r ≡ allB (known (rowAt (now (fields .entry)) k width)) (concatMap aggExprs (aggsAt (now (rows .entry)) (now (cells .entry)) first count)) ⌝ }
+    requires { ⌜ RowClear (now fields) k width ⌝ }
+    ensures { λ r. ⌜ r ≡ resolving (allPass (concatMap aggExprs (aggsAt (now (rows .entry)) (now (cells .entry)) first count)) (rowAt (now (fields .entry)) k width)) ⌝ }
 {
+    let mut all = Resolved::Fine;
     let mut i = 0;
     while i < count {
         let row = tree::agg_at(rows, first + i);
-        let yes = known_call(cells, row.function, row.root, fields, k, width);
-        if !yes {
-            return false;
-        }
+        let one = resolve_call(cells, row.function, row.root, fields, k, width);
+        all = lookup::both_resolved(all, one);
         i += 1;
     }
-    true
+    all
 }
 
-/// Is each column of the window from row `i` on found? The rows are those of a window, and the fields lie in the array.
-pub fn known_win(
+/// What the references of the window from row `i` on find. The rows are those of a window; the fields lie in the array and do not clash.
+fn resolve_win(
     cells: &[u64],
     rows: &[u16],
     i: usize,
     fields: &[u16],
     k: usize,
     width: usize,
-) -> bool
+) -> Resolved
     requires { ⌜ WinOk (now rows) (now cells) i ⌝ }
-    requires { ⌜ RowIn (now fields) k width ⌝ }
-    ensures { λ r. ⌜ r ≡ allB (known (rowAt (now (fields .entry)) k width)) (winExprs (winAt (now (rows .entry)) (now (cells .entry)) i)) ⌝ }
+    requires { ⌜ RowClear (now fields) k width ⌝ }
+    ensures { λ r. ⌜ r ≡ resolving (allPass (winExprs (winAt (now (rows .entry)) (now (cells .entry)) i)) (rowAt (now (fields .entry)) k width)) ⌝ }
 {
     let w = tree::win_at(rows, i);
-    let call = known_call(cells, w.function, w.root, fields, k, width);
-    if !call {
-        return false;
-    }
-    let parts = known_roots(cells, rows, i + 1, w.parts, fields, k, width);
-    if !parts {
-        return false;
-    }
-    known_roots(cells, rows, w.key, w.keys, fields, k, width)
+    let call = resolve_call(cells, w.function, w.root, fields, k, width);
+    let parts = resolve_roots(cells, rows, i + 1, w.parts, fields, k, width);
+    let keys = resolve_roots(cells, rows, w.key, w.keys, fields, k, width);
+    let rest = lookup::both_resolved(parts, keys);
+    lookup::both_resolved(call, rest)
 }
 
-/// Is each column of `count` windows from row `first` on found? The rows are those of windows, and the fields lie in the array.
-pub fn known_wins(
+/// What the references of `count` windows from row `first` on find. The rows are those of windows; the fields lie in the array and do not
+/// clash.
+pub fn resolve_wins(
     cells: &[u64],
     rows: &[u16],
     first: usize,
@@ -125,53 +123,49 @@ pub fn known_wins(
     fields: &[u16],
     k: usize,
     width: usize,
-) -> bool
+) -> Resolved
     requires { ⌜ AllAt (WinOk (now rows) (now cells)) (winSize (now rows)) first count ⌝ }
-    requires { ⌜ RowIn (now fields) k width ⌝ }
-    ensures { λ r. ⌜ r ≡ allB (known (rowAt (now (fields .entry)) k width)) (concatMap winExprs (winsAt (now (rows .entry)) (now (cells .entry)) first count)) ⌝ }
+    requires { ⌜ RowClear (now fields) k width ⌝ }
+    ensures { λ r. ⌜ r ≡ resolving (allPass (concatMap winExprs (winsAt (now (rows .entry)) (now (cells .entry)) first count)) (rowAt (now (fields .entry)) k width)) ⌝ }
 {
+    let mut all = Resolved::Fine;
     let mut row = first;
     let mut i = 0;
     while i < count {
-        let yes = known_win(cells, rows, row, fields, k, width);
-        if !yes {
-            return false;
-        }
+        let one = resolve_win(cells, rows, row, fields, k, width);
+        all = lookup::both_resolved(all, one);
         let w = tree::win_at(rows, row);
         row = w.next;
         i += 1;
     }
-    true
+    all
 }
 
-/// Is each half of the pairs of a join in `count` rows from `first` on found in its own side? The rows are those of pairs, and the sides lie
-/// in the array.
-pub fn known_ons(
+/// What the halves of the pairs of a join in `count` rows from `first` on find, each in its own side. The rows are those of pairs. The sides
+/// lie in the array, and the fields of each by themselves do not clash.
+pub fn resolve_ons(
     cells: &[u64],
     rows: &[u16],
     first: usize,
     count: usize,
     fields: &[u16],
     sides: Sides,
-) -> bool
+) -> Resolved
     requires { ⌜ EachOk (OnOk (now rows) (now cells)) (now rows) first count ⌝ }
-    requires { ⌜ SidesIn (now fields) sides ⌝ }
-    ensures { λ r. ⌜ r ≡ allB (knownOn (leftRow (now (fields .entry)) sides) (rightRow (now (fields .entry)) sides)) (onsAt (now (rows .entry)) (now (cells .entry)) first count) ⌝ }
+    requires { ⌜ SidesClear (now fields) sides ⌝ }
+    ensures { λ r. ⌜ r ≡ resolving (λ test. allB (onPasses (leftRow (now (fields .entry)) sides) (rightRow (now (fields .entry)) sides) test) (onsAt (now (rows .entry)) (now (cells .entry)) first count)) ⌝ }
 {
+    let mut all = Resolved::Fine;
     let mut i = 0;
     while i < count {
         let on = tree::on_at(rows, first + i);
-        let left = lookup::known_expr(cells, on.left, fields, sides.left, sides.lwidth);
-        if !left {
-            return false;
-        }
-        let right = lookup::known_expr(cells, on.right, fields, sides.right, sides.rwidth);
-        if !right {
-            return false;
-        }
+        let left = lookup::resolve_expr(cells, on.left, fields, sides.left, sides.lwidth);
+        let right = lookup::resolve_expr(cells, on.right, fields, sides.right, sides.rwidth);
+        let one = lookup::both_resolved(left, right);
+        all = lookup::both_resolved(all, one);
         i += 1;
     }
-    true
+    all
 }
 
 /// Node `k` gets the pairs of `n` rows from `first` on. The rows lie in the array, and so do the fields, at most 128.

@@ -6,7 +6,7 @@ use native.Mathlib.Omega.{arith}
 use lib.ListN.{length}
 use Rattle.cpl.specs.Fields.{fieldsOf}
 use Rattle.rules.specs.Mask.{Mask}
-use Rattle.rules.proofs.Successes.{fit-mask}
+use Rattle.rules.proofs.Requests.{fit-mask}
 use Rattle.tree.proofs.Plans.{nodes-pos}
 use Rattle.arena.proofs.Laws.{wf-none}
 use Rattle.lookup.specs.Standing.{Standing}

@@ -14,8 +14,8 @@ use vector_text::Parsed;
 // What stands in the output buffer before a call.
 const FILL: u8 = 165;
 
-// The codes of document 01's table, and how many there are with that of success.
-const CODES: usize = 14;
+// The codes of an answer are below this: document 01's table, and 17.
+const CODES: usize = 18;
 
 // Standard input is read whole, up to this many bytes.
 const INPUT: usize = 524288;
@@ -91,7 +91,7 @@ fn settings(line: &[u8], code: usize, length: usize, place: usize) -> Case {
     })
 }
 
-// A line's numbers, if it has ten fields, the arrow and a code of the table.
+// A line's numbers, if it has ten fields, the arrow and a code of an answer.
 fn case_of(line: &[u8]) -> Case {
     if !vector_text::is_word(line, 5, b"=>") {
         return Case::Not;
@@ -333,14 +333,22 @@ fn lines(all: &[u8], tally: &mut [u64; CODES], bad: &mut u64) -> u64 {
     at
 }
 
+// How many lines of a code were as they should be, if one was.
+fn total(code: usize, n: u64) {
+    if n == 0 {
+        return;
+    }
+    text(b"code ");
+    number(code as u64);
+    text(b": ");
+    number(n);
+    text(b"\n");
+}
+
 // How many lines of each code were as they should be.
 fn summary(tally: [u64; CODES]) {
     for code in 0..CODES {
-        text(b"code ");
-        number(code as u64);
-        text(b": ");
-        number(tally[code]);
-        text(b"\n");
+        total(code, tally[code]);
     }
 }
 

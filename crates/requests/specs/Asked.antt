@@ -1,11 +1,8 @@
 -- What the functions that build requests say of the masks that the requests ask for.
 use mathlib.Core.Path.{_≡_}
-use mathlib.Core.Bool.{not}
 use mathlib.Core.List.{List}
 use Prim.Native.Nat.{ℕ, _+_, _*_, _<_, _≤_}
-use lib.Dec.{T}
 use lib.ListN.{length, getD}
-use Rattle.cpl.specs.Accept.{clash}
 use Rattle.cpl.specs.Fields.{joinFields}
 use Rattle.cpl.specs.Lists.{Fit}
 use Rattle.cpl.specs.Plan.{Expr, Pair}
@@ -25,10 +22,10 @@ pub record Below (fields : List ℕ) (k width : ℕ) : Type 0 where
   pub inside : RowIn fields k width
   pub few : width ≤ wordsN * 64
 
--- a request with the columns of the expressions, where no two of the fields clash; the flag stays
+-- a request with the columns that the references of the expressions find; the flag stays
 pub record Adds (es : List Expr) (fs : List Pair) (r out : RequiredIndices) : Type 0 where
   pub flag : flagOf out ≡ flagOf r
-  pub asks : (R : Mask) → T (not (clash fs)) → length R ≡ length fs → Asks r R → Asks out (plus es fs R)
+  pub asks : (R : Mask) → Fit R fs → Asks r R → Asks out (plus es fs R)
 
 -- the number at a place of row i
 abbrev pub placeAt : (s : List ℕ) (at i : ℕ) → ℕ

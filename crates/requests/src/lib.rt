@@ -1,8 +1,8 @@
 //! requests: what is asked of the inputs of a node. Port of `with_exprs`, `with_plan_exprs` and `add_expr` of `required_indices.rs` and of
 //! `split_join_requirements` of `optimize_projections/mod.rs`.
 //!
-//! Each function adds to a request the columns of some expressions, each found among the fields of an input: the first `width` fields of
-//! node `k`. `Adds` says what mask the request then asks for.
+//! Each function adds to a request the columns of some expressions: what each reference finds among the fields of an input, the first `width`
+//! fields of node `k`. `Adds` says what mask the request then asks for.
 ghost use mathlib.Core.Bool.{false};
 ghost use mathlib.Core.Path.{_≡_};
 ghost use mathlib.Core.List.{List, [], _∷_, map};
@@ -19,7 +19,7 @@ ghost use Rattle.tree.specs.Rows.{AggOk, AllAt, EachOk, WinOk, aggsAt, callOf, 
 ghost use Rattle.lookup.specs.Fields.{rowAt};
 ghost use Rattle.requests.specs.Asked.{Adds, Below, Parted, RootsOk, rootsAt};
 use arena::View;
-use lookup::Lookup;
+use lookup::Fit;
 use required_indices::RequiredIndices;
 use required_indices::Split;
 use tree::JoinType;
@@ -40,8 +40,8 @@ pub fn add_expr(
     let v = arena::node_at(cells, i);
     match v {
         View::Col(q, n) => {
-            let f = lookup::look_up(fields, k, width, q, n);
-            let Lookup::Found(j) = f else {
+            let f = lookup::first_fit(fields, k * 128, width, q, n);
+            let Fit::At(j) = f else {
                 return r;
             };
             r.with_index(j)

@@ -1,5 +1,6 @@
 -- What is known of every answer: its code, what it leaves of the buffer, and that two conforming answers are the same.
 use mathlib.Core.Path.{_≡_, refl, sym, _∙_}
+use mathlib.Core.Logic.{_⊎_, inl, inr}
 use mathlib.Core.List.{List}
 use mathlib.Core.Bool.{Bool, true, false}
 use mathlib.Core.Option.{Option, none, some}
@@ -8,7 +9,7 @@ use native.Mathlib.Omega.{arith}
 use lib.Dec.{T, leb, leb→le}
 use lib.ListN.{length, drop, length-append, length-drop}
 use lib.Seq.{drop-append-seam}
-use Rattle.cpl.specs.Codes.{ROOM}
+use Rattle.cpl.specs.Codes.{ROOM, AMBIGUOUS}
 use Rattle.cpl.specs.Plan.{Plan, Catalogue, Source}
 use Rattle.cpl.specs.Read.{Res, ok, bad, pick}
 use Rattle.cpl.specs.ReadPlan.{readFile}
@@ -21,9 +22,9 @@ use Rattle.rules.specs.Answer.{Verdict, refused, narrowed, settingsOk, m
 
 -- ── codes ───────────────────────────────────────────────────────────────────────────────────
 
--- a refusal before ROOM has a code from 1 to 12
+-- a refusal before ROOM has a code from 1 to 12, or 17
 abbrev pub Lawful : Verdict → Type 0
-Lawful (refused code place) = Within 1 12 code
+Lawful (refused code place) = Within 1 12 code ⊎ (code ≡ AMBIGUOUS)
 Lawful (narrowed s) = Unit {0}
 
 lawful-pick : (b : Bool) (v w : Verdict) → Lawful v → Lawful w → Lawful (pick b v w)
@@ -32,26 +33,32 @@ lawful-pick false v w h k = k
 
 finish-lawful : (C : Catalogue) (w : Walked) → Lawful (finish C w)
 unfolding finish
-finish-lawful C w = lawful-pick (large w) _ _ (omega arith, omega arith) tt
+finish-lawful C w = lawful-pick (large w) _ _ (inl (omega arith, omega arith)) tt
 
 requested-lawful : (M : Merge) (C : Catalogue) (p : Plan) (is : List ℕ) (f : Option ℕ) → Lawful (requested M C p is f)
 unfolding requested
 requested-lawful M C p is none = finish-lawful C _
-requested-lawful M C p is (some position) = (omega arith, omega arith)
+requested-lawful M C p is (some position) = inl (omega arith, omega arith)
 
 checked-lawful : (M : Merge) (C : Catalogue) (p : Plan) (request : ℕ → List ℕ) (f : Option Fault) → Faulty f → Lawful (checked M C p request f)
 unfolding checked
 checked-lawful M C p request none h = requested-lawful M C p _ _
-checked-lawful M C p request (some (fault code node)) h = (omega (arith, h .0), omega (arith, h .1))
+checked-lawful M C p request (some (fault code node)) (inl h) = inl (omega (arith, h .0), omega (arith, h .1))
+checked-lawful M C p request (some (fault code node)) (inr e) = inr e
 
 judged-lawful : (M : Merge) (request : ℕ → List ℕ) (r : Res Source) → Coded r → Lawful (judged M request r)
 unfolding judged
 judged-lawful M request (ok s next tags nodes) h = checked-lawful M (s .catalogue) (s .plan) request _ (check-coded (s .catalogue) (s .plan) 0)
-judged-lawful M request (bad code place) h = (omega (arith, h .0), omega (arith, h .1))
+judged-lawful M request (bad code place) h = inl (omega (arith, h .0), omega (arith, h .1))
 
 pub verdict-lawful : (mode mask : ℕ) (file : List ℕ) (request : ℕ → List ℕ) → Lawful (verdict mode mask file request)
 unfolding verdict
-verdict-lawful mode mask file request = lawful-pick (settingsOk mode mask) _ _ (judged-lawful (mergeOf mode mask) request (readFile file) (reading-coded file)) (omega arith, omega arith)
+verdict-lawful mode mask file request = lawful-pick (settingsOk mode mask) _ _ (judged-lawful (mergeOf mode mask) request (readFile file) (reading-coded file)) (inl (omega arith, omega arith))
+
+-- so it is no success
+pub code-above : (code : ℕ) → Within 1 12 code ⊎ (code ≡ AMBIGUOUS) → 1 ≤ code
+code-above code (inl h) = h .0
+code-above code (inr e) = omega arith
 
 -- ── the buffer ──────────────────────────────────────────────────────────────────────────────
 
@@ -84,7 +91,7 @@ written-buffered bs out = go (leb (length bs) (length out)) (λ t. t)
 
 deliver-buffered : (v : Verdict) (out : List ℕ) → Lawful v → Buffered out (deliver v out)
 unfolding deliver
-deliver-buffered (refused code place) out h = refusal-buffered code place out (h .0)
+deliver-buffered (refused code place) out h = refusal-buffered code place out (code-above code h)
 deliver-buffered (narrowed s) out h = written-buffered (bytesOf s) out
 
 pub buffered : (mode mask : ℕ) (file : List ℕ) (request : ℕ → List ℕ) (out : List ℕ) → Buffered out (reply mode mask file request out)

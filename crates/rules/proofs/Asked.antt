@@ -6,35 +6,38 @@ use lib.Dec.{T, eqb→eq}
 use lib.ListN.{length, drop}
 use Rattle.cpl.specs.Lists.{_z∷_, Fit}
 use Rattle.cpl.specs.Plan.{Pair, Expr, Item, Agg, Win, JoinType, j-inner, j-left, j-right, j-full, j-lsemi, j-lanti, j-rsemi, j-ranti, Binary, union, join, itemPair, aggPair, winPair}
-use Rattle.cpl.specs.Exprs.{usesAny}
+use Rattle.cpl.specs.Tests.{concatMap}
+use Rattle.cpl.specs.Exprs.{places}
 use Rattle.cpl.specs.Fields.{joinFields, binaryFields}
 use Rattle.cpl.specs.Accept.{even}
-use Rattle.cpl.proofs.Lists.{Fit-map, Fit-maps, Fit-trans, length-Fit, take-fit, drop-fit}
+use Rattle.cpl.proofs.Lists.{Fit-map, Fit-maps, Fit-trans, Fit-sym, length-Fit, take-fit, drop-fit}
 use Rattle.rules.specs.Mask.{Mask, select, ones, zeros, LeM}
-use Rattle.rules.specs.Rules.{used, plus, leftPart, rightPart, leftExprs, rightExprs, leftAsk, rightAsk}
-use Rattle.rules.proofs.Masks.{Cov, Cov-or, Cov-used, Cov-le, LeM-or, LeM-refl, LeM-trans, LeM-parts, LeB-true, Fit-or, select-map, select-ones, select-++}
+use Rattle.rules.specs.Rules.{used, plus, leftPart, rightPart, joinExprs, leftAsk, rightAsk}
+use Rattle.rules.proofs.Masks.{LeM-or, LeM-orR, LeM-refl, LeM-trans, LeM-fit, LeM-parts, LeB-true, select-map, select-ones, select-++}
+use Rattle.rules.proofs.Requests.{fit-mask}
+use Rattle.rules.proofs.Covers.{Cov, used-cov}
 
 -- ── the columns of expressions ──────────────────────────────────────────────────────────────
 
 pub used-fit : (es : List Expr) (fs : List Pair) → Fit (used es fs) fs
 unfolding used
-used-fit es fs = Fit-map (usesAny es) fs
+used-fit es fs = fit-mask (concatMap (places fs) es) fs
 
-pub used-cov : (es : List Expr) (fs : List Pair) {K : Mask} → LeM (used es fs) K → Cov (usesAny es) fs K
-unfolding used
-used-cov es fs l = Cov-le (Cov-used (usesAny es) fs) l
+-- the request fits what is added
+both-fit : (es : List Expr) (fs : List Pair) {R : Mask} → Fit R fs → Fit R (used es fs)
+both-fit es fs f = Fit-trans f (Fit-sym (used-fit es fs))
 
 pub plus-fit : (es : List Expr) {fs : List Pair} {R : Mask} → Fit R fs → Fit (plus es fs R) fs
-unfolding plus used
-plus-fit es f = Fit-or (usesAny es) f
+unfolding plus
+plus-fit es {fs} f = LeM-fit (LeM-or (both-fit es fs f)) f
 
-pub plus-cov : (es : List Expr) {fs : List Pair} {R K : Mask} → Fit R fs → LeM (plus es fs R) K → Cov (usesAny es) fs K
-unfolding plus used
-plus-cov es f l = Cov-le (Cov-or (usesAny es) f) l
+pub plus-cov : (es : List Expr) {fs : List Pair} {R K : Mask} → Fit R fs → LeM (plus es fs R) K → Cov es fs K
+unfolding plus
+plus-cov es {fs} f l = used-cov es fs (LeM-trans (LeM-orR (both-fit es fs f)) l)
 
 pub plus-keeps : (es : List Expr) {fs : List Pair} {R K : Mask} → Fit R fs → LeM (plus es fs R) K → LeM R K
-unfolding plus used
-plus-keeps es f l = LeM-trans (LeM-or (usesAny es) f) l
+unfolding plus
+plus-keeps es {fs} f l = LeM-trans (LeM-or (both-fit es fs f)) l
 
 -- ── Aggregate and Window ────────────────────────────────────────────────────────────────────
 
@@ -67,7 +70,7 @@ part-fits j-ranti fl fr f = (Fit-map (λ g. false) fl, f)
 pub ask-fits : (h : Binary) (fl fr : List Pair) {R : Mask} → T (even h fl fr) → Fit R (binaryFields h fl fr) → Fit (leftAsk h fl fr R) fl × Fit (rightAsk h fl fr R) fr
 unfolding even binaryFields leftAsk rightAsk
 ask-fits union fl fr e f = (f, Fit-trans f (length-Fit fl fr (eqb→eq _ _ e)))
-ask-fits (join t os c) fl fr e f = let h = part-fits t fl fr f in (plus-fit (leftExprs os c) (h .0), plus-fit (rightExprs os c) (h .1))
+ask-fits (join t os c) fl fr e f = let h = part-fits t fl fr f in (plus-fit (joinExprs os c) (h .0), plus-fit (joinExprs os c) (h .1))
 
 pub join-keeps : (t : JoinType) (fl fr : List Pair) (R : Mask) {Kl Kr : Mask} → LeM (leftPart t fl R) Kl → LeM (rightPart t fl fr R) Kr → LeM R (joinFields t Kl Kr)
 unfolding leftPart rightPart joinFields

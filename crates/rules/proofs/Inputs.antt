@@ -7,22 +7,22 @@ use Prim.Native.Nat.{_≤_}
 use native.Mathlib.Omega.{arith}
 use lib.Dec.{T, ltb, nltb→le}
 use lib.ListN.{length, length-map}
-use Rattle.cpl.specs.Tests.{allB}
 use Rattle.cpl.specs.Limits.{maxFields}
 use Rattle.cpl.specs.Lists.{All, Fit}
 use Rattle.cpl.specs.Plan.{Pair, bare, projection, Plan, unary, Catalogue, itemExpr}
-use Rattle.cpl.specs.Exprs.{known, unaryExprs}
+use Rattle.cpl.specs.Exprs.{unaryExprs}
+use Rattle.cpl.specs.Accept.{allPass}
 use Rattle.cpl.specs.Fields.{unaryFields, fieldsOf}
 use Rattle.cpl.specs.Writable.{FitList, FitPair, FitItem, FitUnary, FitPlan}
 use Rattle.cpl.proofs.Lists.{All-mapped}
 use Rattle.cpl.proofs.Clash.{Clear}
-use Rattle.cpl.proofs.Accepted.{NodeOk, Accepted}
+use Rattle.cpl.proofs.Accepted.{Resolved, NodeOk, Accepted}
 use Rattle.rules.specs.Mask.{Mask, select, count}
 use Rattle.rules.specs.Rules.{topUp}
 use Rattle.rules.specs.Rewrite.{Walked, Go}
 use Rattle.rules.specs.Kept.{Kept}
 use Rattle.rules.proofs.Masks.{LeM-fit, count-eq, length-select, select-select, select-short, All-select}
-use Rattle.rules.proofs.Known.{known-own, bare-fields, clear-select}
+use Rattle.rules.proofs.Known.{own-resolved, bare-fields, clear-select}
 
 -- ── what is known of a field list, and of a result ──────────────────────────────────────────
 
@@ -59,17 +59,18 @@ module _ (C : Catalogue) {fs : List Pair} (known-fields : Fields fs) {Q : Mask} 
   unfolding unaryFields
   topped-fields = bare-fields (select Q fs)
 
-  topped-known : T (allB (known (fieldsOf C (w .plan))) (unaryExprs (projection (map bare (select Q fs)))))
+  topped-resolved : Resolved (allPass (unaryExprs (projection (map bare (select Q fs)))) (fieldsOf C (w .plan)))
   unfolding unaryExprs
-  topped-known =
-      subst (λ gs. T (allB (known gs) (map itemExpr (map bare (select Q fs))))) (sym (r .kept .fields))
-      (subst (λ cs. T (allB (known (select (w .kept) fs)) (map itemExpr (map bare cs)))) (select-select (r .kept .keeps) fs) (known-own (select (w .kept) Q) (select (w .kept) fs)))
+  topped-resolved =
+      subst (λ gs. Resolved (allPass (map itemExpr (map bare (select Q fs))) gs)) (sym (r .kept .fields))
+      (subst (λ cs. Resolved (allPass (map itemExpr (map bare cs)) (select (w .kept) fs))) (select-select (r .kept .keeps) fs)
+      (own-resolved (select (w .kept) Q) (clear-select (w .kept) (known-fields .distinct))))
 
-  topped-ok : NodeOk (allB (known (fieldsOf C (w .plan))) (unaryExprs (projection (map bare (select Q fs))))) true
+  topped-ok : NodeOk (allPass (unaryExprs (projection (map bare (select Q fs)))) (fieldsOf C (w .plan))) true
       (unaryFields (projection (map bare (select Q fs))) (fieldsOf C (w .plan))) (unaryFields (projection (map bare (select Q fs))) (fieldsOf C (w .plan)))
   topped-ok =
       record {
-        all-found = topped-known;
+        resolved = topped-resolved;
         as-wide = tt;
         few = rw topped-fields (let h = select-short Q fs in let k = known-fields .few in omega arith);
         distinct = rw topped-fields (clear-select Q (known-fields .distinct));

@@ -1,14 +1,18 @@
 -- Laws and theorems of the rules.
 pub mod Masks
 pub mod Requests
+pub mod Covers
 pub mod Asked
+pub mod Plus
 pub mod Known
 pub mod Inputs
 pub mod UnaryKinds
 pub mod BinaryKinds
 pub mod MergeTidy
+pub mod Held
 pub mod Results
 pub mod Samples
+pub mod BareNames
 pub mod Answers
 pub mod Successes
 pub mod Parts

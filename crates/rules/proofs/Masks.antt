@@ -1,4 +1,4 @@
--- Laws of masks: selecting, containment, and masks that keep what a test wants (`Cov`).
+-- Laws of masks: selecting and containment.
 use mathlib.Core.Path.{_≡_, refl, ap}
 use mathlib.Core.List.{List, [], _∷_, _++_, map}
 use mathlib.Core.Bool.{Bool, true, false, _||_}
@@ -8,12 +8,6 @@ use lib.ListN.{length, take, drop, take-append-drop}
 use Rattle.cpl.specs.Lists.{All, a[], _a∷_, z[], _z∷_, Fit}
 use Rattle.rules.specs.Mask.{Mask, select, orM, ones, count, LeB, LeM}
 
--- the mask keeps every element that passes the test
-pub data Cov {A : Type 0} (P : A → Bool) : List A → Mask → Type 0 where
-  c[] : Cov P [] []
-  _c∷_ : {x : A} {k : Bool} {xs : List A} {ks : Mask} → LeB (P x) k → Cov P xs ks → Cov P (x ∷ xs) (k ∷ ks)
-
-infixr 30 _c∷_
 -- ── containment ─────────────────────────────────────────────────────────────────────────────
 
 pub LeB-refl : (b : Bool) → LeB b b
@@ -59,6 +53,23 @@ LeM-fit (h z∷ hs) (k z∷ ks) = tt z∷ LeM-fit hs ks
 pub LeM-parts : (n : ℕ) (R : Mask) {K L : Mask} → LeM (take n R) K → LeM (drop n R) L → LeM R (K ++ L)
 LeM-parts n R {K} {L} h k = mathlib.Core.Path.subst (λ M. LeM M (K ++ L)) (take-append-drop n R) (LeM-++ h k)
 
+-- ── what either mask has ────────────────────────────────────────────────────────────────────
+
+pub LeM-or : {rs ms : Mask} → Fit rs ms → LeM rs (orM rs ms)
+unfolding orM
+LeM-or z[] = z[]
+LeM-or (_z∷_ {x = r} {y = m} _ hs) = LeB-left r m z∷ LeM-or hs
+
+pub LeM-orR : {rs ms : Mask} → Fit rs ms → LeM ms (orM rs ms)
+unfolding orM
+LeM-orR z[] = z[]
+LeM-orR (_z∷_ {x = r} {y = m} _ hs) = LeB-right r m z∷ LeM-orR hs
+
+pub or-map : {A : Type 0} (P Q : A → Bool) (xs : List A) → orM (map P xs) (map Q xs) ≡ map (λ x. P x || Q x) xs
+unfolding orM
+or-map P Q [] = refl
+or-map P Q (x ∷ xs) = ap ((P x || Q x) ∷_) (or-map P Q xs)
+
 -- ── all, and as many ────────────────────────────────────────────────────────────────────────
 
 pub fit-ones : {A : Type 0} {R : Mask} {xs : List A} → Fit R xs → LeM R (ones xs)
@@ -103,45 +114,6 @@ module _ {A : Type 0} where
   select-short (k ∷ K) [] = omega arith
   select-short (true ∷ K) (x ∷ xs) = let h = select-short K xs in omega arith
   select-short (false ∷ K) (x ∷ xs) = let h = select-short K xs in omega arith
-
-  -- ── a request with the columns that pass a test ───────────────────────────────────────────
-
-  pub LeM-or : (P : A → Bool) {rs : Mask} {xs : List A} → Fit rs xs → LeM rs (orM rs (map P xs))
-  unfolding orM
-  LeM-or P z[] = z[]
-  LeM-or P (_z∷_ {x = r} {y = x} _ hs) = LeB-left r (P x) z∷ LeM-or P hs
-
-  pub Cov-or : (P : A → Bool) {rs : Mask} {xs : List A} → Fit rs xs → Cov P xs (orM rs (map P xs))
-  unfolding orM
-  Cov-or P z[] = c[]
-  Cov-or P (_z∷_ {x = r} {y = x} _ hs) = LeB-right r (P x) c∷ Cov-or P hs
-
-  pub Fit-or : (P : A → Bool) {rs : Mask} {xs : List A} → Fit rs xs → Fit (orM rs (map P xs)) xs
-  unfolding orM
-  Fit-or P z[] = z[]
-  Fit-or P (_ z∷ hs) = tt z∷ Fit-or P hs
-
-  pub Cov-used : (P : A → Bool) (xs : List A) → Cov P xs (map P xs)
-  Cov-used P [] = c[]
-  Cov-used P (x ∷ xs) = LeB-refl (P x) c∷ Cov-used P xs
-
-  -- a mask that keeps more, or a test that passes less
-  pub Cov-le : {P : A → Bool} {xs : List A} {rs ks : Mask} → Cov P xs rs → LeM rs ks → Cov P xs ks
-  Cov-le c[] z[] = c[]
-  Cov-le {P} (_c∷_ {x = x} {k = r} h hs) (_z∷_ {y = k} l ls) = LeB-trans (P x) r k h l c∷ Cov-le hs ls
-
-  pub Cov-sub : {P Q : A → Bool} {xs : List A} {ks : Mask} → ((x : A) → LeB (P x) (Q x)) → Cov Q xs ks → Cov P xs ks
-  Cov-sub s c[] = c[]
-  Cov-sub {P} {Q} s (_c∷_ {x = x} {k = k} h hs) = LeB-trans (P x) (Q x) k (s x) h c∷ Cov-sub s hs
-
-  pub Cov-++ : {P : A → Bool} {xs ys : List A} {ks ls : Mask} → Cov P xs ks → Cov P ys ls → Cov P (xs ++ ys) (ks ++ ls)
-  Cov-++ c[] k = k
-  Cov-++ (h c∷ hs) k = h c∷ Cov-++ hs k
-
-  pub Cov-ones : (P : A → Bool) (xs : List A) → Cov P xs (ones xs)
-  unfolding ones
-  Cov-ones P [] = c[]
-  Cov-ones P (x ∷ xs) = LeB-true (P x) c∷ Cov-ones P xs
 
   -- ── selecting ─────────────────────────────────────────────────────────────────────────────
 

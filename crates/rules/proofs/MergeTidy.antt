@@ -1,4 +1,4 @@
--- The step that merges two projections, in either mode: the merged list has the upper list's pairs, its columns are known where the lower list's are,
+-- The step that merges two projections, in either mode: the merged list has the upper list's pairs, its references are resolved where the lower list's are,
 -- and it can be written.
 use mathlib.Core.Path.{_≡_, refl, sym, _∙_, ap, ap₂, subst, subst⁻¹}
 use mathlib.Core.List.{List, [], _∷_, map}
@@ -9,11 +9,14 @@ use lib.Dec.{T}
 use Rattle.cpl.specs.Tests.{anyB, allB}
 use Rattle.cpl.specs.Lists.{All, a[], _a∷_}
 use Rattle.cpl.specs.Plan.{Pair, pair, eqP, Expr, col, lit, miss, un, bin, Item, bare, named, itemPair, itemExpr}
-use Rattle.cpl.specs.Exprs.{fits, known}
+use Rattle.cpl.specs.Exprs.{fits, known, definite}
+use Rattle.cpl.specs.Accept.{allPass}
 use Rattle.cpl.specs.Writable.{FitPair, FitExpr, FitItem}
 use Rattle.cpl.proofs.Bools.{halves, both-T}
-use Rattle.cpl.proofs.Lists.{map-map, map-cong, T-all, All-mapped}
-use Rattle.cpl.proofs.Pairs.{eqP-eq, find-any}
+use Rattle.cpl.proofs.Lists.{map-map, map-cong, All-mapped, All-unmapped}
+use Rattle.cpl.proofs.Pairs.{eqP-eq}
+use Rattle.cpl.proofs.Lookup.{find-any}
+use Rattle.cpl.proofs.Accepted.{Resolved, Sees, each-sees, all-see}
 use Rattle.rules.specs.Merge.{itemD, eqItems, plain, defOf, replace, define, item, replaceItem, held, usesNone, dropsChild, mergeStep}
 
 -- ── equal lists ─────────────────────────────────────────────────────────────────────────────
@@ -87,38 +90,41 @@ pub step-pairs : {house : Bool} {js is ks : List Item} → Step house js is ks �
 step-pairs (equal e t) = refl
 step-pairs {js} {is} put = map-map itemPair (replaceItem is) js ∙ map-cong (replace-pair is) js
 
--- ── known columns ───────────────────────────────────────────────────────────────────────────
+-- ── references ──────────────────────────────────────────────────────────────────────────────
 
-def-known : (fs : List Pair) (c : Pair) (is : List Item) → T (anyB (fits c) (map itemPair is)) → All (λ i. T (known fs (itemExpr i))) is → T (known fs (defOf c is))
+-- what a reference finds among the pairs has a definition, which is as all of the lower list's are
+pub def-as : (P : Expr → Type 0) (c : Pair) (is : List Item) → T (anyB (fits c) (map itemPair is)) → All (λ i. P (itemExpr i)) is → P (defOf c is)
 unfolding anyB defOf
-def-known fs c [] t a[] = absurd t
-def-known fs c (i ∷ is) t (h a∷ hs) = go (fits c (itemPair i)) t (λ t. def-known fs c is t hs)
+def-as P c [] t a[] = absurd t
+def-as P c (i ∷ is) t (h a∷ hs) = go (fits c (itemPair i)) t (λ t. def-as P c is t hs)
   where
-    go : (b : Bool) → T (b || anyB (fits c) (map itemPair is)) → (T (anyB (fits c) (map itemPair is)) → T (known fs (defOf c is))) → T (known fs (cond b (itemExpr i) (defOf c is)))
+    go : (b : Bool) → T (b || anyB (fits c) (map itemPair is)) → (T (anyB (fits c) (map itemPair is)) → P (defOf c is)) → P (cond b (itemExpr i) (defOf c is))
     go true t f = h
     go false t f = f t
 
-define-known : (fs : List Pair) (is : List Item) → All (λ i. T (known fs (itemExpr i))) is → (e : Expr) → T (known (map itemPair is) e) → T (known fs (define is e))
-unfolding define replace known
-define-known fs is h (col c) t = def-known fs c is (subst T (find-any c (map itemPair is)) t) h
-define-known fs is h (lit z) t = tt
-define-known fs is h miss t = tt
-define-known fs is h (un o a) t = define-known fs is h a t
-define-known fs is h (bin o a b) t =
+define-sees : (fs : List Pair) (is : List Item) → All (λ i. Sees fs (itemExpr i)) is → (e : Expr) → T (known (map itemPair is) e) → Sees fs (define is e)
+unfolding define replace known definite
+define-sees fs is h (col c) t = def-as (Sees fs) c is (subst T (find-any c (map itemPair is)) t) h
+define-sees fs is h (lit z) t = record { is-known = tt; is-definite = tt }
+define-sees fs is h miss t = record { is-known = tt; is-definite = tt }
+define-sees fs is h (un o a) t = let s = define-sees fs is h a t in record { is-known = s .is-known; is-definite = s .is-definite }
+define-sees fs is h (bin o a b) t =
     let k = halves (known (map itemPair is) a) (known (map itemPair is) b) t in
-    both-T (known fs (define is a)) (known fs (define is b)) (define-known fs is h a (k .0)) (define-known fs is h b (k .1))
+    let x = define-sees fs is h a (k .0) in
+    let y = define-sees fs is h b (k .1) in
+    record {
+      is-known = both-T (known fs (define is a)) (known fs (define is b)) (x .is-known) (y .is-known);
+      is-definite = both-T (definite fs (define is a)) (definite fs (define is b)) (x .is-definite) (y .is-definite);
+    }
 
--- columns of a list's items, item by item
-pub items-known : (fs : List Pair) (is : List Item) → T (allB (known fs) (map itemExpr is)) → All (λ i. T (known fs (itemExpr i))) is
-unfolding allB
-items-known fs [] t = a[]
-items-known fs (i ∷ is) t = let h = halves (known fs (itemExpr i)) (allB (known fs) (map itemExpr is)) t in h .0 a∷ items-known fs is (h .1)
-
-pub step-known : {house : Bool} {js is ks : List Item} (fs : List Pair) → T (allB (known (map itemPair is)) (map itemExpr js)) → T (allB (known fs) (map itemExpr is)) → Step house js is ks → T (allB (known fs) (map itemExpr ks))
-step-known fs t u (equal e p) = subst⁻¹ (λ xs. T (allB (known fs) (map itemExpr xs))) e u
-step-known {js} {is} fs t u put =
-    T-all (known fs) (subst⁻¹ (All (λ e. T (known fs e))) (map-map itemExpr (replaceItem is) js)
-    (All-mapped _ (λ j k. subst⁻¹ (λ e. T (known fs e)) (replace-expr is j) (define-known fs is (items-known fs is u) (itemExpr j) k)) (items-known (map itemPair is) js t)))
+pub step-resolved : {house : Bool} {js is ks : List Item} (fs : List Pair) → Resolved (allPass (map itemExpr js) (map itemPair is)) → Resolved (allPass (map itemExpr is) fs) → Step house js is ks
+    → Resolved (allPass (map itemExpr ks) fs)
+step-resolved fs t u (equal e p) = subst⁻¹ (λ xs. Resolved (allPass (map itemExpr xs) fs)) e u
+step-resolved {js} {is} fs t u put =
+    let lower = All-unmapped itemExpr is (each-sees (map itemExpr is) fs u) in
+    let upper = All-unmapped itemExpr js (each-sees (map itemExpr js) (map itemPair is) t) in
+    all-see fs (subst⁻¹ (All (Sees fs)) (map-map itemExpr (replaceItem is) js)
+    (All-mapped _ (λ j k. subst⁻¹ (Sees fs) (replace-expr is j) (define-sees fs is lower (itemExpr j) (k .is-known))) upper))
 
 -- ── writable items ──────────────────────────────────────────────────────────────────────────
 

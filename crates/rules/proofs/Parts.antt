@@ -3,14 +3,14 @@ use mathlib.Core.Path.{refl, ap, subst}
 use mathlib.Core.List.{List, [], _∷_, _++_, map}
 use mathlib.Core.Bool.{Bool, true, false, _||_}
 use Prim.Native.Nat.{ℕ, zero, suc}
-use lib.Dec.{T, eqb, eqb-refl}
+use lib.Dec.{T, eqb}
 use lib.ListN.{length, take, drop}
 use Rattle.cpl.specs.Tests.{anyB, concatMap, iota}
 use Rattle.cpl.specs.Lists.{All, a[], _a∷_, z[], _z∷_, Fit}
 use Rattle.cpl.specs.Plan.{Pair, Expr}
-use Rattle.cpl.specs.Exprs.{uses, usesAny}
+use Rattle.cpl.specs.Exprs.{places}
 use Rattle.cpl.proofs.Bools.{left-T, right-T}
-use Rattle.cpl.proofs.Lists.{All-map, always}
+use Rattle.cpl.proofs.Lists.{each-number, always}
 use Rattle.rules.specs.Mask.{Mask, select, orM, LeB, LeM}
 use Rattle.rules.specs.Request.{maskOf}
 use Rattle.rules.specs.Rules.{used, plus}
@@ -112,11 +112,6 @@ masks-more : (is js : List ℕ) {ks : List ℕ} → All (λ i. T (anyB (eqb i) i
 masks-more is js a[] = z[]
 masks-more is js (_a∷_ {x = k} h hs) = implies (anyB (eqb k) is) (anyB (eqb k) js) h z∷ masks-more is js hs
 
-own-any : (ks : List ℕ) → All (λ i. T (anyB (eqb i) ks)) ks
-unfolding anyB
-own-any [] = a[]
-own-any (k ∷ ks) = left-T (eqb k k) (anyB (eqb k) ks) (eqb-refl k) a∷ All-map (λ i t. right-T (eqb i k) (anyB (eqb i) ks) t) (own-any ks)
-
 pub mask-more : (width : ℕ) (is js : List ℕ) → Contains js is → LeM (maskOf width is) (maskOf width js)
 unfolding maskOf
 mask-more width is js h = masks-more is js (always h (iota 0 width))
@@ -124,15 +119,14 @@ mask-more width is js h = masks-more is js (always h (iota 0 width))
 -- of all fields
 pub all-more : (width : ℕ) (is : List ℕ) → LeM (maskOf width is) (maskOf width (iota 0 width))
 unfolding maskOf
-all-more width is = masks-more is (iota 0 width) (All-map (λ i t u. t) (own-any (iota 0 width)))
+all-more width is = masks-more is (iota 0 width) (each-number _ (iota 0 width) (λ i t u. t))
 
 -- ── more expressions ────────────────────────────────────────────────────────────────────────
 
 -- the one law here that looks at how columns find fields
 pub used-more : {es ds : List Expr} → Part es ds → (fs : List Pair) → LeM (used es fs) (used ds fs)
-unfolding used usesAny
-used-more h [] = z[]
-used-more {es} {ds} h (f ∷ fs) = implies (usesAny es f) (usesAny ds f) (Part-any (λ e. uses e f) h) z∷ used-more h fs
+unfolding used
+used-more h fs = mask-more (length fs) _ _ (λ i t. Part-any (eqb i) (Part-concat (places fs) h) t)
 
 pub plus-more : {es ds : List Expr} → Part es ds → (fs : List Pair) {R R′ : Mask} → LeM R R′ → LeM (plus es fs R) (plus ds fs R′)
 unfolding plus

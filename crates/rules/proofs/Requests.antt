@@ -1,21 +1,21 @@
 -- A request and its mask are the same thing: an accepted request is read off its mask, and every mask is that of the indices that it has.
 use mathlib.Core.Path.{_≡_, refl, sym, _∙_, ap, ap₂, subst}
-use mathlib.Core.List.{List, [], _∷_, map}
+use mathlib.Core.List.{List, [], _∷_, _++_, map}
 use mathlib.Core.Bool.{Bool, true, false, _&&_, _||_, true≢false}
-use mathlib.Core.Option.{Option, none, some}
+use mathlib.Core.Option.{none, some}
 use Prim.Native.Nat.{ℕ, zero, suc, _+_, _≤_, _<_}
 use native.Mathlib.Omega.{arith}
 use native.Mathlib.Decide.{ℕ-discrete}
-use native.Mathlib.Nat.{add-zero}
-use lib.Dec.{T, eqb, eqb-refl, eqb→eq, ltb, ltb→lt, leb, leb→le}
+use lib.Dec.{T, eqb, ltb, ltb→lt, leb, leb→le}
 use lib.ListN.{length}
 use borrow.Author.Tests.{ne-eqb, eq-eqb}
 use Rattle.cpl.specs.Tests.{anyB, iota}
-use Rattle.cpl.specs.Lists.{All, a[], _a∷_}
+use Rattle.cpl.specs.Lists.{All, a[], _a∷_, z[], _z∷_, Fit}
 use Rattle.cpl.specs.Read.{pick}
-use Rattle.cpl.proofs.Bools.{halves, is-true, is-false}
-use Rattle.cpl.proofs.Lists.{All-map, map-congA}
-use Rattle.rules.specs.Mask.{Mask}
+use Rattle.cpl.proofs.Bools.{halves}
+use Rattle.cpl.proofs.Lists.{All-map, map-cong, map-congA, Fit-map, Fit-trans}
+use Rattle.rules.specs.Mask.{Mask, orM}
+use Rattle.rules.proofs.Masks.{or-map}
 use Rattle.rules.specs.Request.{faultFrom, requestFault, maskOf, indicesFrom}
 
 -- ── what is right of an accepted request ────────────────────────────────────────────────────
@@ -87,3 +87,30 @@ request-mask width is e = back 0 width width is (omega arith) (rising 0 0 width 
 -- two accepted requests with one mask are one request
 pub same-request : (width : ℕ) (is js : List ℕ) → requestFault width is ≡ none → requestFault width js ≡ none → maskOf width is ≡ maskOf width js → is ≡ js
 same-request width is js h k e = sym (request-mask width is h) ∙ (ap (indicesFrom 0) e ∙ request-mask width js k)
+
+-- ── a request's mask is as long as the fields ───────────────────────────────────────────────
+
+fit-iota : {A : Type 0} (k : ℕ) (xs : List A) → Fit (iota k (length xs)) xs
+unfolding iota
+fit-iota k [] = z[]
+fit-iota k (x ∷ xs) = tt z∷ fit-iota (suc k) xs
+
+pub fit-mask : {A : Type 0} (is : List ℕ) (xs : List A) → Fit (maskOf (length xs) is) xs
+unfolding maskOf
+fit-mask is xs = Fit-trans (Fit-map (λ i. anyB (eqb i) is) (iota 0 (length xs))) (fit-iota 0 xs)
+
+-- ── two requests ────────────────────────────────────────────────────────────────────────────
+
+or-assoc : (a b c : Bool) → (a || b) || c ≡ a || (b || c)
+or-assoc true b c = refl
+or-assoc false b c = refl
+
+any-both : (i : ℕ) (is js : List ℕ) → anyB (eqb i) (is ++ js) ≡ anyB (eqb i) is || anyB (eqb i) js
+unfolding anyB
+any-both i [] js = refl
+any-both i (k ∷ is) js = ap (eqb i k ||_) (any-both i is js) ∙ sym (or-assoc (eqb i k) (anyB (eqb i) is) (anyB (eqb i) js))
+
+-- the mask of the indices of both is what either mask has
+pub mask-++ : (width : ℕ) (is js : List ℕ) → maskOf width (is ++ js) ≡ orM (maskOf width is) (maskOf width js)
+unfolding maskOf
+mask-++ width is js = map-cong (λ i. any-both i is js) (iota 0 width) ∙ sym (or-map (λ i. anyB (eqb i) is) (λ i. anyB (eqb i) js) (iota 0 width))

@@ -5,16 +5,15 @@ use mathlib.Core.Bool.{Bool}
 use mathlib.Core.Option.{Option, none, some}
 use Prim.Native.Nat.{ℕ}
 use native.Mathlib.Omega.{arith}
-use lib.Dec.{T}
 use lib.ListN.{length, getD, length-map}
-use Rattle.cpl.specs.Tests.{allB}
 use Rattle.cpl.specs.Lists.{Fit}
 use Rattle.cpl.specs.Plan.{Pair, Item, Leaf, scan, empty, Unary, projection, filter, sort, limit, aggregate, window, subqueryAlias, distinct, Plan, leaf, unary, binary, Catalogue, itemPair, itemExpr}
-use Rattle.cpl.specs.Exprs.{known, unaryExprs}
+use Rattle.cpl.specs.Exprs.{unaryExprs}
+use Rattle.cpl.specs.Accept.{allPass}
 use Rattle.cpl.specs.Fields.{columnsOf, scanField, leafFields, unaryFields, fieldsOf}
 use Rattle.cpl.specs.Writable.{FitList, FitItem, FitColumns, FitLeaf, FitUnary, FitPlan, FitCatalogue}
 use Rattle.cpl.proofs.Lists.{fit-self}
-use Rattle.cpl.proofs.Accepted.{Accepted, few-fields, distinct-fields}
+use Rattle.cpl.proofs.Accepted.{Resolved, Accepted, few-fields, distinct-fields}
 use Rattle.cpl.proofs.FitFields.{unary-pairs, field-pairs, columns-below, columns-few}
 use Rattle.rules.specs.Mask.{Mask}
 use Rattle.rules.specs.Merge.{mergeStep}
@@ -25,13 +24,13 @@ use Rattle.rules.proofs.Known.{clear-select}
 use Rattle.rules.proofs.Inputs.{Fields, Result, Good}
 use Rattle.rules.proofs.UnaryKinds.{projection-good, unary-good}
 use Rattle.rules.proofs.BinaryKinds.{binary-good}
-use Rattle.rules.proofs.MergeTidy.{Step, step, step-pairs, step-known, step-fits}
+use Rattle.rules.proofs.MergeTidy.{Step, step, step-pairs, step-resolved, step-fits}
 
 -- ── what is asked of a projection that is still to be put on top ─────────────────────────────
 
--- over these fields: its columns are known, its pairs few and distinct, its items writable
+-- over these fields: its references are resolved, its pairs few and distinct, its items writable
 pub record Items (fs : List Pair) (is : List Item) : Type 0 where
-  pub all-found : T (allB (known fs) (map itemExpr is))
+  pub resolved : Resolved (allPass (map itemExpr is) fs)
   pub own : Fields (map itemPair is)
   pub fit : FitList FitItem 128 is
 
@@ -47,7 +46,7 @@ pendingFields fs (some is) = map itemPair is
 pub pend-good : (C : Catalogue) (q : Option (List Item)) {fs : List Pair} → Pending fs q → (go : Go) → Good C fs go → Good C (pendingFields fs q) (pend C q fs go)
 unfolding pend
 pend-good C none k go g = g
-pend-good C (some is) k go g = λ b R f. projection-good C is (k .all-found) (k .own) (k .fit) go g R f
+pend-good C (some is) k go g = λ b R f. projection-good C is (k .resolved) (k .own) (k .fit) go g R f
 
 -- ── nodes ───────────────────────────────────────────────────────────────────────────────────
 
@@ -55,7 +54,7 @@ pend-good C (some is) k go g = λ b R f. projection-good C is (k .all-found) (k 
 pub plan-fields : (C : Catalogue) → FitCatalogue C → (p : Plan) → Accepted C p → FitPlan C p → Fields (fieldsOf C p)
 plan-fields C k p o f = record { few = few-fields C p o; distinct = distinct-fields C p o; pairs = field-pairs C k p f }
 
-leaf-good : (C : Catalogue) → FitCatalogue C → (h : Leaf) → Accepted C (leaf h) → FitLeaf C h → Good C (leafFields C h) (leafWalk C h)
+pub leaf-good : (C : Catalogue) → FitCatalogue C → (h : Leaf) → Accepted C (leaf h) → FitLeaf C h → Good C (leafFields C h) (leafWalk C h)
 unfolding leafWalk leafRule leafKept leafFields fieldsOf Accepted FitPlan FitLeaf FitColumns FitList columnsOf
 leaf-good C k (scan t q is) o fit b R f =
     let names = getD C t [] in
@@ -64,7 +63,7 @@ leaf-good C k (scan t q is) o fit b R f =
     record {
       kept = record { keeps = LeM-refl R; fields = sym e };
       accepted = record {
-        all-found = tt;
+        resolved = record { all-found = tt; all-definite = tt };
         as-wide = tt;
         few = rw (← e) (let s = select-short R (map (scanField names q) cs) in let m = o .few in omega arith);
         distinct = rw (← e) (clear-select R (o .distinct));
@@ -78,7 +77,7 @@ pub merged-items : {house : Bool} {fs : List Pair} {js is ks : List Item} → It
 unfolding FitList
 merged-items {fs} {js} {is} {ks} u l s =
     record {
-      all-found = step-known fs (u .all-found) (l .all-found) s;
+      resolved = step-resolved fs (u .resolved) (l .resolved) s;
       own = subst⁻¹ Fields (step-pairs s) (u .own);
       fit = (let e = ap length (step-pairs s) in let m = u .fit .0 in omega (arith, length-map ks itemPair, length-map js itemPair), step-fits (u .fit .1) (l .fit .1) s);
     }
@@ -88,7 +87,7 @@ unfolding counted
 counted-result C ks r = record { kept = record { keeps = r .kept .keeps; fields = r .kept .fields }; accepted = r .accepted; fit = r .fit }
 
 -- a node that is no projection
-node-good : (C : Catalogue) (h : Unary) {fs : List Pair} → Fields fs → T (allB (known fs) (unaryExprs h)) → Fields (unaryFields h fs) → FitUnary h
+node-good : (C : Catalogue) (h : Unary) {fs : List Pair} → Fields fs → Resolved (allPass (unaryExprs h) fs) → Fields (unaryFields h fs) → FitUnary h
     → (go : Option (List Item) → Go) → Good C fs (go none) → (q : Option (List Item)) → Pending (unaryFields h fs) q → Good C (pendingFields (unaryFields h fs) q) (nodeWalk C h fs go q)
 unfolding nodeWalk
 node-good C h below k own fit go g q pq = pend-good C q pq _ (unary-good C below (go none) g h k own fit)
@@ -104,13 +103,13 @@ module _ (house : Bool) (m : ℕ) (C : Catalogue) where
       let s = step house m js is ks e in
       counted-result C ks (subst (λ fs′. Result C fs′ R (go (some ks) b R)) (step-pairs s) (g ks (merged-items u l s) b R (subst⁻¹ (Fit R) (step-pairs s) f)))
 
-  unary-walk : (h : Unary) {fs : List Pair} → Fields fs → T (allB (known fs) (unaryExprs h)) → Fields (unaryFields h fs) → FitUnary h
+  unary-walk : (h : Unary) {fs : List Pair} → Fields fs → Resolved (allPass (unaryExprs h) fs) → Fields (unaryFields h fs) → FitUnary h
       → (go : Option (List Item) → Go) → ((q : Option (List Item)) → Pending fs q → Good C (pendingFields fs q) (go q))
       → (q : Option (List Item)) → Pending (unaryFields h fs) q → Good C (pendingFields (unaryFields h fs) q) (unaryWalk (mergeStep house m) C h fs go q)
   unfolding unaryWalk unaryFields unaryExprs FitUnary
-  unary-walk (projection is) below k own fit go g none pq = g (some is) (record { all-found = k; own = own; fit = fit })
+  unary-walk (projection is) below k own fit go g none pq = g (some is) (record { resolved = k; own = own; fit = fit })
   unary-walk (projection is) below k own fit go g (some js) pq =
-      merged-good js is pq (record { all-found = k; own = own; fit = fit }) go (λ ks i. g (some ks) i) (mergeStep house m js is) refl
+      merged-good js is pq (record { resolved = k; own = own; fit = fit }) go (λ ks i. g (some ks) i) (mergeStep house m js is) refl
   unary-walk (filter e) below k own fit go g q pq = node-good C (filter e) below k own fit go (g none tt) q pq
   unary-walk (sort ks) below k own fit go g q pq = node-good C (sort ks) below k own fit go (g none tt) q pq
   unary-walk (limit s n) below k own fit go g q pq = node-good C (limit s n) below k own fit go (g none tt) q pq
@@ -125,7 +124,7 @@ module _ (house : Bool) (m : ℕ) (C : Catalogue) where
   unfolding walk fieldsOf Accepted FitPlan
   walk-good k (leaf h) o fit q pq = pend-good C q pq _ (leaf-good C k h o fit)
   walk-good k (unary h p) o fit q pq =
-      unary-walk h (plan-fields C k p (o .0) (fit .1)) (o .1 .all-found) (record { few = o .1 .few; distinct = o .1 .distinct; pairs = unary-pairs h (fit .0) (fieldsOf C p) (field-pairs C k p (fit .1)) }) (fit .0) _
+      unary-walk h (plan-fields C k p (o .0) (fit .1)) (o .1 .resolved) (record { few = o .1 .few; distinct = o .1 .distinct; pairs = unary-pairs h (fit .0) (fieldsOf C p) (field-pairs C k p (fit .1)) }) (fit .0) _
       (λ q pq. walk-good k p (o .0) (fit .1) q pq) q pq
   walk-good k (binary h p₁ p₂) o fit q pq =
       pend-good C q pq _

@@ -1,9 +1,9 @@
 -- An answer of code 0: where it comes from, and that it reads back as the rewritten plan, accepted.
 use mathlib.Core.Path.{_≡_, refl, sym, _∙_, ap, subst⁻¹}
-use mathlib.Core.List.{List, [], _∷_}
+use mathlib.Core.List.{List, []}
 use mathlib.Core.Bool.{Bool, true, false, _||_, not, true≢false}
 use mathlib.Core.Option.{Option, none, some}
-use Prim.Native.Nat.{ℕ, suc, _≤_}
+use Prim.Native.Nat.{ℕ, _≤_}
 use native.Mathlib.Omega.{arith}
 use lib.Dec.{T, ltb, leb, nltb→le, eqb}
 use lib.ListN.{length, drop}
@@ -20,9 +20,6 @@ use Rattle.cpl.specs.Fields.{fieldsOf}
 use Rattle.cpl.specs.Writable.{Writable}
 use Rattle.cpl.specs.Accept.{Fault, fault, check}
 use Rattle.cpl.proofs.Bools.{nor}
-use Rattle.cpl.proofs.Lists.{Fit-map, Fit-trans}
-use Rattle.cpl.specs.Lists.{Fit, z[], _z∷_}
-use Rattle.cpl.specs.Tests.{anyB, iota}
 use Rattle.cpl.proofs.Accepted.{accepted, no-fault}
 use Rattle.cpl.proofs.RoundTrip.{read-written, written-read}
 use Rattle.rules.specs.Request.{requestFault, maskOf}
@@ -30,20 +27,10 @@ use Rattle.rules.specs.Merge.{Merge}
 use Rattle.rules.specs.Rewrite.{Walked, rewrite}
 use Rattle.rules.specs.Answer.{Verdict, refused, narrowed, settingsOk, mergeOf, large, finish, requested, checked, judged, verdict, Answer, refusal, success, written, deliver, reply}
 use Rattle.rules.specs.Success.{ReadsAs, wrote, sourceOf, Success}
+use Rattle.rules.proofs.Requests.{fit-mask}
 use Rattle.rules.proofs.Inputs.{Result}
 use Rattle.rules.proofs.Results.{walk-good}
-use Rattle.rules.proofs.Answers.{Lawful, verdict-lawful}
-
--- ── a request's mask is as long as the fields ───────────────────────────────────────────────
-
-fit-iota : {A : Type 0} (k : ℕ) (xs : List A) → Fit (iota k (length xs)) xs
-unfolding iota
-fit-iota k [] = z[]
-fit-iota k (x ∷ xs) = tt z∷ fit-iota (suc k) xs
-
-pub fit-mask : {A : Type 0} (is : List ℕ) (xs : List A) → Fit (maskOf (length xs) is) xs
-unfolding maskOf
-fit-mask is xs = Fit-trans (Fit-map (λ i. anyB (eqb i) is) (iota 0 (length xs))) (fit-iota 0 xs)
+use Rattle.rules.proofs.Answers.{Lawful, code-above, verdict-lawful}
 
 -- ── where a narrowed source comes from ──────────────────────────────────────────────────────
 
@@ -125,7 +112,7 @@ delivered-bytes s bs out false h e = absurd (omega arith)
 
 delivered : (v : Verdict) (out : List ℕ) → Lawful v → deliver v out .code ≡ 0 → Delivered v (deliver v out)
 unfolding deliver refusal written
-delivered (refused code place) out l e = absurd (omega (arith, l .0))
+delivered (refused code place) out l e = absurd (let h = code-above code l in omega arith)
 delivered (narrowed s) out l e = delivered-bytes s (bytesOf s) out (leb (length (bytesOf s)) (length out)) refl e
 
 -- ── an answer of code 0 ─────────────────────────────────────────────────────────────────────

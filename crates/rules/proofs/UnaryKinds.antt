@@ -9,20 +9,22 @@ use lib.ListN.{length, take, drop}
 use Rattle.cpl.specs.Tests.{allB, concatMap}
 use Rattle.cpl.specs.Lists.{All, a[], Fit}
 use Rattle.cpl.specs.Plan.{Pair, eqP, Expr, Item, bare, named, Agg, Win, Unary, projection, filter, sort, limit, aggregate, window, subqueryAlias, distinct, Plan, unary, Catalogue, itemPair, itemExpr, keyExpr, aggPair, winPair}
-use Rattle.cpl.specs.Exprs.{known, aggExprs, winExprs, unaryExprs}
+use Rattle.cpl.specs.Exprs.{aggExprs, winExprs, unaryExprs}
+use Rattle.cpl.specs.Accept.{allPass}
 use Rattle.cpl.specs.Fields.{leafFields, unaryFields, requalify, fieldsOf}
 use Rattle.cpl.specs.Writable.{FitList, FitItem, FitAgg, FitWin, FitLeaf, FitUnary, FitPlan}
 use Rattle.cpl.proofs.Bools.{halves}
-use Rattle.cpl.proofs.Lists.{All-left, All-right, All-++, all-T, T-all, Fit-map, Fit-trans, take-fit}
+use Rattle.cpl.proofs.Lists.{All-left, All-right, All-++, Fit-map, Fit-trans, take-fit}
 use Rattle.cpl.proofs.Pairs.{eqP-eq}
 use Rattle.cpl.proofs.Clash.{n[]}
-use Rattle.cpl.proofs.Accepted.{Accepted}
+use Rattle.cpl.proofs.Accepted.{Resolved, Sees, each-sees, all-see, Accepted}
 use Rattle.rules.specs.Mask.{Mask, select, ones, LeM}
 use Rattle.rules.specs.Rules.{used, plus, sameColumns, overChild, ask, projectionJob, aggregateJob, windowJob, unaryJob}
 use Rattle.rules.specs.Rewrite.{Walked, Go, input, runJob}
 use Rattle.rules.proofs.Masks.{LeM-refl, LeM-trans, LeM-fit, LeM-parts, fit-ones, select-map, select-short, All-select}
-use Rattle.rules.proofs.Asked.{used-fit, used-cov, plus-fit, plus-cov, plus-keeps, all-groups, aggregate-fields, window-fields}
-use Rattle.rules.proofs.Known.{known-all, bare-fields, clear-select}
+use Rattle.rules.proofs.Asked.{used-fit, plus-fit, plus-cov, plus-keeps, all-groups, aggregate-fields, window-fields}
+use Rattle.rules.proofs.Covers.{used-cov}
+use Rattle.rules.proofs.Known.{resolved-select, bare-fields, clear-select}
 use Rattle.rules.proofs.Inputs.{Fields, Result, Good, Input, topped, as-it-is}
 
 -- ── a node over a rewritten input ───────────────────────────────────────────────────────────
@@ -33,7 +35,7 @@ module _ (C : Catalogue) {fs : List Pair} (h h′ : Unary) (own : Fields (unaryF
   node-fields : unaryFields h′ (fieldsOf C p′) ≡ select L (unaryFields h fs)
   node-fields = ap (unaryFields h′) (i .fields) ∙ same
 
-  pub node : {R : Mask} (overlong : Bool) → LeM R L → T (allB (known (select K fs)) (unaryExprs h′)) → FitUnary h′
+  pub node : {R : Mask} (overlong : Bool) → LeM R L → Resolved (allPass (unaryExprs h′) (select K fs)) → FitUnary h′
       → Result C (unaryFields h fs) R (record { plan = unary h′ p′; kept = L; overlong = overlong })
   unfolding fieldsOf Accepted FitPlan
   node o k t f =
@@ -42,7 +44,7 @@ module _ (C : Catalogue) {fs : List Pair} (h h′ : Unary) (own : Fields (unaryF
         accepted = (
           i .accepted,
           record {
-            all-found = subst⁻¹ (λ gs. T (allB (known gs) (unaryExprs h′))) (i .fields) t;
+            resolved = subst⁻¹ (λ gs. Resolved (allPass (unaryExprs h′) gs)) (i .fields) t;
             as-wide = tt;
             few = rw node-fields (let s = select-short L (unaryFields h fs) in let m = own .few in omega arith);
             distinct = rw node-fields (clear-select L (own .distinct));
@@ -53,7 +55,7 @@ module _ (C : Catalogue) {fs : List Pair} (h h′ : Unary) (own : Fields (unaryF
 
 -- ── parts of lists ──────────────────────────────────────────────────────────────────────────
 
-concat-select : {A B : Type 0} {P : B → Type 0} (f : A → List B) (K : Mask) (xs : List A) → All P (concatMap f xs) → All P (concatMap f (select K xs))
+pub concat-select : {A B : Type 0} {P : B → Type 0} (f : A → List B) (K : Mask) (xs : List A) → All P (concatMap f xs) → All P (concatMap f (select K xs))
 unfolding concatMap select
 concat-select f [] xs h = a[]
 concat-select f (k ∷ K) [] h = a[]
@@ -64,12 +66,12 @@ fit-select : {A : Type 0} (P : A → Type 0) (most : ℕ) (K : Mask) (xs : List 
 unfolding FitList
 fit-select P most K xs h = (let s = select-short K xs in let m = h .0 in omega arith, All-select K (h .1))
 
--- the columns used are kept, and known
-used-known : (es : List Expr) (fs : List Pair) {K : Mask} → LeM (used es fs) K → T (allB (known fs) es) → T (allB (known (select K fs)) es)
-used-known es fs l t = known-all es (used-cov es fs l) t
+-- the columns used are kept, and found
+used-resolved : (es : List Expr) (fs : List Pair) {K : Mask} → LeM (used es fs) K → Resolved (allPass es fs) → Resolved (allPass es (select K fs))
+used-resolved es fs l t = resolved-select es (used-cov es fs l) t
 
-plus-known : (es : List Expr) {fs : List Pair} {R : Mask} → Fit R fs → T (allB (known fs) es) → T (allB (known (select (plus es fs R) fs)) es)
-plus-known es f t = known-all es (plus-cov es f (LeM-refl _)) t
+plus-resolved : (es : List Expr) {fs : List Pair} {R : Mask} → Fit R fs → Resolved (allPass es fs) → Resolved (allPass es (select (plus es fs R) fs))
+plus-resolved es f t = resolved-select es (plus-cov es f (LeM-refl _)) t
 
 -- ── Projection ──────────────────────────────────────────────────────────────────────────────
 
@@ -82,10 +84,10 @@ same-columns (named c e ∷ is) [] t = absurd t
 same-columns (bare c ∷ is) (f ∷ fs) t = let h = halves (eqP c f) (sameColumns is fs) t in ap₂ (λ c js. bare c ∷ js) (eqP-eq c f (h .0)) (same-columns is fs (h .1))
 same-columns (named c e ∷ is) (f ∷ fs) t = absurd t
 
-selected-known : (R : Mask) (is : List Item) (fs : List Pair) → T (allB (known fs) (map itemExpr is)) → T (allB (known fs) (map itemExpr (select R is)))
-selected-known R is fs t = T-all (known fs) (subst (All (λ e. T (known fs e))) (select-map itemExpr R is) (All-select R (all-T (known fs) (map itemExpr is) t)))
+selected-resolved : (R : Mask) (is : List Item) (fs : List Pair) → Resolved (allPass (map itemExpr is) fs) → Resolved (allPass (map itemExpr (select R is)) fs)
+selected-resolved R is fs t = all-see fs (subst (All (Sees fs)) (select-map itemExpr R is) (All-select R (each-sees (map itemExpr is) fs t)))
 
-module _ (C : Catalogue) (is : List Item) {fs : List Pair} (known-items : T (allB (known fs) (map itemExpr is))) (own : Fields (map itemPair is)) (few : FitList FitItem 128 is)
+module _ (C : Catalogue) (is : List Item) {fs : List Pair} (resolved-items : Resolved (allPass (map itemExpr is) fs)) (own : Fields (map itemPair is)) (few : FitList FitItem 128 is)
     (go : Go) (g : Good C fs go) (R : Mask) (f : Fit R (map itemPair is)) where
   pub projection-good : Result C (map itemPair is) R (runJob C fs (projectionJob C is fs R) go)
   unfolding projectionJob runJob input overChild unaryFields unaryExprs FitUnary fieldsOf
@@ -113,20 +115,20 @@ module _ (C : Catalogue) (is : List Item) {fs : List Pair} (known-items : T (all
           }
       choose false t =
           node C (projection is) (projection js) own R (as-it-is C r) (sym (select-map itemPair R is)) (w .overlong) (LeM-refl R)
-          (used-known (map itemExpr js) fs (r .kept .keeps) (selected-known R is fs known-items)) (fit-select FitItem 128 R is few)
+          (used-resolved (map itemExpr js) fs (r .kept .keeps) (selected-resolved R is fs resolved-items)) (fit-select FitItem 128 R is few)
 
 -- ── Aggregate ───────────────────────────────────────────────────────────────────────────────
 
-module _ (C : Catalogue) {fs : List Pair} (below : Fields fs) (gs : List Item) (vs : List Agg) (known-exprs : T (allB (known fs) (unaryExprs (aggregate gs vs))))
+module _ (C : Catalogue) {fs : List Pair} (below : Fields fs) (gs : List Item) (vs : List Agg) (resolved-exprs : Resolved (allPass (unaryExprs (aggregate gs vs)) fs))
     (own : Fields (unaryFields (aggregate gs vs) fs)) (fit : FitUnary (aggregate gs vs)) (go : Go) (g : Good C fs go) (R : Mask) (f : Fit R (unaryFields (aggregate gs vs) fs)) where
   abbrev A : Mask
   A = drop (length gs) R
 
-  kept-known : T (allB (known fs) (unaryExprs (aggregate gs (select A vs))))
+  kept-resolved : Resolved (allPass (unaryExprs (aggregate gs (select A vs))) fs)
   unfolding unaryExprs
-  kept-known =
-      let h = all-T (known fs) (map itemExpr gs ++ concatMap aggExprs vs) known-exprs in
-      T-all (known fs) (All-++ (All-left (map itemExpr gs) (concatMap aggExprs vs) h) (concat-select aggExprs A vs (All-right (map itemExpr gs) (concatMap aggExprs vs) h)))
+  kept-resolved =
+      let h = each-sees (map itemExpr gs ++ concatMap aggExprs vs) fs resolved-exprs in
+      all-see fs (All-++ (All-left (map itemExpr gs) (concatMap aggExprs vs) h) (concat-select aggExprs A vs (All-right (map itemExpr gs) (concatMap aggExprs vs) h)))
 
   -- some group or aggregate is left
   some-left : (ws : List Agg) → ws ≡ select A vs → 0 < length gs + length ws
@@ -138,7 +140,7 @@ module _ (C : Catalogue) {fs : List Pair} (below : Fields fs) (gs : List Item) (
       let Q = used (unaryExprs h) fs in
       let r = g false Q (used-fit (unaryExprs h) fs) in
       node C (aggregate gs vs) h own (ones gs ++ A) (topped C below (used-fit (unaryExprs h) fs) r) (ap (λ us. map itemPair gs ++ map aggPair us) e ∙ aggregate-fields gs A vs) _
-      (all-groups gs (map aggPair vs) f) (used-known (unaryExprs h) fs (LeM-refl Q) (subst⁻¹ (λ us. T (allB (known fs) (unaryExprs (aggregate gs us)))) e kept-known))
+      (all-groups gs (map aggPair vs) f) (used-resolved (unaryExprs h) fs (LeM-refl Q) (subst⁻¹ (λ us. Resolved (allPass (unaryExprs (aggregate gs us)) fs)) e kept-resolved))
       (m, fit .1, subst⁻¹ (FitList FitAgg 128) e (fit-select FitAgg 128 A vs (fit .2)))
 
   pub aggregate-good : Result C (unaryFields (aggregate gs vs) fs) R (runJob C fs (aggregateJob gs (select A vs) fs (ones gs ++ A)) go)
@@ -149,7 +151,7 @@ module _ (C : Catalogue) {fs : List Pair} (below : Fields fs) (gs : List Item) (
       cases [] [] eg e =
           record {
             kept = record { keeps = all-groups gs (map aggPair vs) f; fields = ap₂ (λ g w. map itemPair g ++ map aggPair w) eg e ∙ aggregate-fields gs A vs };
-            accepted = record { all-found = tt; as-wide = tt; few = omega arith; distinct = n[] };
+            accepted = record { resolved = record { all-found = tt; all-definite = tt }; as-wide = tt; few = omega arith; distinct = n[] };
             fit = (omega arith, a[]);
           }
       cases [] (w ∷ ws) eg e = subst⁻¹ (λ g. Result C (unaryFields (aggregate gs vs) fs) R (runJob C fs (ask false (used (unaryExprs (aggregate g (w ∷ ws))) fs) true (unary (aggregate g (w ∷ ws))) (λ L. ones gs ++ A)) go)) eg (some-left (w ∷ ws) e (omega arith))
@@ -159,7 +161,7 @@ module _ (C : Catalogue) {fs : List Pair} (below : Fields fs) (gs : List Item) (
 
 -- ── Window ──────────────────────────────────────────────────────────────────────────────────
 
-module _ (C : Catalogue) {fs : List Pair} (below : Fields fs) (ws : List Win) (known-exprs : T (allB (known fs) (unaryExprs (window ws))))
+module _ (C : Catalogue) {fs : List Pair} (below : Fields fs) (ws : List Win) (resolved-exprs : Resolved (allPass (unaryExprs (window ws)) fs))
     (own : Fields (unaryFields (window ws) fs)) (fit : FitUnary (window ws)) (go : Go) (g : Good C fs go) (b : Bool) (R : Mask) (f : Fit R (unaryFields (window ws) fs)) where
   -- the pass-through part, and the windows' part
   abbrev R₀ : Mask
@@ -172,9 +174,9 @@ module _ (C : Catalogue) {fs : List Pair} (below : Fields fs) (ws : List Win) (k
   unfolding unaryFields
   pass-fit = take-fit fs (map winPair ws) f
 
-  kept-windows : T (allB (known fs) (unaryExprs (window (select S ws))))
+  kept-windows : Resolved (allPass (unaryExprs (window (select S ws))) fs)
   unfolding unaryExprs
-  kept-windows = T-all (known fs) (concat-select winExprs S ws (all-T (known fs) (concatMap winExprs ws) known-exprs))
+  kept-windows = all-see fs (concat-select winExprs S ws (each-sees (concatMap winExprs ws) fs resolved-exprs))
 
   pub window-good : Result C (unaryFields (window ws) fs) R (runJob C fs (windowJob (select S ws) fs b R₀ S) go)
   unfolding windowJob runJob input unaryFields FitUnary
@@ -197,30 +199,30 @@ module _ (C : Catalogue) {fs : List Pair} (below : Fields fs) (ws : List Win) (k
           let Q = plus es fs R₀ in
           let r = g b Q (plus-fit es pass-fit) in
           node C (window ws) (window (v ∷ vs)) own (Q ++ S) (topped C below (plus-fit es pass-fit) r) (ap (λ us. select Q fs ++ map winPair us) e ∙ window-fields (plus-fit es pass-fit) S ws) _
-          (LeM-parts (length fs) R (plus-keeps es pass-fit (LeM-refl _)) (LeM-refl S)) (plus-known es pass-fit (subst⁻¹ (λ us. T (allB (known fs) (unaryExprs (window us)))) e kept-windows))
+          (LeM-parts (length fs) R (plus-keeps es pass-fit (LeM-refl _)) (LeM-refl S)) (plus-resolved es pass-fit (subst⁻¹ (λ us. Resolved (allPass (unaryExprs (window us)) fs)) e kept-windows))
           (omega arith, subst⁻¹ (FitList FitWin 128) e (fit-select FitWin 128 S ws (fit .1)))
 
 -- ── every kind ──────────────────────────────────────────────────────────────────────────────
 
 module _ (C : Catalogue) {fs : List Pair} (below : Fields fs) (go : Go) (g : Good C fs go) where
-  pub unary-good : (h : Unary) → T (allB (known fs) (unaryExprs h)) → Fields (unaryFields h fs) → FitUnary h → (b : Bool) (R : Mask) → Fit R (unaryFields h fs)
+  pub unary-good : (h : Unary) → Resolved (allPass (unaryExprs h) fs) → Fields (unaryFields h fs) → FitUnary h → (b : Bool) (R : Mask) → Fit R (unaryFields h fs)
       → Result C (unaryFields h fs) R (runJob C fs (unaryJob C h fs b R) go)
   unfolding unaryJob runJob input unaryFields unaryExprs allB
   unary-good (projection is) k own fit b R f = projection-good C is k own (unfold FitUnary in fit) go g R f
   unary-good (filter e) k own fit b R f =
       let q = plus-fit (e ∷ []) f in
-      node C (filter e) (filter e) own _ (topped C below q (g true _ q)) refl _ (plus-keeps (e ∷ []) f (LeM-refl _)) (plus-known (e ∷ []) f k) fit
+      node C (filter e) (filter e) own _ (topped C below q (g true _ q)) refl _ (plus-keeps (e ∷ []) f (LeM-refl _)) (plus-resolved (e ∷ []) f k) fit
   unary-good (sort ks) k own fit b R f =
       let es = map keyExpr ks in
       let q = plus-fit es f in
-      node C (sort ks) (sort ks) own _ (topped C below q (g true _ q)) refl _ (plus-keeps es f (LeM-refl _)) (plus-known es f k) fit
-  unary-good (limit s n) k own fit true R f = node C (limit s n) (limit s n) own R (topped C below f (g true R f)) refl _ (LeM-refl R) tt fit
-  unary-good (limit s n) k own fit false R f = let r = g false R f in node C (limit s n) (limit s n) own _ (as-it-is C r) refl _ (r .kept .keeps) tt fit
+      node C (sort ks) (sort ks) own _ (topped C below q (g true _ q)) refl _ (plus-keeps es f (LeM-refl _)) (plus-resolved es f k) fit
+  unary-good (limit s n) k own fit true R f = node C (limit s n) (limit s n) own R (topped C below f (g true R f)) refl _ (LeM-refl R) (record { all-found = tt; all-definite = tt }) fit
+  unary-good (limit s n) k own fit false R f = let r = g false R f in node C (limit s n) (limit s n) own _ (as-it-is C r) refl _ (r .kept .keeps) (record { all-found = tt; all-definite = tt }) fit
   unary-good (aggregate gs vs) k own fit b R f = aggregate-good C below gs vs k own fit go g R f
   unary-good (window ws) k own fit b R f = window-good C below ws k own fit go g b R f
   unary-good (subqueryAlias q) k own fit b R f =
       let i = Fit-trans f (Fit-map (requalify q) fs) in
-      node C (subqueryAlias q) (subqueryAlias q) own R (topped C below i (g true R i)) (sym (select-map (requalify q) R fs)) _ (LeM-refl R) tt fit
+      node C (subqueryAlias q) (subqueryAlias q) own R (topped C below i (g true R i)) (sym (select-map (requalify q) R fs)) _ (LeM-refl R) (record { all-found = tt; all-definite = tt }) fit
   unary-good distinct k own fit b R f =
       let r = g false (ones fs) (unfold ones in Fit-map (λ x. true) fs) in
-      node C distinct distinct own _ (as-it-is C r) refl _ (LeM-trans (fit-ones f) (r .kept .keeps)) tt fit
+      node C distinct distinct own _ (as-it-is C r) refl _ (LeM-trans (fit-ones f) (r .kept .keeps)) (record { all-found = tt; all-definite = tt }) fit

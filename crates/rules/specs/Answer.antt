@@ -1,5 +1,5 @@
 -- The whole of document 01's "Numbers returned" as one function: of settings, file, request and output buffer, the code, length and place and the
--- buffer after. "Order: 1; 2; 3 to 6 …; 8, 9, 10, 7 …; 11; 12; 13."
+-- buffer after. "Order: 1; 2; 3 to 6 …; 8, 9, 10, 7 …; 11; 12; 13", with 17 between 8 and 9.
 use mathlib.Core.List.{List, _++_}
 use mathlib.Core.Bool.{Bool, _&&_, _||_}
 use mathlib.Core.Option.{Option, none, some}

@@ -5,12 +5,12 @@ use Rattle.cpl.specs.Computes.{cpl-computes}
 use Rattle.rules.specs.Mask.{select, orM, ones, zeros, count}
 use Rattle.rules.specs.Request.{faultFrom, requestFault, maskOf, indicesFrom}
 use Rattle.rules.specs.Merge.{inZ, zD, exprD, itemD, eqItems, plain, occurs, occursIn, pushes, held, usesNone, defOf, replace, define, item, replaceItem, dropsChild, mergeStep}
-use Rattle.rules.specs.Rules.{topUp, used, plus, sameColumns, overChild, leafRule, leafKept, projectionJob, aggregateJob, windowJob, unaryJob, leftPart, rightPart, leftExprs, rightExprs, leftAsk, rightAsk, binaryKept}
+use Rattle.rules.specs.Rules.{topUp, used, plus, sameColumns, overChild, leafRule, leafKept, projectionJob, aggregateJob, windowJob, unaryJob, leftPart, rightPart, joinExprs, leftAsk, rightAsk, binaryKept}
 use Rattle.rules.specs.Rewrite.{input, runJob, pend, tooLong, counted, merged, leafWalk, nodeWalk, unaryWalk, binaryWalk, walk}
 use Rattle.rules.specs.Answer.{settingsOk, mergeOf, large, finish, requested, checked, judged, verdict, refusal, success, written, deliver, reply}
 use Rattle.rules.specs.Scans.{leafScans, scans, numbered, scansOf, jobScans, pendScans, mergedScans, leafLeft, itemsOf, unaryScans, binaryScans, walkScans, leafColumns, survives, readsAt}
 use Rattle.rules.specs.Samples.{asked, Right, samples}
 
 unfoldable pub rules-computes : Unit {0}
-unfolding cpl-computes ℕ-discrete decide select orM ones zeros count faultFrom requestFault maskOf inZ zD exprD itemD eqItems plain occurs occursIn pushes held usesNone defOf replace define item replaceItem dropsChild mergeStep topUp used plus sameColumns overChild leafRule leafKept projectionJob aggregateJob windowJob unaryJob leftPart rightPart leftExprs rightExprs leftAsk rightAsk binaryKept input runJob pend tooLong counted merged leafWalk nodeWalk unaryWalk binaryWalk walk settingsOk mergeOf large finish requested checked judged verdict refusal success written deliver reply leafScans scans numbered scansOf jobScans pendScans mergedScans leafLeft itemsOf unaryScans binaryScans walkScans leafColumns survives readsAt asked Right samples
+unfolding cpl-computes ℕ-discrete decide select orM ones zeros count faultFrom requestFault maskOf inZ zD exprD itemD eqItems plain occurs occursIn pushes held usesNone defOf replace define item replaceItem dropsChild mergeStep topUp used plus sameColumns overChild leafRule leafKept projectionJob aggregateJob windowJob unaryJob leftPart rightPart joinExprs leftAsk rightAsk binaryKept input runJob pend tooLong counted merged leafWalk nodeWalk unaryWalk binaryWalk walk settingsOk mergeOf large finish requested checked judged verdict refusal success written deliver reply leafScans scans numbered scansOf jobScans pendScans mergedScans leafLeft itemsOf unaryScans binaryScans walkScans leafColumns survives readsAt asked Right samples
 rules-computes = tt

@@ -8,10 +8,10 @@ use lib.IntN.{ℤ, pos, negsuc, pos-ne-negsuc}
 use lib.Dec.{eqb, ltb}
 use native.Mathlib.Decide.{ℕ-discrete}
 use Prim.Native.Nat.{ℕ, zero, suc, _+_, _/_, _%_, _^_}
-use Rattle.cpl.specs.Tests.{anyB, allB, sumOf}
+use Rattle.cpl.specs.Tests.{anyB, allB, concatMap, sumOf}
 use Rattle.cpl.specs.Codes.{tagOf}
 use Rattle.cpl.specs.Plan.{Pair, pair, eqP, Expr, col, lit, miss, un, bin, Item, bare, named, itemPair, itemExpr, Item-discrete, Expr-discrete, Pair-discrete, Op1-discrete, Op2-discrete}
-use Rattle.cpl.specs.Exprs.{fits, columns?}
+use Rattle.cpl.specs.Exprs.{fits, references, columns?}
 
 -- what a step makes of the upper and the lower list; none: stop
 abbrev pub Merge : Type 0
@@ -49,14 +49,15 @@ plain (named c e) = not (columns? e)
 
 -- ── "if a column is used more than once over the list and its definition does not push to leaves, stop" ──
 
+-- "the merge counts uses by written pair"
 unfoldable pub occurs : Pair → Expr → ℕ
-occurs f (col c) = cond (fits c f) 1 0
+occurs f (col c) = cond (eqP c f) 1 0
 occurs f (lit z) = 0
 occurs f miss = 0
 occurs f (un o a) = occurs f a
 occurs f (bin o a b) = occurs f a + occurs f b
 
--- how often a column is used over the whole list
+-- how often a pair is written over the whole list
 unfoldable pub occursIn : Pair → List Item → ℕ
 occursIn f js = sumOf (λ j. occurs f (itemExpr j)) js
 
@@ -64,16 +65,13 @@ occursIn f js = sumOf (λ j. occurs f (itemExpr j)) js
 unfoldable pub pushes : (mask : ℕ) → Expr → Bool
 pushes m e = eqb (m / 2 ^ tagOf e % 2) 1
 
-unfoldable pub held : (mask : ℕ) (upper lower : List Item) → Bool
-held m js is = anyB (λ i. ltb 1 (occursIn (itemPair i) js) && not (pushes m (itemExpr i))) is
-
 -- "A list that uses no column is not merged."
 unfoldable pub usesNone : List Item → Bool
 usesNone js = allB (λ j. not (columns? (itemExpr j))) js
 
 -- ── "put each column's definition, stripped of alias, in its place" ─────────────────────────
 
--- the definition that a column finds (an accepted plan's column finds one)
+-- the definition that a reference finds (an accepted plan's reference finds one)
 unfoldable pub defOf : Pair → List Item → Expr
 defOf c [] = miss
 defOf c (i ∷ is) = cond (fits c (itemPair i)) (itemExpr i) (defOf c is)
@@ -102,6 +100,10 @@ unfoldable pub replaceItem : List Item → Item → Item
 replaceItem is (bare c) = item c (defOf c is)
 replaceItem is (named (pair zero n) e) = item (pair zero n) (define is e)
 replaceItem is (named (pair (suc q) n) e) = named (pair (suc q) n) (define is e)
+
+-- some pair is written more than once, and the definition that it finds does not push to leaves
+unfoldable pub held : (mask : ℕ) (upper lower : List Item) → Bool
+held m js is = anyB (λ c. ltb 1 (occursIn c js) && not (pushes m (defOf c is))) (concatMap (λ j. references (itemExpr j)) js)
 
 -- ── the step ────────────────────────────────────────────────────────────────────────────────
 

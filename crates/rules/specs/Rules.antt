@@ -6,9 +6,11 @@ use mathlib.Core.Option.{Option, some}
 use lib.Dec.{ltb}
 use lib.ListN.{length, take, drop, getD}
 use Rattle.cpl.specs.Plan.{Pair, eqP, Expr, Item, bare, named, Agg, Win, JoinType, j-inner, j-left, j-right, j-full, j-lsemi, j-lanti, j-rsemi, j-ranti, On, Leaf, scan, empty, Unary, projection, filter, sort, limit, aggregate, window, subqueryAlias, distinct, Binary, union, join, Plan, leaf, unary, Catalogue, itemExpr, keyExpr, onLeft, onRight}
-use Rattle.cpl.specs.Exprs.{usesAny, unaryExprs, condExprs}
+use Rattle.cpl.specs.Tests.{concatMap}
+use Rattle.cpl.specs.Exprs.{places, unaryExprs, condExprs}
 use Rattle.cpl.specs.Fields.{columnsOf, fieldsOf, joinFields}
 use Rattle.rules.specs.Mask.{Mask, select, orM, ones, zeros, count}
+use Rattle.rules.specs.Request.{maskOf}
 
 -- ── parts of the rules ──────────────────────────────────────────────────────────────────────
 
@@ -16,9 +18,9 @@ use Rattle.rules.specs.Mask.{Mask, select, orM, ones, zeros, count}
 unfoldable pub topUp : Catalogue → (fields : List Pair) → Mask → Plan → Plan
 topUp C fs R p′ = cond (ltb (count R) (length (fieldsOf C p′))) (unary (projection (map bare (select R fs))) p′) p′
 
--- the fields that the expressions use, and a request with them
+-- the fields that the references of the expressions find, each the first that fits; and a request with them
 unfoldable pub used : List Expr → List Pair → Mask
-used es fs = map (usesAny es) fs
+used es fs = maskOf (length fs) (concatMap (places fs) es)
 
 unfoldable pub plus : List Expr → List Pair → Mask → Mask
 plus es fs R = orM R (used es fs)
@@ -108,20 +110,18 @@ rightPart j-lanti fl fr R = zeros fr
 rightPart j-rsemi fl fr R = R
 rightPart j-ranti fl fr R = R
 
-unfoldable pub leftExprs : List On → Option Expr → List Expr
-leftExprs os c = map onLeft os ++ condExprs c
-
-unfoldable pub rightExprs : List On → Option Expr → List Expr
-rightExprs os c = map onRight os ++ condExprs c
+-- "For requests a join's references are looked up on each side separately, the first that fits": all of them on either side
+unfoldable pub joinExprs : List On → Option Expr → List Expr
+joinExprs os c = map onLeft os ++ (map onRight os ++ condExprs c)
 
 -- what is asked of the first input, and of the second
 unfoldable pub leftAsk : Binary → List Pair → List Pair → Mask → Mask
 leftAsk union fl fr R = R
-leftAsk (join t os c) fl fr R = plus (leftExprs os c) fl (leftPart t fl R)
+leftAsk (join t os c) fl fr R = plus (joinExprs os c) fl (leftPart t fl R)
 
 unfoldable pub rightAsk : Binary → List Pair → List Pair → Mask → Mask
 rightAsk union fl fr R = R
-rightAsk (join t os c) fl fr R = plus (rightExprs os c) fr (rightPart t fl fr R)
+rightAsk (join t os c) fl fr R = plus (joinExprs os c) fr (rightPart t fl fr R)
 
 unfoldable pub binaryKept : Binary → List Pair → List Pair → Mask → Mask
 binaryKept union fl fr R = R

@@ -1,11 +1,9 @@
 -- The ways to end of the steps of the walk. Assumes nothing.
 use mathlib.Core.Path.{_≡_, refl, sym, subst, _∙_}
-use mathlib.Core.Bool.{Bool, true, false, not}
+use mathlib.Core.Bool.{Bool, true, false}
 use mathlib.Core.List.{List, map}
 use Prim.Native.Nat.{ℕ, _+_, _≤_}
 use native.Mathlib.Omega.{arith}
-use lib.Dec.{T}
-use Rattle.cpl.specs.Accept.{clash}
 use Rattle.cpl.specs.Plan.{Item, Pair, itemExpr}
 use Rattle.cpl.specs.Tests.{allB}
 use Rattle.rules.specs.Mask as mask
@@ -57,8 +55,8 @@ rows-fit js {cells′ = cells′} r d = omega (arith, d .behind, wf-fits cells�
 
 module _ (js : List Item) (fs : List Pair) {none ask : RequiredIndices} (h : Holds none 0 false) (a : Adds (map itemExpr js) fs none ask) where
   -- what the items ask of the input
-  asks-used : T (not (clash fs)) → Asks ask (used (map itemExpr js) fs)
-  asks-used c = adds-alone (map itemExpr js) fs h a c
+  asks-used : Asks ask (used (map itemExpr js) fs)
+  asks-used = adds-alone (map itemExpr js) fs h a
 
   abbrev chosen : Bool → Selection → Used → Chosen
   chosen large list u = record { ask = ask; large = large; list = list; used = u }

@@ -1,11 +1,9 @@
 -- What the steps of the walk say of the lent arrays, and of what they answer.
 use mathlib.Core.Path.{_≡_}
-use mathlib.Core.Bool.{Bool, true, false, not}
+use mathlib.Core.Bool.{Bool, true, false}
 use mathlib.Core.List.{List, map}
 use Prim.Native.Nat.{ℕ, _+_, _*_, _/_, _<_, _≤_}
-use lib.Dec.{T}
 use lib.ListN.{length}
-use Rattle.cpl.specs.Accept.{clash}
 use Rattle.cpl.specs.Exprs.{itemTags}
 use Rattle.cpl.specs.Limits.{maxItems, maxNodes, maxTags}
 use Rattle.cpl.specs.Plan.{Item, Pair, itemExpr}
@@ -76,7 +74,7 @@ TakenIs js u items cells items′ cells′ c false = SelectionIs js u items cell
 
 -- the items js of a projection over the fields fs: "ask the child for the columns they use"
 pub record Picked (js : List Item) (fs : List Pair) (u : Used) (items cells items′ cells′ : List ℕ) (c : Chosen) : Type 0 where
-  pub asks : T (not (clash fs)) → Asks (c .ask) (used (map itemExpr js) fs)
+  pub asks : Asks (c .ask) (used (map itemExpr js) fs)
   pub flag : flagOf (c .ask) ≡ false
   pub taken : TakenIs js u items cells items′ cells′ c (c .large)
 

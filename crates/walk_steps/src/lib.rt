@@ -12,7 +12,7 @@ ghost use Rattle.arena.specs.Rows.{itemsAt, RowsOk};
 ghost use Rattle.lookup.specs.Fields.{rowAt};
 ghost use Rattle.requests.specs.Asked.{Below};
 ghost use Rattle.result.specs.Result.{recordN};
-ghost use Rattle.merge.specs.Step.{Stepped};
+ghost use Rattle.merge.specs.Step.{Reads, Stepped};
 ghost use Rattle.projections.specs.Lists.{FieldsIn, keptItems, Room};
 ghost use Rattle.walk_steps.specs.Steps.{FieldsFor, keptPending, LeftFor, ListOk, ListPut, NodePut, Over, pendingItems, Picked, PutAs, Scratch, ToppedIs};
 use jobs::Job;
@@ -77,7 +77,8 @@ pub struct Chosen {
     pub used: Used,
 }
 
-/// One step of merging the pending list with the n items from row `first` on of the file: a merged list goes to the second scratch arrays.
+/// One step of merging the pending list with the n items from row `first` on of the file: a merged list goes to the second scratch arrays. Each
+/// reference of the pending list finds one of those items.
 pub fn merge_step(
     house: bool,
     mask: u16,
@@ -93,6 +94,7 @@ pub fn merge_step(
 ) -> Step
     requires { ⌜ ListOk list (now rows) (now cells) (now arows) (now acells) ⌝ }
     requires { ⌜ RowsOk (now rows) (now cells) first n ⌝ }
+    requires { ⌜ Reads (pendingItems list (now rows) (now cells) (now arows) (now acells)) (itemsAt (now rows) (now cells) first n) ⌝ }
     requires { ⌜ Scratch (now brows) (now bcells) ⌝ }
     ensures { λ r. ⌜ Stepped house mask (pendingItems list (now (rows .entry)) (now (cells .entry)) (now (arows .entry)) (now (acells .entry))) (itemsAt (now (rows .entry)) (now (cells .entry)) first n) (list .n) r (now (brows .exit)) (now (bcells .exit)) ⌝ }
 {

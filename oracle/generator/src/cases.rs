@@ -20,7 +20,7 @@ pub struct Mix {
 }
 
 /// Of a hundred cases some 20 are chains of projections, one of them doubling its list; 25 have Empties among their leaves;
-/// 8 have broad tables; half ask for all fields.
+/// 8 have broad tables; half refer to fields by their names alone too; half ask for all fields.
 pub fn case(r: &mut Random, mix: Mix) -> Case {
     loop {
         let broad = r.percent(8);
@@ -28,7 +28,8 @@ pub fn case(r: &mut Random, mix: Mix) -> Case {
         let empties = if r.percent(25) { 30 } else { 0 };
         let shape = r.below(100);
         let depth = *r.pick(&[1, 2, 3, 4, 5, 6, 7, 9, 12, 16]);
-        let mut maker = Maker { r, tables, empties, wide: mix.wide };
+        let alone = r.percent(50);
+        let mut maker = Maker { r, tables, empties, alone, wide: mix.wide };
         let (plan, _) = match shape {
             0 => maker.doubling(),
             1..20 => maker.chain(),

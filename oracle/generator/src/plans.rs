@@ -9,6 +9,8 @@ pub struct Maker<'a> {
     pub tables: Vec<Vec<u16>>,
     /// how many of a hundred leaves are Empties
     pub empties: usize,
+    /// also references by their name alone
+    pub alone: bool,
     pub wide: bool,
 }
 
@@ -69,6 +71,16 @@ impl Maker<'_> {
         (plan, fields)
     }
 
+    /// The references that find one of the fields: their pairs and, where names alone are drawn, those that one field fits.
+    fn references(&mut self, fields: &[Pair]) -> Vec<Pair> {
+        let mut out = fields.to_vec();
+        if self.alone && self.r.percent(70) {
+            let names = fields.iter().map(|f| (0, f.1));
+            out.extend(names.filter(|p| !fields.contains(p) && fitting(*p, fields) == 1));
+        }
+        out
+    }
+
     /// `under`: beneath an Aggregate.
     pub fn plan(&mut self, depth: usize, under: bool) -> Made {
         if depth == 0 || self.r.percent(6) {
@@ -87,24 +99,27 @@ impl Maker<'_> {
     }
 
     fn unary(&mut self, kind: &str, (child, fields): Made, under: bool) -> Made {
+        if kind == "projection" {
+            return self.projection(child, fields);
+        }
+        let seen = self.references(&fields);
         let r = &mut *self.r;
         match kind {
-            "projection" => return self.projection(child, fields),
-            "filter" => (Plan::Filter(expr(r, &fields, 2), Box::new(child)), fields),
-            "sort" => (Plan::Sort(keys(r, &fields, 1), Box::new(child)), fields),
+            "filter" => (Plan::Filter(expr(r, &seen, 2), Box::new(child)), fields),
+            "sort" => (Plan::Sort(keys(r, &seen, 1), Box::new(child)), fields),
             "limit" => {
                 let fetch = *r.pick(&[u32::MAX, 5, 0]);
                 (Plan::Limit(r.below(4) as u32, fetch, Box::new(child)), fields)
             }
             "aggregate" => {
                 let n = r.between(0, 2);
-                let groups = items(r, &fields, n);
+                let groups = items(r, &seen, n);
                 let mut shown: Vec<Pair> = groups.iter().map(|i| i.pair).collect();
                 let mut measures = vec![];
                 for _ in 0..r.between(groups.is_empty() as usize, 3) {
                     let (pair, function) = (fresh(r, &shown), r.below(5) as u8);
                     shown.push(pair);
-                    let argument = (function != 0).then(|| expr(r, &fields, 1));
+                    let argument = (function != 0).then(|| expr(r, &seen, 1));
                     measures.push(Measure { pair, function, argument });
                 }
                 (Plan::Aggregate(groups, measures, Box::new(child)), shown)
@@ -115,9 +130,9 @@ impl Maker<'_> {
                     let pair = fresh(r, &shown);
                     shown.push(pair);
                     let function = r.between((under && !self.wide) as usize, 4) as u8;
-                    let partition = (0..r.between(0, 2)).map(|_| expr(r, &fields, 1)).collect();
-                    let order = keys(r, &fields, 0);
-                    let argument = (function != 0).then(|| expr(r, &fields, 1));
+                    let partition = (0..r.between(0, 2)).map(|_| expr(r, &seen, 1)).collect();
+                    let order = keys(r, &seen, 0);
+                    let argument = (function != 0).then(|| expr(r, &seen, 1));
                     calls.push(Call { pair, function, partition, order, argument });
                 }
                 (Plan::Window(calls, Box::new(child)), shown)
@@ -141,7 +156,10 @@ impl Maker<'_> {
         };
         let few = *self.r.pick(&[0, 1, 1, 2, 2, 3, 4]);
         let n = if fields.len() > 20 && self.r.percent(60) { self.r.between(10, fields.len()) } else { few };
-        let list = again.unwrap_or_else(|| items(self.r, &fields, n));
+        let list = again.unwrap_or_else(|| {
+            let seen = self.references(&fields);
+            items(self.r, &seen, n)
+        });
         let shown = list.iter().map(|i| i.pair).collect();
         (Plan::Projection(list, Box::new(child)), shown)
     }
@@ -172,6 +190,7 @@ impl Maker<'_> {
             first.clone()
         } else {
             let (input, below) = self.plan(depth.saturating_sub(2), under);
+            let below = self.references(&below);
             let list = if self.wide && self.r.percent(30) {
                 let list = items(self.r, &below, fields.len());
                 if list.len() < fields.len() {
@@ -206,8 +225,10 @@ impl Maker<'_> {
             }
         }
         let both = [&lf[..], &rf].concat();
-        let on = (0..self.r.between(0, 2)).map(|_| (expr(self.r, &lf, 1), expr(self.r, &rf, 1))).collect();
-        let condition = self.r.percent(50).then(|| expr(self.r, &both, 2));
+        let [left_seen, right_seen, seen] = [&lf, &rf, &both].map(|fields| self.references(fields));
+        let on =
+            (0..self.r.between(0, 2)).map(|_| (expr(self.r, &left_seen, 1), expr(self.r, &right_seen, 1))).collect();
+        let condition = self.r.percent(50).then(|| expr(self.r, &seen, 2));
         let join = Join { kind: self.r.below(8) as u8, on, condition };
         let shown = match join.sides() {
             Sides::Both => both,
@@ -221,5 +242,5 @@ impl Maker<'_> {
 fn uses_only(list: &[Item], fields: &[Pair]) -> bool {
     let mut columns = vec![];
     list.iter().for_each(|i| i.expr.columns(&mut columns));
-    columns.iter().all(|c| fields.contains(c))
+    columns.iter().all(|c| fitting(*c, fields) == 1)
 }

@@ -105,7 +105,7 @@ pub fn broad(w: u16) -> Vec<u8> {
     write(&File { tables: vec![(1..=w).collect(), (101..=100 + w).collect()], plan })
 }
 
-/// `count` random plans of exactly n nodes, scans only, at least one column in each table.
+/// `count` random plans of exactly n nodes, scans only, no name alone, at least one column in each table.
 pub fn random_of(n: usize, count: usize, seed: u64) -> Vec<Vec<u8>> {
     let mut r = Random::new(seed);
     let mut out = vec![];
@@ -114,7 +114,7 @@ pub fn random_of(n: usize, count: usize, seed: u64) -> Vec<Vec<u8>> {
         if tables.iter().any(Vec::is_empty) {
             continue;
         }
-        let mut maker = Maker { r: &mut r, tables, empties: 0, wide: false };
+        let mut maker = Maker { r: &mut r, tables, empties: 0, alone: false, wide: false };
         let (plan, _) = maker.plan(9, false);
         let tables = maker.tables;
         if nodes_in(&plan) == n && accept(&plan, &tables).is_ok() {

@@ -1,4 +1,4 @@
-//! The fields of each node, and codes 7 to 10.
+//! The fields of each node, how a column is found among them, and codes 7 to 10 and 17.
 use crate::exprs::{columns_of, own_exprs};
 use crate::plan::*;
 use crate::read::{Fault, Read};
@@ -9,6 +9,42 @@ pub fn clash(fields: &[Pair]) -> bool {
     let mut all = HashSet::new();
     let bare: HashSet<u16> = fields.iter().filter(|p| p.0 == 0).map(|p| p.1).collect();
     fields.iter().any(|p| !all.insert(p) || (p.0 != 0 && bare.contains(&p.1)))
+}
+
+/// "A column reference without a qualifier shall also find a qualified field of that name; a reference with one still needs
+/// the exact pair."
+pub fn fits(reference: Pair, field: Pair) -> bool {
+    reference.1 == field.1 && (reference.0 == 0 || reference.0 == field.0)
+}
+
+/// The place of the first field that fits.
+pub fn find(reference: Pair, fields: &[Pair]) -> Option<usize> {
+    fields.iter().position(|f| fits(reference, *f))
+}
+
+pub fn fitting(reference: Pair, fields: &[Pair]) -> usize {
+    fields.iter().filter(|f| fits(reference, **f)).count()
+}
+
+/// A node's references, each with the fields among which it is looked up: a join's halves each on their own side, its
+/// condition over both together.
+fn references(plan: &Plan, inputs: &[Vec<Pair>]) -> Vec<(Pair, Vec<Pair>)> {
+    let over = |columns: Vec<Pair>, fields: &[Pair]| columns.into_iter().map(|c| (c, fields.to_vec())).collect();
+    match plan {
+        Plan::Join(join, ..) => {
+            let left: Vec<_> = over(columns_of(join.on.iter().map(|p| &p.0)), &inputs[0]);
+            let right = over(columns_of(join.on.iter().map(|p| &p.1)), &inputs[1]);
+            [left, right, over(columns_of(&join.condition), &inputs.concat())].concat()
+        }
+        _ => inputs.first().map_or(vec![], |fields| over(columns_of(own_exprs(plan)), fields)),
+    }
+}
+
+/// How many references of the plan find a field of another pair: by their name alone.
+pub fn names_alone(plan: &Plan, tables: &[Vec<u16>]) -> usize {
+    let inputs: Vec<_> = plan.children().into_iter().map(|c| fields(c, tables)).collect();
+    let own = references(plan, &inputs).iter().filter(|(c, fields)| !fields.contains(c)).count();
+    own + plan.children().into_iter().map(|c| names_alone(c, tables)).sum::<usize>()
 }
 
 /// A node's fields from its inputs' fields.
@@ -55,18 +91,12 @@ fn node(plan: &Plan, tables: &[Vec<u16>], next: &mut u64) -> Read<Vec<Pair>> {
         inputs.push(node(child, tables, next)?);
     }
     let refuse = |code| Err(Fault { code, place });
-    let lacks = |columns: Vec<Pair>, there: &[&[Pair]]| columns.iter().any(|c| !there.iter().any(|f| f.contains(c)));
-    let unknown = match plan {
-        Plan::Join(join, ..) => {
-            lacks(columns_of(join.on.iter().map(|p| &p.0)), &[&inputs[0]])
-                || lacks(columns_of(join.on.iter().map(|p| &p.1)), &[&inputs[1]])
-                || lacks(columns_of(&join.condition), &[&inputs[0], &inputs[1]])
-        }
-        _ if inputs.is_empty() => false,
-        _ => lacks(columns_of(own_exprs(plan)), &[&inputs[0]]),
-    };
-    if unknown {
+    let found: Vec<usize> = references(plan, &inputs).iter().map(|(c, fields)| fitting(*c, fields)).collect();
+    if found.contains(&0) {
         return refuse(8);
+    }
+    if found.iter().any(|n| *n > 1) {
+        return refuse(17);
     }
     if matches!(plan, Plan::Union(..)) && inputs[0].len() != inputs[1].len() {
         return refuse(9);

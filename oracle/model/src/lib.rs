@@ -1,4 +1,4 @@
-//! Document 01 read a second time, in plain Rust: no contract, no proof, no claim to speed. It serves the generator,
+//! Document 01, with what document 02 changed in it, read a second time, in plain Rust: no contract, no proof, no claim to speed. It serves the generator,
 //! the command `damage` and the naming of known differences. It is no part of the proved library.
 mod accept;
 mod answer;
@@ -10,7 +10,7 @@ mod read_nodes;
 mod rewrite;
 mod write;
 
-pub use accept::{accept, clash, fields};
+pub use accept::{accept, clash, fields, fitting, names_alone};
 pub use answer::{Answer, answer, answer_stale};
 pub use plan::*;
 pub use read::{Fault, Reader};

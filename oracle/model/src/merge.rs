@@ -1,4 +1,5 @@
 //! Merging a projection with those beneath it.
+use crate::accept::fits;
 use crate::exprs::columns_of;
 use crate::plan::*;
 use std::collections::HashMap;
@@ -15,11 +16,12 @@ pub fn merge<'a>(items: &[Item], child: &'a Plan, mask: u16, house: bool) -> Res
             child = input;
             continue;
         }
+        // uses by written pair; the definition is the one that the reference finds
         let mut uses: HashMap<Pair, usize> = HashMap::new();
         for c in columns_of(items.iter().map(|i| &i.expr)) {
             *uses.entry(c).or_default() += 1;
         }
-        let definition = |p: Pair| below.iter().find(|i| i.pair == p).map_or(&Expr::Missing, |i| &i.expr);
+        let definition = |p: Pair| below.iter().find(|i| fits(p, i.pair)).map_or(&Expr::Missing, |i| &i.expr);
         let pushes = |p: Pair| mask >> definition(p).tag() & 1 == 1;
         if uses.is_empty() || uses.iter().any(|(p, n)| *n > 1 && !pushes(*p)) {
             break;

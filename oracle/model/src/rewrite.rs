@@ -1,10 +1,11 @@
 //! The walk. With `stale` it follows the Rust's flag instead of document 01 (docs/DIFFERENCES.md, "A stale schema over
 //! an Empty leaf"): a SubqueryAlias, Union or Join shows its old fields unless an input was reported changed, and an
 //! Aggregate that lost aggregates, or a Window that went, over an unchanged input is not reported.
-use crate::accept::fields;
+use crate::accept::{fields, find};
 use crate::exprs::{call_exprs, columns_of, own_exprs};
 use crate::merge::{Large, merge};
 use crate::plan::*;
+use std::collections::HashSet;
 
 pub struct Setting<'a> {
     pub tables: &'a [Vec<u16>],
@@ -25,10 +26,10 @@ pub fn rewrite(plan: &Plan, request: &[usize], set: &Setting) -> Result<Plan, La
     set.node(plan, request, false).map(|d| d.plan)
 }
 
-/// The request and the places of the columns, in order.
+/// The request and, for each column, the place of the first field that fits, in order.
 fn union(request: &[usize], fields: &[Pair], columns: &[Pair]) -> Vec<usize> {
-    let wanted = |i: &usize| request.contains(i) || columns.contains(&fields[*i]);
-    (0..fields.len()).filter(wanted).collect()
+    let found: HashSet<usize> = columns.iter().filter_map(|c| find(*c, fields)).collect();
+    (0..fields.len()).filter(|i| request.contains(i) || found.contains(i)).collect()
 }
 
 fn at<T: Clone>(list: &[T], request: &[usize], first: usize) -> Vec<T> {
@@ -159,10 +160,10 @@ impl Setting<'_> {
             Sides::Left => (request.to_vec(), vec![]),
             Sides::Right => (vec![], request.to_vec()),
         };
-        let left = columns_of(join.on.iter().map(|p| &p.0).chain(&join.condition));
-        let right = columns_of(join.on.iter().map(|p| &p.1).chain(&join.condition));
-        let a = self.topped(l, &union(&below, &lf, &left), true)?;
-        let b = self.topped(r, &union(&above, &rf, &right), true)?;
+        // every reference of the node is looked up on each side
+        let columns = columns_of(join.on.iter().flat_map(|(l, r)| [l, r]).chain(&join.condition));
+        let a = self.topped(l, &union(&below, &lf, &columns), true)?;
+        let b = self.topped(r, &union(&above, &rf, &columns), true)?;
         let shown = match join.sides() {
             Sides::Both => [&a.shown[..], &b.shown].concat(),
             Sides::Left => a.shown,

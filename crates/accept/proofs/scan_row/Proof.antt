@@ -1,5 +1,5 @@
 -- `accept::scan_row` meets its contract. Assumes nothing.
-use Rattle.accept.proofs.Knowns.{columns-all, columns-given}
+use Rattle.accept.proofs.References.{columns-all, columns-given}
 use Rattle.accept.proofs.Rowed.{row-new, rowed-is}
 use Rattle.cpl.specs.Fields.{scanField}
 use Rattle.cpl.specs.Plan.{rows}

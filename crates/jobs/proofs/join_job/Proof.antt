@@ -4,7 +4,6 @@ use Rattle.arena.specs.Cells.{exprAt}
 use Rattle.tree.specs.Rows.{onsAt}
 use Rattle.tree.specs.Tree.{if?}
 use Rattle.lookup.specs.Fields.{rowAt}
-use Rattle.requests.proofs.Lists.{lefts-ok, ons-left, ons-right, rights-ok}
 use Rattle.jobs.proofs.Plain.{row-long}
 use Rattle.jobs.proofs.Inputs.{join-able, join-two}
 use Rattle.jobs.proofs.join_job.Statement.{statement}
@@ -16,12 +15,12 @@ split-join-requirements-requires c κs = search needs
 side-ask-requires : tie.Need-side-ask-requires
 side-ask-requires c κs =
     let pre = c .before .before .before .before .pre in
-    (lefts-ok (pre .0), (pre .1 .0, pre .1 .1 .0))
+    (pre .0, (pre .1 .0, pre .1 .1 .0))
 
 side-ask-requires-2 : tie.Need-side-ask-requires-2
 side-ask-requires-2 c κs =
     let pre = c .before .before .before .before .before .pre in
-    (rights-ok (pre .0), (pre .1 .0, pre .1 .1 .1 .0))
+    (pre .0, (pre .1 .0, pre .1 .1 .1 .0))
 
 join-kept-requires : tie.Need-join-kept-requires
 join-kept-requires c κs =
@@ -32,7 +31,6 @@ join-kept-requires c κs =
     let pre = c .before .before .before .before .before .before .pre in
     join-able (args .j .«join_type») (onsAt (args .rows .now) (args .cells .now) (args .j .first) (args .j .n)) (if? (args .j .«has_filter») (exprAt (args .cells .now) (args .j .filter)))
     (rowAt (args .fields .now) (args .k) (args .width)) (rowAt (args .fields .now) (args .j .right) (args .rwidth)) (row-long (args .fields .now) (args .k) (args .width))
-    (ons-left (args .rows .now) (args .cells .now) (args .j .first) (args .j .n)) (ons-right (args .rows .now) (args .cells .now) (args .j .first) (args .j .n))
     (split-join-requirements .ensures) (side-ask .ensures) (side-ask2 .ensures) (pre .1 .1 .1 .1 .1)
 
 new-requires : tie.Need-new-requires
@@ -47,7 +45,6 @@ returns c =
     let join-kept = c .before .join-kept in
     join-two (args .j .«join_type») (onsAt (args .rows .now) (args .cells .now) (args .j .first) (args .j .n)) (if? (args .j .«has_filter») (exprAt (args .cells .now) (args .j .filter)))
     (rowAt (args .fields .now) (args .k) (args .width)) (rowAt (args .fields .now) (args .j .right) (args .rwidth)) (row-long (args .fields .now) (args .k) (args .width))
-    (ons-left (args .rows .now) (args .cells .now) (args .j .first) (args .j .n)) (ons-right (args .rows .now) (args .cells .now) (args .j .first) (args .j .n))
     (split-join-requirements .ensures) (side-ask .ensures) (side-ask2 .ensures) _ _ (join-kept .ensures)
 
 pub join-job-spec : {M : Type 1} → statement M

@@ -19,7 +19,9 @@ returns c =
     step-same _ _ _ _ (sym (drops-child .ensures) ∙ if1 .taken)
 
 is-held-requires : tie.Need-is-held-requires
-is-held-requires c κs = search needs
+is-held-requires c κs =
+    let pre = c .before .before .before .before .before .before .before .before .pre in
+    (pre .0, (pre .1 .0, (pre .1 .1 .0, pre .1 .1 .1 .0)))
 
 returns-2 : tie.Need-returns-2
 returns-2 c =
@@ -45,7 +47,7 @@ returns-3 c =
 replace-items-requires : tie.Need-replace-items-requires
 replace-items-requires c κs =
     let pre = c .before .before .before .before .before .before .before .before .before .before .before .before .before .before .pre in
-    (pre .0, (pre .1 .1 .0, (omega (arith, pre .1 .1 .1 .rows-long), (pre .1 .1 .1 .cells-short, wf-none _))))
+    (pre .0, (pre .1 .1 .0, (omega (arith, pre .1 .1 .1 .1 .rows-long), (pre .1 .1 .1 .1 .cells-short, wf-none _))))
 
 enum-told : tie.Need-enum-told
 enum-told c = search needs
@@ -73,7 +75,7 @@ returns-4 c =
     record {
       list = _;
       step = step-put _ _ _ _ (sym (drops-child .ensures) ∙ if1 .left) (sym (is-held .ensures) ∙ if2 .left) (sym (uses-no-column .ensures) ∙ if3 .left);
-      long = too-long _ (over-nodes (pre .1 .1 .1 .cells-long) (rw (enum-told2 .given .1) at (replace-items .ensures)));
+      long = too-long _ (over-nodes (pre .1 .1 .1 .1 .cells-long) (rw (enum-told2 .given .1) at (replace-items .ensures)));
     }
 
 list-tags-requires : tie.Need-list-tags-requires
@@ -82,7 +84,7 @@ list-tags-requires c κs =
     let replace-items = c .before .before .before .before .before .before .before .before .replace-items in
     let pre = c .before .before .before .before .before .before .before .before .before .before .before .before .before .before .before .before .before .before .before .before .before .before .before .pre in
     let o = rw (enum-told .given .1) at (replace-items .ensures) in
-    (o .ok, listed-small (pre .1 .1 .1 .cells-short) (pre .1 .1 .1 .few) o)
+    (o .ok, listed-small (pre .1 .1 .1 .1 .cells-short) (pre .1 .1 .1 .1 .few) o)
 
 same-length-3 : tie.Need-same-length-3
 same-length-3 c = search needs

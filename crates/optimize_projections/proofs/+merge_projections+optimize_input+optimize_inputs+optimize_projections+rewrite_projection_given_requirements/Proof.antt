@@ -4,7 +4,7 @@ use mathlib.Core.Path.{refl, sym, ap, _∙_}
 use Rattle.optimize_projections.proofs.Ends.{scratch-kept}
 use Rattle.optimize_projections.proofs.Inputs.{first-before, first-too-large, leaf-after, nothing-after, one-after, one-before, right-above, same-after, same-before, second-before, topped-after, two-after}
 use Rattle.optimize_projections.proofs.Nodes.{inputs-before, inputs-left, node-after, other-asked}
-use Rattle.optimize_projections.proofs.Merges.{down-after, down-before, file-list, load-after, lower-rows, other-after, over-large, stop-after}
+use Rattle.optimize_projections.proofs.Merges.{down-after, down-before, file-list, load-after, lower-reads, lower-rows, other-after, over-large, stop-after}
 use Rattle.optimize_projections.proofs.Lists.{copies-large, input-before, list-fields, put-after, request-within, top-fields}
 use Rattle.requests.proofs.Rows.{row-below}
 use Prim.Native.Nat.{ℕ, _+_, _*_, _-_, _<_, _≤_}
@@ -209,7 +209,10 @@ merge-projections-returns : (t : ℕ) → merge-projections-lts.Need-returns (me
 merge-projections-returns t c = other-after _ (c .before .before .before .before .before .before .before .before .before .before .before .before .before .before .before .before .before .before .before .before .before .before .before .before .before .node-at .ensures .is) (rw (c .before .before .before .before .before .before .before .before .before .before .before .before .before .before .before .before .before .before .before .before .before .before .enum-told .given .1) at (c .before .before .before .before .before .before .before .before .before .before .before .before .before .before .before .before .before .before .before .before .before .before .before .before .kind-of .ensures)) (c .before .before .before .before .before .before .before .before .before .before .before .before .before .before .rewrite-projection-given-requirements .ensures)
 
 merge-projections-merge-step-requires : (t : ℕ) → merge-projections-lts.Need-merge-step-requires (merge-projections-calls t) (merge-projections-at t) merge-projections.Post
-merge-projections-merge-step-requires t c κs = (c .before .before .before .before .before .before .before .before .before .before .before .before .before .before .before .before .before .before .before .before .before .pre .1 .0 .list, (lower-rows (c .before .before .before .before .before .before .before .before .before .before .before .before .before .before .before .before .before .before .before .before .before .pre .1 .0 .standing) _ (c .before .before .before .before .before .before .before .before .before .before .before .before .before .before .before .before .before .before .before .before .before .pre .1 .0 .within) _ _ (sym (rw (c .before .before .before .before .before .kind .given .1) at (c .before .before .before .before .before .before .before .kind-of .ensures)) ∙ c .before .before .before .before .before .before .before .before .node-at .ensures .is), c .before .before .before .before .before .before .before .before .before .before .before .before .before .before .before .before .before .before .before .before .before .pre .1 .1 .1))
+merge-projections-merge-step-requires t c κs =
+    let pre = c .before .before .before .before .before .before .before .before .before .before .before .before .before .before .before .before .before .before .before .before .before .pre in
+    let e = sym (rw (c .before .before .before .before .before .kind .given .1) at (c .before .before .before .before .before .before .before .kind-of .ensures)) ∙ c .before .before .before .before .before .before .before .before .node-at .ensures .is in
+    (pre .1 .0 .list, (lower-rows (pre .1 .0 .standing) _ (pre .1 .0 .within) _ _ e, (lower-reads (pre .1 .0 .standing) _ (pre .1 .0 .within) _ _ e (pre .1 .0 .items), pre .1 .1 .1)))
 
 merge-projections-enum-told-2 : (t : ℕ) → merge-projections-lts.Need-enum-told-2 (merge-projections-calls t) (merge-projections-at t) merge-projections.Post
 merge-projections-enum-told-2 t c = search needs

@@ -8,18 +8,19 @@ use native.Mathlib.Omega.{arith}
 use Rattle.arena.proofs.Laws.{operand}
 use Rattle.cpl.specs.Exprs.{find}
 use Rattle.cpl.specs.Plan.{Pair, pair}
+use Rattle.cpl.proofs.Lookup.{found-below}
 use Rattle.lookup.proofs.Lists.{list-length}
 use Rattle.lookup.specs.Fields.{fieldAt, rowAt}
 use Rattle.tree.specs.Rows.{one}
 use Rattle.requests.specs.Asked.{Below}
-use Rattle.requests.proofs.Adding.{adds-absent, adds-bin, adds-found, adds-lit, adds-miss, adds-un, found-below}
+use Rattle.requests.proofs.Adding.{adds-absent, adds-bin, adds-found, adds-lit, adds-miss, adds-un}
 use borrow.Fn.Kinds.{In}
 use borrow.Fn.PlainCycle.{Measures, is, falls, and}
 use Rattle.requests.proofs.add_expr.Reads as add-expr
 use Rattle.requests.proofs.add_expr.Kinds as add-expr-kinds
 use Rattle.requests.proofs.+add_expr.Lts-add_expr as lts
 use Rattle.arena.proofs.node_at.Reads as node-at-reads
-use Rattle.lookup.proofs.look_up.Reads as look-up-reads
+use Rattle.lookup.proofs.first_fit.Reads as first-fit-reads
 use Rattle.required_indices.proofs.RequiredIndices.with_index.Reads as with-index-reads
 use Rattle.requests.proofs.+add_expr.{statement}
 use Rattle.requests.proofs.+add_expr.Tie.{close}
@@ -32,7 +33,7 @@ abbrev given : ℕ → In 2 add-expr-kinds.ps
 given t = and 2 add-expr-kinds.ps (is 2 add-expr-kinds.ps μ t) add-expr.Pre
 
 abbrev callees : ℕ → lts.Claims
-callees t = (node-at-reads.Asked, node-at-reads.Learnt, look-up-reads.Asked, look-up-reads.Learnt, with-index-reads.Asked, with-index-reads.Learnt, and 2 add-expr-kinds.ps (falls 2 add-expr-kinds.ps _<_ μ t) add-expr.Pre, add-expr.Post)
+callees t = (node-at-reads.Asked, node-at-reads.Learnt, first-fit-reads.Asked, first-fit-reads.Learnt, with-index-reads.Asked, with-index-reads.Learnt, and 2 add-expr-kinds.ps (falls 2 add-expr-kinds.ps _<_ μ t) add-expr.Pre, add-expr.Post)
 
 -- a field's index is one of a set
 place-fits : {fields : List ℕ} {k width : ℕ} (c : Pair) (i : ℕ) → Below fields k width → some i ≡ find c (rowAt fields k width) → i < 128
@@ -47,8 +48,13 @@ module _ (t : ℕ) where
   enum-known-v : lts.Need-enum-known-v (callees t) (given t) add-expr.Post
   enum-known-v c = search needs
 
-  look-up-requires : lts.Need-look-up-requires (callees t) (given t) add-expr.Post
-  look-up-requires c κs =
+  mul-first-fit : lts.Need-mul-first-fit (callees t) (given t) add-expr.Post
+  mul-first-fit c =
+      let pre = c .before .before .before .before .before .before .pre in
+      omega (arith, pre .1 .1 .inside)
+
+  first-fit-requires : lts.Need-first-fit-requires (callees t) (given t) add-expr.Post
+  first-fit-requires c κs =
       let pre = c .before .before .before .before .before .before .pre in
       pre .1 .1 .inside
 
@@ -63,15 +69,15 @@ module _ (t : ℕ) where
       let v = c .before .before .before .before .v in
       let node-at = c .before .before .before .before .before .before .node-at in
       let enum-told = c .enum-told in
-      let look-up = c .before .before .look-up in
-      adds-absent _ (rw (v .given .1) at (node-at .ensures)) (sym (rw (enum-told .given .1) at (look-up .ensures)))
+      let first-fit = c .before .before .first-fit in
+      adds-absent _ (rw (v .given .1) at (node-at .ensures)) (sym (rw (enum-told .given .1) at (first-fit .ensures)))
 
   with-index-requires : lts.Need-with-index-requires (callees t) (given t) add-expr.Post
   with-index-requires c κs =
       let pre = c .before .before .before .before .before .before .before .before .before .before .pre in
       let f = c .before .f in
-      let look-up = c .before .before .before .look-up in
-      place-fits _ _ (pre .1 .1) (rw (f .given .1) at (look-up .ensures))
+      let first-fit = c .before .before .before .first-fit in
+      place-fits _ _ (pre .1 .1) (rw (f .given .1) at (first-fit .ensures))
 
   enum-told-2 : lts.Need-enum-told-2 (callees t) (given t) add-expr.Post
   enum-told-2 c = search needs
@@ -114,9 +120,9 @@ module _ (t : ℕ) where
       let v = c .before .before .before .before .before .before .v in
       let node-at = c .before .before .before .before .before .before .before .before .node-at in
       let f = c .before .before .f in
-      let look-up = c .before .before .before .before .look-up in
+      let first-fit = c .before .before .before .before .first-fit in
       let with-index = c .with-index in
-      adds-found _ (rw (v .given .1) at (node-at .ensures)) _ (sym (rw (f .given .1) at (look-up .ensures))) (with-index .ensures)
+      adds-found _ (rw (v .given .1) at (node-at .ensures)) _ (sym (rw (f .given .1) at (first-fit .ensures))) (with-index .ensures)
 
   returns-3 : lts.Need-returns-3 (callees t) (given t) add-expr.Post
   returns-3 c =
@@ -148,4 +154,4 @@ module _ (t : ℕ) where
 pub +add-expr-spec : {M : Type 1} → statement M
 +add-expr-spec = close μ λ t.
     lts.spec (callees t) (given t) add-expr.Post
-    (node-at-requires t) (enum-known-v t) (look-up-requires t) (enum-known-f t) (enum-told t) (returns t) (with-index-requires t) (enum-told-2 t) (enum-told-3 t) (enum-known-v-2 t) (add-expr-requires t) (enum-known-v-3 t) (add-expr-requires-2 t) (add-expr-requires-3 t) (returns-2 t) (returns-3 t) (returns-4 t) (returns-5 t) (returns-6 t)
+    (node-at-requires t) (enum-known-v t) (mul-first-fit t) (first-fit-requires t) (enum-known-f t) (enum-told t) (returns t) (with-index-requires t) (enum-told-2 t) (enum-told-3 t) (enum-known-v-2 t) (add-expr-requires t) (enum-known-v-3 t) (add-expr-requires-2 t) (add-expr-requires-3 t) (returns-2 t) (returns-3 t) (returns-4 t) (returns-5 t) (returns-6 t)

@@ -8,7 +8,7 @@ merge-consecutive-projections-requires : tie.Need-merge-consecutive-projections-
 merge-consecutive-projections-requires c κs =
     let if1 = c .before .before .if1 in
     let pre = c .before .before .before .before .before .before .before .before .before .pre in
-    (rw (if1 .taken) at (pre .0 .rows-ok), (rw (if1 .taken) at (pre .0 .tags), (pre .1 .0, merge-room (pre .0) (pre .1 .1))))
+    (rw (if1 .taken) at (pre .0 .rows-ok), (rw (if1 .taken) at (pre .0 .tags), (pre .1 .0, (rw (if1 .taken) at (pre .1 .1 .0), merge-room (pre .0) (pre .1 .1 .1)))))
 
 same-length : tie.Need-same-length
 same-length c = search needs
@@ -26,7 +26,7 @@ merge-consecutive-projections-requires-2 : tie.Need-merge-consecutive-projection
 merge-consecutive-projections-requires-2 c κs =
     let if1 = c .before .before .if1 in
     let pre = c .before .before .before .before .before .before .before .before .before .pre in
-    (rw (if1 .left) at (pre .0 .rows-ok), (rw (if1 .left) at (pre .0 .tags), (pre .1 .0, merge-room (pre .0) (pre .1 .1))))
+    (rw (if1 .left) at (pre .0 .rows-ok), (rw (if1 .left) at (pre .0 .tags), (pre .1 .0, (rw (if1 .left) at (pre .1 .1 .0), merge-room (pre .0) (pre .1 .1 .1)))))
 
 same-length-3 : tie.Need-same-length-3
 same-length-3 c = search needs

@@ -2,13 +2,13 @@
 //! document 01, both modes; code, length, place and result compared. Says nothing about the Rust. Exit status 1 if one differs.
 use compare::{Library, ROOM, ended, numbers};
 use generator::{Case, Mix, Random, case, hex, line};
-use model::{Fault, File, Join, Plan, fields, read, write};
+use model::{Expr, Fault, File, Join, Plan, fields, read, write};
 use simmerroof::Mode;
 use std::collections::BTreeMap;
 
 fn damage(r: &mut Random, case: &mut Case) {
     let n = case.file.len();
-    match r.below(9) {
+    match r.below(10) {
         0 => case.file.truncate(r.below(n + 1)),
         1 => case.file.push(r.below(256) as u8),
         2..=4 => {
@@ -26,6 +26,7 @@ fn damage(r: &mut Random, case: &mut Case) {
             case.file.splice(at..at, part);
         }
         7 => case.file = broadened(r, &case.file),
+        8 => case.file = doubled(r, &case.file),
         _ => {
             let mut request = case.request.clone().unwrap_or_default();
             request.push(r.below(12) as u16);
@@ -47,6 +48,23 @@ fn broadened(r: &mut Random, file: &[u8]) -> Vec<u8> {
     for _ in 0..r.below(3) {
         plan = Plan::Distinct(Box::new(plan));
     }
+    write(&File { tables, plan })
+}
+
+/// The plan joined with itself under another qualifier, so that names alone fit two fields: one of them as a half of the join, in
+/// its condition or in a filter over it, at times with a name that no field has.
+fn doubled(r: &mut Random, file: &[u8]) -> Vec<u8> {
+    let File { tables, plan } = read(file).expect("accepted");
+    let mut names: Vec<u16> = fields(&plan, &tables).iter().map(|f| f.1).collect();
+    names.extend([1, 9]);
+    let place = r.below(3);
+    let mut name = || Expr::Column((*r.pick(&[0, 0, 0, 98]), *r.pick(&names)));
+    let test = Expr::Binary(8, Box::new(name()), Box::new(name()));
+    let on = if place == 0 { vec![(name(), name())] } else { vec![] };
+    let condition = (place == 1).then(|| test.clone());
+    let again = Plan::SubqueryAlias(98, Box::new(plan.clone()));
+    let join = Plan::Join(Join { kind: r.below(8) as u8, on, condition }, Box::new(plan), Box::new(again));
+    let plan = if place == 2 { Plan::Filter(test, Box::new(join)) } else { join };
     write(&File { tables, plan })
 }
 

@@ -2,7 +2,7 @@
 //! compared byte by byte. Exit status 1 if a difference is not explained.
 use compare::{Library, Verdict, ended, numbers, shrink, verdict};
 use generator::{Case, Mix, Random, case, hex, line};
-use model::{Plan, fields, nodes_in, read};
+use model::{Plan, fields, names_alone, nodes_in, read};
 use simmerroof::Mode;
 use std::collections::BTreeMap;
 
@@ -11,6 +11,7 @@ struct Counts {
     equal: usize,
     changed: usize,
     asking: usize,
+    alone: usize,
     largest: usize,
     most_nodes: usize,
     broadest: usize,
@@ -54,6 +55,7 @@ fn run(n: usize, seed: u64, wide: bool, slip: bool) -> bool {
         c.most_nodes = c.most_nodes.max(nodes_in(&file.plan));
         c.broadest = c.broadest.max(fields(&file.plan, &file.tables).len());
         c.asking += case.request.is_some() as usize;
+        c.alone += (names_alone(&file.plan, &file.tables) > 0) as usize;
         c.largest = c.largest.max(case.file.len());
         c.changed += (texts.as_ref() != Ok(&case.file)) as usize;
         match verdict(&case, &texts, &answer) {
@@ -65,6 +67,7 @@ fn run(n: usize, seed: u64, wide: bool, slip: bool) -> bool {
     }
     println!("{n} plans, seed {seed}{}: {} equal, {} differ", if wide { ", wide" } else { "" }, c.equal, n - c.equal);
     println!("  asking for some fields only: {}; changed by the pass: {}", c.asking, c.changed);
+    println!("  with a name alone that finds a field with a qualifier: {}", c.alone);
     println!("  longest file {} bytes, most nodes {}, most fields of a root {}", c.largest, c.most_nodes, c.broadest);
     println!("  nodes: {}", c.kinds.iter().map(|(k, n)| format!("{k} {n}")).collect::<Vec<_>>().join(", "));
     println!("  joins by type 0 to 7: {:?}", c.joins);

@@ -68,16 +68,27 @@ impl DFSchema {
     pub fn qualified_field(&self, i: usize) -> (Option<&TableReference>, &FieldRef) {
         (self.field_qualifiers[i].as_ref(), &self.inner.fields[i])
     }
-    /// [D4] Document 01: "A column is found by its exact pair."
+    /// [D4] Document 02: without a qualifier the first field of that name, with one the exact pair.
     pub fn maybe_index_of_column(&self, col: &Column) -> Option<usize> {
-        self.iter().position(|(q, f)| f.name() == &col.name && q == col.relation.as_ref())
+        self.iter().position(|(q, f)| fits(col, q, f))
     }
     pub fn index_of_column(&self, col: &Column) -> Result<usize> {
         self.maybe_index_of_column(col).ok_or_else(|| DataFusionError::SchemaError(format!("no field {col}")))
     }
+    /// [D13] As constructors look a column up: where two fields fit it is refused.
+    pub fn field_from_column(&self, col: &Column) -> Result<&FieldRef> {
+        let at = self.index_of_column(col)?;
+        if col.relation.is_none() && self.iter().skip(at + 1).any(|(q, f)| fits(col, q, f)) {
+            return Err(DataFusionError::SchemaError(format!("ambiguous reference {col}")));
+        }
+        Ok(&self.inner.fields[at])
+    }
     pub fn functional_dependencies(&self) -> &FunctionalDependencies {
         &self.functional_dependencies
     }
+}
+fn fits(col: &Column, q: Option<&TableReference>, f: &FieldRef) -> bool {
+    f.name() == &col.name && (col.relation.is_none() || q == col.relation.as_ref())
 }
 impl TryFrom<Arc<Schema>> for DFSchema {
     type Error = DataFusionError;

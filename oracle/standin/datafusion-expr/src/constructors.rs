@@ -5,19 +5,19 @@ use datafusion_common::tree_node::{TreeNode, TreeNodeRecursion};
 use datafusion_common::{DFSchema, DFSchemaRef, DataFusionError, JoinType, Result, TableReference, number_field};
 use std::sync::Arc;
 
-/// [D13] Every column of an expression must be found in the input.
+/// [D13] Every column of an expression must be found in the input, and only once.
 pub fn check_columns(e: &Expr, input: &DFSchema) -> Result<()> {
     e.apply(|e| {
         if let Expr::Column(c) = e {
-            input.index_of_column(c)?;
+            input.field_from_column(c)?;
         }
         Ok(TreeNodeRecursion::Continue)
     })
     .map(|_| ())
 }
 
-/// [D14] The fields of a list of items: each keeps its pair; a column's field is the input's own, anything else gets
-/// a fresh one.
+/// [D14] The fields of a list of items: each keeps its pair, a column the one that is written; a column's field is the
+/// input's own, anything else gets a fresh one.
 fn fields_of<'a>(
     exprs: impl IntoIterator<Item = &'a Expr>,
     input: &DFSchema,
@@ -25,10 +25,7 @@ fn fields_of<'a>(
 ) -> Result<()> {
     for e in exprs {
         out.push(match e {
-            Expr::Column(c) => {
-                let (q, f) = input.qualified_field(input.index_of_column(c)?);
-                (q.cloned(), Arc::clone(f))
-            }
+            Expr::Column(c) => (c.relation.clone(), Arc::clone(input.field_from_column(c)?)),
             e => {
                 check_columns(e, input)?;
                 let (q, n) = e.qualified_name();

@@ -1,0 +1,124 @@
+-- Masks that cover expressions: they keep each field that a reference of the expressions finds. What is asked of an input covers what its node uses.
+use mathlib.Core.Path.{_≡_, refl, _∙_, ap, subst}
+use mathlib.Core.List.{List, [], _∷_, _++_, map}
+use mathlib.Core.Bool.{Bool, true, false}
+use mathlib.Core.Option.{Option, some}
+use Prim.Native.Nat.{ℕ, zero, suc, _+_, _<_}
+use native.Mathlib.Omega.{arith}
+use lib.Dec.{T, eqb}
+use lib.ListN.{length, getD}
+use Rattle.cpl.specs.Tests.{anyB, concatMap, iota}
+use Rattle.cpl.specs.Lists.{All, a[], _a∷_, z[], _z∷_, Fit}
+use Rattle.cpl.specs.Plan.{Pair, Expr, col, lit, miss, un, bin}
+use Rattle.cpl.specs.Exprs.{fits, next, find, found, places, references}
+use Rattle.cpl.proofs.Lists.{each-number, All-left, All-right, All-map, All-both, All-++, Fit-++}
+use Rattle.cpl.proofs.Lookup.{find-here, find-past}
+use Rattle.rules.specs.Mask.{Mask, LeB, LeM}
+use Rattle.rules.specs.Request.{maskOf}
+use Rattle.rules.specs.Rules.{used}
+use Rattle.rules.proofs.Masks.{LeM-fit}
+use Rattle.rules.proofs.Requests.{fit-mask}
+
+-- ── what is covered ─────────────────────────────────────────────────────────────────────────
+
+-- the mask keeps the first field that fits the reference, if one does
+pub data Holds (c : Pair) : List Pair → Mask → Type 0 where
+  h[] : Holds c [] []
+  here : {f : Pair} {fs : List Pair} {ks : Mask} → fits c f ≡ true → Fit ks fs → Holds c (f ∷ fs) (true ∷ ks)
+  past : {f : Pair} {k : Bool} {fs : List Pair} {ks : Mask} → fits c f ≡ false → Holds c fs ks → Holds c (f ∷ fs) (k ∷ ks)
+
+-- the field of each reference of the expression
+abbrev pub Covers : Expr → List Pair → Mask → Type 0
+Covers e fs K = All (λ c. Holds c fs K) (references e)
+
+abbrev pub Cov : List Expr → List Pair → Mask → Type 0
+Cov es fs K = All (λ e. Covers e fs K) es
+
+module _ {fs : List Pair} {K : Mask} where
+  pub used-left : (es ds : List Expr) → Cov (es ++ ds) fs K → Cov es fs K
+  used-left es ds v = All-left es ds v
+
+  pub used-right : (es ds : List Expr) → Cov (es ++ ds) fs K → Cov ds fs K
+  used-right es ds v = All-right es ds v
+
+  pub used-head : (e : Expr) (es : List Expr) → Cov (e ∷ es) fs K → Covers e fs K
+  used-head e es (h a∷ hs) = h
+
+  pub used-tail : (e : Expr) (es : List Expr) → Cov (e ∷ es) fs K → Cov es fs K
+  used-tail e es (h a∷ hs) = hs
+
+-- ── over two sides ──────────────────────────────────────────────────────────────────────────
+
+holds-fit : {c : Pair} {fs : List Pair} {K : Mask} → Holds c fs K → Fit K fs
+holds-fit h[] = z[]
+holds-fit (here e f) = tt z∷ f
+holds-fit (past e h) = tt z∷ holds-fit h
+
+-- the first that fits on each side is kept, so the first of both sides together is
+holds-both : {c : Pair} {fl fr : List Pair} {Kl Kr : Mask} → Holds c fl Kl → Holds c fr Kr → Holds c (fl ++ fr) (Kl ++ Kr)
+holds-both h[] r = r
+holds-both (here e f) r = here e (Fit-++ f (holds-fit r))
+holds-both (past e h) r = past e (holds-both h r)
+
+pub cov-both : {es : List Expr} {fl fr : List Pair} {Kl Kr : Mask} → Cov es fl Kl → Cov es fr Kr → Cov es (fl ++ fr) (Kl ++ Kr)
+cov-both h k = All-map (λ e v. All-map (λ c w. holds-both (w .0) (w .1)) (All-both (v .0) (v .1))) (All-both h k)
+
+-- ── what is asked covers what is used ───────────────────────────────────────────────────────
+
+-- the mask has that index
+Has : Mask → ℕ → Type 0
+Has K i = T (getD K i false)
+
+-- a mask that contains a request has its indices
+in-mask : (P : ℕ → Bool) (k n : ℕ) {K : Mask} → LeM (map P (iota k n)) K → (i : ℕ) → i < n → T (P (k + i)) → Has K i
+unfolding iota Has
+in-mask P k zero l i h t = absurd (omega arith)
+in-mask P k (suc n) (_z∷_ {x = b} {y = c} l ls) zero h t = go (P k) c l (let e : k + 0 ≡ k = omega arith in rw e at t)
+  where
+    go : (b c : Bool) → LeB b c → T b → T c
+    go true c l t = l
+    go false c l t = absurd t
+in-mask P k (suc n) (_z∷_ {ys = ks} l ls) (suc i) h t = in-mask P (suc k) n ls i (omega arith) (let e : k + suc i ≡ suc k + i = omega arith in rw e at t)
+
+-- of each of these places, if it is one of the fields, the mask has the index
+abbrev Placed : List Pair → Mask → List ℕ → Type 0
+Placed fs K is = All (λ i. i < length fs → Has K i) is
+
+placed : (fs : List Pair) (is : List ℕ) {K : Mask} → LeM (maskOf (length fs) is) K → Placed fs K is
+unfolding maskOf
+placed fs is l = each-number _ is (λ i t h. in-mask (λ i. anyB (eqb i) is) 0 (length fs) l i h (let e : 0 + i ≡ i = omega arith in rw e t))
+
+next-place : {o : Option ℕ} {i : ℕ} → o ≡ some i → next o ≡ some (suc i)
+unfolding next
+next-place e = ap next e
+
+holds : (c : Pair) {fs : List Pair} {K : Mask} → Fit K fs → ((i : ℕ) → find c fs ≡ some i → i < length fs → Has K i) → Holds c fs K
+unfolding Has
+holds c z[] h = h[]
+holds c (_z∷_ {x = k} {y = f} {xs = K} {ys = fs} _ fit) h = go (fits c f) refl k (h 0) (λ e. holds c fit (λ i p l. h (suc i) (find-past c f fs e ∙ next-place p) (omega arith)))
+  where
+    go : (b : Bool) → fits c f ≡ b → (k : Bool) → (find c (f ∷ fs) ≡ some 0 → 0 < suc (length fs) → T k) → (fits c f ≡ false → Holds c fs K) → Holds c (f ∷ fs) (k ∷ K)
+    go true e true g r = here e fit
+    go true e false g r = absurd (g (find-here c f fs e) (omega arith))
+    go false e k g r = past e (r e)
+
+module _ {fs : List Pair} {K : Mask} (fit : Fit K fs) where
+  covers-placed : (e : Expr) → Placed fs K (places fs e) → Covers e fs K
+  unfolding places found references
+  covers-placed (col c) h = holds c fit (λ i p l. at-one i (subst (λ o. Placed fs K (found o)) p h) l) a∷ a[]
+    where
+      at-one : (i : ℕ) → Placed fs K (i ∷ []) → i < length fs → Has K i
+      at-one i (g a∷ gs) l = g l
+  covers-placed (lit z) h = a[]
+  covers-placed miss h = a[]
+  covers-placed (un o a) h = covers-placed a h
+  covers-placed (bin o a b) h = All-++ (covers-placed a (All-left (places fs a) (places fs b) h)) (covers-placed b (All-right (places fs a) (places fs b) h))
+
+  cov-placed : (es : List Expr) → Placed fs K (concatMap (places fs) es) → Cov es fs K
+  unfolding concatMap
+  cov-placed [] h = a[]
+  cov-placed (e ∷ es) h = covers-placed e (All-left (places fs e) (concatMap (places fs) es) h) a∷ cov-placed es (All-right (places fs e) (concatMap (places fs) es) h)
+
+pub used-cov : (es : List Expr) (fs : List Pair) {K : Mask} → LeM (used es fs) K → Cov es fs K
+unfolding used
+used-cov es fs l = cov-placed (LeM-fit l (fit-mask (concatMap (places fs) es) fs)) es (placed fs (concatMap (places fs) es) l)
