@@ -13,8 +13,8 @@ use Rattle.cpl.specs.ReadPlan.{readFile}
 use Rattle.cpl.specs.Tests.{iota}
 use Rattle.rules.specs.Answer as rules
 use Rattle.rules.specs.Answer.{answerAll, checked, deliver, judged, mergeOf, refusal, reply, settingsOk, success, verdict}
-use Rattle.pruner.specs.Answers.{AnswerIs}
-use Rattle.pruner.specs.declared.Answer.{Answer}
+use Rattle.answers.specs.Answers.{AnswerIs}
+use Rattle.answers.specs.declared.Answer.{Answer}
 use Rattle.writer_parts.specs.Wrote.{Wrote, over}
 use Rattle.listing.specs.Text.{checkedText, countText, listText, planText, readText, refusedText}
 use Rattle.calls.specs.Calls.{listed, listedPlan, numbersText, said, textOf}

@@ -13,8 +13,8 @@ use Rattle.cpl.specs.ReadPlan.{readFile}
 use Rattle.cpl.specs.Tests.{iota}
 use Rattle.rules.specs.Answer as rules
 use Rattle.rules.specs.Answer.{answer, answerAll, reply, verdict}
-use Rattle.pruner.specs.Answers.{AnswerIs}
-use Rattle.pruner.specs.declared.Answer.{Answer}
+use Rattle.answers.specs.Answers.{AnswerIs}
+use Rattle.answers.specs.declared.Answer.{Answer}
 use Rattle.writer_parts.specs.Wrote.{Wrote}
 use Rattle.writer_parts.proofs.Over.{so, start, then}
 use Rattle.listing.specs.Lines.{Counts, Puts}

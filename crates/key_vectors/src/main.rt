@@ -6,7 +6,7 @@
 //! another form counts as one that differs.
 ghost use mathlib.Core.Path.{_≡_};
 ghost use lib.ListN.{length};
-use predicate_writer::Answer;
+use answers::Answer;
 use vector_text::Parsed;
 
 // What stands in the output buffer before a call.

@@ -23,8 +23,8 @@ use Rattle.rules.specs.Success.{Success, sourceOf, wrote}
 use Rattle.rules.proofs.Successes.{read-back}
 use Rattle.writer_parts.specs.Wrote.{Wrote}
 use Rattle.writer_parts.proofs.Over.{so}
-use Rattle.pruner.specs.Answers.{AnswerIs}
-use Rattle.pruner.specs.declared.Answer.{Answer}
+use Rattle.answers.specs.Answers.{AnswerIs}
+use Rattle.answers.specs.declared.Answer.{Answer}
 use Rattle.listing.specs.Text.{answerText, lentOut, listText, planText, printedText, refusedText}
 use Rattle.listing.proofs.Files.{fine}
 

@@ -35,9 +35,11 @@ use Rattle.join_key_set.proofs.Remove.{joint-tags}
 use Rattle.join_key_set.specs.declared.Left.{Left}
 use Rattle.join_key_set.specs.declared.Left.the-variants.{Nothing, Node}
 use Rattle.predicate_reader.specs.Arguments.{TookKeys, TookPredicate}
-use Rattle.predicate_writer.specs.Answers.{AnswerIs, LeftOk, leftOf}
-use Rattle.predicate_writer.specs.declared.Answer.{Answer}
-use Rattle.predicate_writer.proofs.Ends.{Refuses, expr-short, refuses}
+use Rattle.answers.specs.Answers.{AnswerIs}
+use Rattle.answers.specs.declared.Answer.{Answer}
+use Rattle.answers.proofs.Ends.{Refuses, refuses}
+use Rattle.predicate_writer.specs.Left.{LeftOk, leftOf}
+use Rattle.predicate_writer.proofs.Ends.{expr-short}
 use Rattle.predicate_keys.specs.Given.{Given, without}
 
 -- an empty set

@@ -3,15 +3,15 @@
 //! `join_keys` and `without_keys` make the arrays that they work in; `join_keys_in` and `without_keys_in` are lent them, and say nothing of what they
 //! held or hold.
 ghost use mathlib.Core.Path.{_≡_};
+ghost use Rattle.answers.specs.Answers.{AnswerIs};
 ghost use Rattle.arena.specs.Cells.{exprAt};
 ghost use Rattle.join_keys.specs.Entries.{joinKeysAnswer, withoutKeysAnswer};
 ghost use Rattle.join_keys.specs.Promise.{KeysPromise, LeftPromise};
 ghost use Rattle.join_key_set.specs.Pairs.{keysAt};
-ghost use Rattle.predicate_writer.specs.Answers.{AnswerIs};
 ghost use Rattle.predicate_keys.specs.Given.{Given, without};
+use answers::Answer;
 use join_key_set::Filled;
 use join_key_set::JoinKeySet;
-use predicate_writer::Answer;
 use reader_fields::Parsed;
 
 /// The join keys of a predicate, worked out in lent arrays.
@@ -27,12 +27,12 @@ pub fn join_keys_in(
 {
     let read = predicate_reader::read_predicate(predicate, cells);
     match read {
-        Parsed::Bad(code, place) => predicate_writer::refuse(code, place),
+        Parsed::Bad(code, place) => answers::refuse(code, place),
         Parsed::Done(s) => {
             let none = JoinKeySet { start: 0, size: 0 };
             let filled = join_key_set::extract_possible_join_keys(cells, pairs, none, s.made - 1);
             match filled {
-                Filled::Pairs => predicate_writer::refuse(18, 0),
+                Filled::Pairs => answers::refuse(18, 0),
                 Filled::Set(keys) => predicate_writer::write_keys(
                     cells,
                     pairs,
@@ -74,7 +74,7 @@ fn remove_given(
     let given = JoinKeySet { start: 0, size: n };
     let filled = none.insert_all(cells, pairs, given);
     match filled {
-        Filled::Pairs => predicate_writer::refuse(18, 0),
+        Filled::Pairs => answers::refuse(18, 0),
         Filled::Set(set) => {
             let left = join_key_set::remove_join_expressions(cells, used, node, pairs, set);
             predicate_writer::write_left(cells, left, out)
@@ -96,11 +96,11 @@ pub fn without_keys_in(
 {
     let read = predicate_reader::read_predicate(predicate, cells);
     match read {
-        Parsed::Bad(code, place) => predicate_writer::refuse(code, place),
+        Parsed::Bad(code, place) => answers::refuse(code, place),
         Parsed::Done(s) => {
             let given = predicate_reader::read_keys(keys, s.made, cells, rows, pairs);
             match given {
-                Parsed::Bad(code, place) => predicate_writer::refuse(code, place),
+                Parsed::Bad(code, place) => answers::refuse(code, place),
                 Parsed::Done(t) => remove_given(cells, s.made - 1, t.made, pairs, t.row, out),
             }
         }

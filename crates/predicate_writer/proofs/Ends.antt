@@ -1,4 +1,4 @@
--- The ways that a call can end: refused, for want of room, or written. Assumes nothing.
+-- How long keys and what is left of a predicate are, and that they are written. Assumes nothing.
 use mathlib.Core.Path.{_≡_, refl, sym, ap, _∙_}
 use mathlib.Core.Bool.{true}
 use mathlib.Core.List.{List, _++_}
@@ -6,13 +6,12 @@ use mathlib.Core.Option.{none, some}
 use Prim.Native.Nat.{ℕ, _+_, _*_, _-_, _<_, _≤_}
 use native.Mathlib.Omega.{arith}
 use lib.ListN.{drop, length, length-append, take}
-use borrow.Author.Tests.{le-leb, lt-leb}
 use Rattle.cpl.specs.Bytes.{bytes, condBytes, exprBytes, onBytes, pairBytes}
 use Rattle.cpl.specs.Codes.{unsigned}
 use Rattle.cpl.specs.Exprs.{exprTags, onTags}
 use Rattle.cpl.specs.Plan.{Expr, bin, col, lit, miss, pair, un}
 use Rattle.cpl.specs.Tests.{sumOf}
-use Rattle.rules.specs.Answer.{refusal, success, written}
+use Rattle.rules.specs.Answer.{written}
 use Rattle.arena.specs.Cells.{Wf}
 use Rattle.tree.specs.Rows.{onAt}
 use Rattle.writer_parts.specs.Wrote.{Countable, Laid, Wrote, over}
@@ -26,27 +25,14 @@ use Rattle.join_keys.specs.Entries.{keysBytes}
 use Rattle.join_key_set.specs.Pairs.{KeysIn, KeysOk, keysAt, leftAt, rightAt}
 use Rattle.key_rows.specs.Rows.{SameKeys}
 use Rattle.key_rows.proofs.Rows.{rows-ok, same-list}
-use Rattle.predicate_writer.specs.Answers.{AnswerIs}
-use Rattle.predicate_writer.specs.declared.Answer.{Answer}
-
--- r is a refusal with this code and place
-abbrev pub Refuses : Answer → (code place : ℕ) → Type 0
-Refuses r code place = (r .code ≡ code) × (r .length ≡ 0) × (r .place ≡ place)
-
--- it leaves the buffer
-pub refuses : {r : Answer} {code place : ℕ} (out : List ℕ) → Refuses r code place → AnswerIs (refusal code place out) r out
-unfolding refusal
-refuses out h = record { code-is = h .0; length-is = h .1; place-is = h .2; out-is = refl }
-
--- "ROOM: output shorter than the result; length needed"
-pub no-room : {r : Answer} {n : ℕ} (bs out : List ℕ) → n ≡ length bs → length out < n → Refuses r 13 n → AnswerIs (written bs out) r out
-unfolding written
-no-room bs out e l h = rw (lt-leb (length bs) (length out) (omega arith)) (refuses out (h .0, h .1, h .2 ∙ e))
+use Rattle.answers.specs.Answers.{AnswerIs}
+use Rattle.answers.specs.declared.Answer.{Answer}
+use Rattle.answers.proofs.Ends as ends
 
 -- "success is code 0 with the bytes written and place 0"
 pub written-out : {r : Answer} {n : ℕ} {out′ : List ℕ} (bs out : List ℕ) → n ≤ length out → Wrote bs out n out′ → r .code ≡ 0 → r .length ≡ n → r .place ≡ 0 → AnswerIs (written bs out) r out′
-unfolding written success over
-written-out bs out l w c d p = rw (le-leb (length bs) (length out) (omega (arith, w .long))) (record { code-is = c; length-is = d ∙ w .long; place-is = p; out-is = w .ends })
+unfolding over
+written-out bs out l w c d p = ends.written-out bs out (omega (arith, w .long)) (c, d ∙ w .long, p) (w .ends)
 
 -- ── how long ────────────────────────────────────────────────────────────────────────────────
 

@@ -1,2 +1,2 @@
--- What a call answers.
-pub mod Answers
+-- What is left of a predicate.
+pub mod Left

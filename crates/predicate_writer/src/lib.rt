@@ -1,34 +1,18 @@
-//! predicate_writer: the answers of the entries over predicates. A refusal; or keys, or what is left of a predicate, counted and written.
+//! predicate_writer: the answers of the entries over predicates. Keys, or what is left of a predicate, counted and written.
 ghost use mathlib.Core.Path.{_≡_};
 ghost use Prim.Native.Nat.{_≤_};
 ghost use lib.ListN.{length};
 ghost use Rattle.cpl.specs.Exprs.{onTags};
 ghost use Rattle.cpl.specs.Tests.{sumOf};
 ghost use Rattle.rules.specs.Answer.{written};
+ghost use Rattle.answers.specs.Answers.{AnswerIs};
 ghost use Rattle.join_keys.specs.Entries.{keysBytes, leftBytes};
 ghost use Rattle.join_key_set.specs.Pairs.{KeysOk, keysAt};
 ghost use Rattle.writer_parts.specs.Wrote.{Countable};
-ghost use Rattle.predicate_writer.specs.Answers.{AnswerIs, leftOf, LeftOk};
+ghost use Rattle.predicate_writer.specs.Left.{leftOf, LeftOk};
+use answers::Answer;
 use join_key_set::Left;
 use writer_parts::Part;
-
-/// A code, a length and a place: 0 with the bytes written and place 0, or a refusal with length 0.
-pub struct Answer {
-    pub code: u8,
-    pub length: usize,
-    pub place: usize,
-}
-
-/// A refusal.
-pub fn refuse(code: u8, place: usize) -> Answer
-    ensures { λ r. ⌜ (r .code ≡ code) × (r .length ≡ 0) × (r .place ≡ place) ⌝ }
-{
-    Answer {
-        code,
-        length: 0,
-        place,
-    }
-}
 
 /// The first n pairs: counted, and written where they fit.
 pub fn write_keys(
@@ -48,7 +32,7 @@ pub fn write_keys(
     let size = writer_parts::counted_size(Part::On, rows, cells, 0, n, all);
     let needed = size.bytes;
     if needed > out.len() {
-        return refuse(13, needed);
+        return answers::refuse(13, needed);
     }
     let length = writer_parts::write_counted(Part::On, rows, cells, 0, n, all, out);
     Answer {
@@ -66,7 +50,7 @@ pub fn write_left(cells: &[u64], left: Left, out: &mut [u8]) -> Answer
     match left {
         Left::Nothing(_) => {
             if out.len() < 1 {
-                return refuse(13, 1);
+                return answers::refuse(13, 1);
             }
             let length = writer_parts::put_at(out, 0, 1, 0);
             Answer {
@@ -79,7 +63,7 @@ pub fn write_left(cells: &[u64], left: Left, out: &mut [u8]) -> Answer
             let size = writer_parts::expr_size(cells, node);
             let needed = size.bytes + 1;
             if needed > out.len() {
-                return refuse(13, needed);
+                return answers::refuse(13, needed);
             }
             let a = writer_parts::put_at(out, 0, 1, 1);
             let m = writer_parts::write_expr(cells, node, &mut out[a..]);

@@ -18,7 +18,7 @@ use Rattle.cpl.specs.Plan.{Catalogue, Plan, Source}
 use Rattle.cpl.specs.Read.{pick}
 use Rattle.cpl.specs.ReadPlan.{readFile}
 use Rattle.rules.specs.Answer as rules
-use Rattle.rules.specs.Answer.{deliver, finish, judged, large, mergeOf, narrowed, refusal, refused, reply, settingsOk, success, verdict, written}
+use Rattle.rules.specs.Answer.{deliver, finish, judged, large, mergeOf, narrowed, refusal, refused, reply, settingsOk, verdict, written}
 use Rattle.rules.specs.Rewrite.{Walked, rewrite, walk}
 use Rattle.rules.specs.Success.{sourceOf}
 use Rattle.required_indices.specs.Request.{flagOf}
@@ -35,21 +35,13 @@ use Rattle.walk_steps.specs.declared.Walked as walks
 use Rattle.optimize_projections.specs.Walk.{After, EndIs, TooLarge, mergeBy}
 use Rattle.optimize_projections.specs.declared.Settings.{Settings}
 use Rattle.writer.specs.Plans.{Writes}
-use Rattle.pruner.specs.Answers.{AnswerIs, Rewritten, delivered, nothingUsed}
-use Rattle.pruner.specs.declared.Answer.{Answer}
+use Rattle.answers.specs.Answers.{AnswerIs}
+use Rattle.answers.specs.declared.Answer.{Answer}
+use Rattle.answers.proofs.Ends as ends
+use Rattle.answers.proofs.Ends.{Refuses, refuses}
+use Rattle.pruner.specs.Answers.{Rewritten, delivered, nothingUsed}
 use Rattle.pruner.proofs.Files.{taken-heads}
 use Rattle.pruner.proofs.Plans.{asked, taken-stands, walk-starts}
-
--- ── refusals ────────────────────────────────────────────────────────────────────────────────
-
--- r is a refusal with this code and place
-abbrev pub Refuses : Answer → (code place : ℕ) → Type 0
-Refuses r code place = (r .code ≡ code) × (r .length ≡ 0) × (r .place ≡ place)
-
--- it leaves the buffer
-refuses : {r : Answer} {code place : ℕ} (out : List ℕ) → Refuses r code place → AnswerIs (refusal code place out) r out
-unfolding refusal
-refuses out h = record { code-is = h .0; length-is = h .1; place-is = h .2; out-is = refl }
 
 -- ── a plan's tags and bytes ─────────────────────────────────────────────────────────────────
 
@@ -65,17 +57,15 @@ many-tags {tags = tags} bytes out l h = rw (lt-ltb maxTags tags l) (refuses out 
 -- "ROOM: output shorter than the result; length needed"
 pub no-room : {r : Answer} {tags n : ℕ} (bytes out : List ℕ) → tags ≤ 4096 → n ≡ length bytes → length out < n → Refuses r 13 n
     → AnswerIs (delivered tags bytes out) r out
-unfolding delivered written
-no-room {tags = tags} {n} bytes out l e m h =
-    rw (le-ltb maxTags tags l, lt-leb (length bytes) (length out) (omega arith)) (refuses out (h .0, h .1, h .2 ∙ e))
+unfolding delivered
+no-room {tags = tags} bytes out l e m h = rw (le-ltb maxTags tags l) (ends.no-room bytes out e m h)
 
 -- "success is code 0 with the bytes written and place 0"
 pub written-out : {r : Answer} {tags n : ℕ} {out′ : List ℕ} (bytes out : List ℕ) → tags ≤ 4096 → n ≡ length bytes → n ≤ length out
     → (r .code ≡ 0) × (r .place ≡ 0) → Wrote bytes out (r .length) out′ → AnswerIs (delivered tags bytes out) r out′
-unfolding delivered written success over
+unfolding delivered over
 written-out {tags = tags} bytes out l e m h w =
-    rw (le-ltb maxTags tags l, le-leb (length bytes) (length out) (omega arith))
-    (record { code-is = h .0; length-is = w .long; place-is = h .1; out-is = w .ends })
+    rw (le-ltb maxTags tags l) (ends.written-out bytes out (omega arith) (h .0, w .long, h .1) (w .ends))
 
 -- ── a rewritten plan ────────────────────────────────────────────────────────────────────────
 

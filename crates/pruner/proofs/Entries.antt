@@ -1,17 +1,17 @@
--- What the entries say of a request of these fields and of one of all fields, and that two answers that meet a contract are the same. Assumes nothing.
+-- What the entries say of a request of these fields and of one of all fields. Assumes nothing.
 use mathlib.Core.Path.{_≡_, sym, subst, _∙_}
 use mathlib.Core.Bool.{true, false}
 use mathlib.Core.List.{List}
 use Prim.Native.Nat.{ℕ}
 use Rattle.cpl.specs.AreBytes.{AreBytes}
 use Rattle.cpl.specs.Tests.{iota}
-use Rattle.rules.specs.Answer as rules
 use Rattle.rules.specs.Answer.{reply}
 use Rattle.meaning.specs.Promise.{Promise}
 use Rattle.meaning.proofs.Files.{promise}
 use Rattle.intake.specs.Intake.{wanted}
-use Rattle.pruner.specs.Answers.{AnswerIs, Promised}
-use Rattle.pruner.specs.declared.Answer.{Answer}
+use Rattle.answers.specs.Answers.{AnswerIs}
+use Rattle.answers.specs.declared.Answer.{Answer}
+use Rattle.pruner.specs.Answers.{Promised}
 
 -- an entry's contract: the answer, and what house mode promises of it
 abbrev pub Meets : (mode mask : ℕ) (file : List ℕ) (request : ℕ → List ℕ) (out : List ℕ) (r : Answer) (out′ : List ℕ) → Type 0
@@ -36,13 +36,3 @@ module _ (mode mask : ℕ) (file request out : List ℕ) {r : Answer} {out′ : 
   pub of-all : Meets mode mask file (wanted true request) out r out′ → Meets mode mask file (λ width. iota 0 width) out r out′
   unfolding wanted
   of-all h = h
-
--- ── "two conforming results coincide" ───────────────────────────────────────────────────────
-
--- for each entry: two results, and the buffers that they leave, that both are what the definition says
-pub coincide : {a : rules.Answer} {r r′ : Answer} {out out′ : List ℕ} → AnswerIs a r out → AnswerIs a r′ out′ → (r ≡ r′) × (out ≡ out′)
-coincide h k =
-    let code = h .code-is ∙ sym (k .code-is) in
-    let length = h .length-is ∙ sym (k .length-is) in
-    let place = h .place-is ∙ sym (k .place-is) in
-    (λ i. record { code = code i; length = length i; place = place i }, h .out-is ∙ sym (k .out-is))

@@ -1,4 +1,4 @@
--- What the entries answer: document 01's "Numbers returned", and the plan as it is handed on from step to step.
+-- What the entries promise of their answers, and the plan as it is handed on from step to step.
 use mathlib.Core.Path.{_≡_}
 use mathlib.Core.List.{List, _++_}
 use Prim.Native.Nat.{ℕ, _*_, _≤_}
@@ -21,14 +21,6 @@ use Rattle.result.specs.Records.{results}
 use Rattle.walk_steps.specs.declared.End.{End}
 use Rattle.walk_steps.specs.declared.Used.{Used}
 use Rattle.optimize_projections.specs.Walk.{EndIs}
-use Rattle.pruner.specs.declared.Answer.{Answer}
-
--- "Every call returns a code, a length and a place"; out′ is the output buffer as the call leaves it
-pub record AnswerIs (a : rules.Answer) (r : Answer) (out′ : List ℕ) : Type 0 where
-  pub code-is : r .code ≡ a .code
-  pub length-is : r .length ≡ a .length
-  pub place-is : r .place ≡ a .place
-  pub out-is : out′ ≡ a .out
 
 -- "Narrow": in house mode an answer of code 0 keeps the rows, of the very bytes
 abbrev pub Promised : (mode mask : ℕ) (file : List ℕ) (request : ℕ → List ℕ) (out : List ℕ) (code : ℕ) → Type 0

@@ -1,2 +1,2 @@
--- What the entries answer.
+-- What the entries promise of their answers.
 pub mod Answers

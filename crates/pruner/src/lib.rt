@@ -10,30 +10,14 @@ ghost use Rattle.cpl.specs.Bytes.{planBytes};
 ghost use Rattle.cpl.specs.Exprs.{planTags};
 ghost use Rattle.cpl.specs.Tests.{iota};
 ghost use Rattle.rules.specs.Answer as rules;
+ghost use Rattle.answers.specs.Answers.{AnswerIs};
 ghost use Rattle.intake.specs.Intake.{wanted};
 ghost use Rattle.writer.specs.Plans.{Writes, planOf};
-ghost use Rattle.pruner.specs.Answers.{AnswerIs, Promised, Rewritten, delivered};
+ghost use Rattle.pruner.specs.Answers.{Promised, Rewritten, delivered};
+use answers::Answer;
 use optimize_projections::Settings;
 use walk_steps::End;
 use walk_steps::Used;
-
-/// A code, a length and a place: 0 with the bytes written and place 0, or a refusal with length 0.
-pub struct Answer {
-    pub code: u8,
-    pub length: usize,
-    pub place: usize,
-}
-
-// A refusal.
-fn refuse(code: u8, place: usize) -> Answer
-    ensures { λ r. ⌜ (r .code ≡ code) × (r .length ≡ 0) × (r .place ≡ place) ⌝ }
-{
-    Answer {
-        code,
-        length: 0,
-        place,
-    }
-}
 
 // The plan of a record, after the first `start` bytes of the file: counted, and written where it fits.
 fn write_out(
@@ -66,11 +50,11 @@ fn write_out(
         root,
     );
     if size.tags > 4096 {
-        return refuse(12, 0);
+        return answers::refuse(12, 0);
     }
     let needed = start + size.bytes;
     if needed > out.len() {
-        return refuse(13, needed);
+        return answers::refuse(13, needed);
     }
     let length = writer::write_plan(
         file,
@@ -116,7 +100,7 @@ fn deliver(
         used: _,
     } = end
     else {
-        return refuse(12, 0);
+        return answers::refuse(12, 0);
     };
     write_out(
         file,
@@ -160,10 +144,10 @@ pub fn prune_in(
     ensures { λ r. ⌜ Promised mode mask (now (file .entry)) (wanted all (now (request .entry))) (now (out .entry)) (r .code) ⌝ }
 {
     if mode > 1 {
-        return refuse(1, 0);
+        return answers::refuse(1, 0);
     }
     if mask > 4095 {
-        return refuse(1, 0);
+        return answers::refuse(1, 0);
     }
     let t = intake::take_in(
         file,
@@ -177,7 +161,7 @@ pub fn prune_in(
         widths,
     );
     if t.code > 0 {
-        return refuse(t.code, t.place);
+        return answers::refuse(t.code, t.place);
     }
     let settings = Settings {
         house: mode == 1,

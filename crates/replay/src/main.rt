@@ -8,7 +8,7 @@
 ghost use mathlib.Core.Path.{_≡_};
 ghost use lib.ListN.{length};
 use acceptance::Checked;
-use pruner::Answer;
+use answers::Answer;
 use vector_text::Parsed;
 
 // What stands in the output buffer before a call.

@@ -9,7 +9,7 @@ ghost use Rattle.join_keys.specs.Entries.{joinKeysAnswer, withoutKeysAnswer};
 ghost use Rattle.join_keys.specs.Promise.{KeysPromise, LeftPromise};
 ghost use Rattle.pruner.specs.Answers.{Promised};
 ghost use Rattle.simmerroof.specs.Numbers.{NumbersAre, checkNumbers, codeIn};
-use pruner::Answer;
+use answers::Answer;
 
 // The three numbers of an answer.
 fn put(a: Answer, answer: &mut [u64; 3])
@@ -169,15 +169,7 @@ pub extern "C" fn simmerroof_join_keys(predicate: &[u8], out: &mut [u8], answer:
     ensures { λ r. ⌜ NumbersAre (joinKeysAnswer (now (predicate .entry)) (now (out .entry))) (now (answer .exit)) (now (out .exit)) ⌝ }
     ensures { λ r. ⌜ (codeIn (now (answer .exit)) ≡ 0 → KeysPromise (now (predicate .entry)) (joinKeysAnswer (now (predicate .entry)) (now (out .entry)))) ⌝ }
 {
-    let a = predicate_keys::join_keys(predicate, out);
-    put(
-        Answer {
-            code: a.code,
-            length: a.length,
-            place: a.place,
-        },
-        answer,
-    );
+    put(predicate_keys::join_keys(predicate, out), answer);
 }
 
 /// `without_keys` for C and Rust.
@@ -191,13 +183,5 @@ pub extern "C" fn simmerroof_without_keys(
     ensures { λ r. ⌜ NumbersAre (withoutKeysAnswer (now (predicate .entry)) (now (keys .entry)) (now (out .entry))) (now (answer .exit)) (now (out .exit)) ⌝ }
     ensures { λ r. ⌜ (codeIn (now (answer .exit)) ≡ 0 → LeftPromise (now (predicate .entry)) (now (keys .entry)) (withoutKeysAnswer (now (predicate .entry)) (now (keys .entry)) (now (out .entry)))) ⌝ }
 {
-    let a = predicate_keys::without_keys(predicate, keys, out);
-    put(
-        Answer {
-            code: a.code,
-            length: a.length,
-            place: a.place,
-        },
-        answer,
-    );
+    put(predicate_keys::without_keys(predicate, keys, out), answer);
 }

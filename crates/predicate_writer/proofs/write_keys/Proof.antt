@@ -1,6 +1,7 @@
 -- `predicate_writer::write_keys` meets its contract: the pairs are written as the rows of a join's list. Assumes nothing.
 use Rattle.join_keys.specs.Entries.{result}
-use Rattle.predicate_writer.proofs.Ends.{few-taken, narrow, no-room, rows-bytes, rows-countable, rows-fine, written-out}
+use Rattle.answers.proofs.Ends.{no-room}
+use Rattle.predicate_writer.proofs.Ends.{few-taken, narrow, rows-bytes, rows-countable, rows-fine, written-out}
 use Rattle.tree.proofs.Plans.{taken}
 use Rattle.writer_parts.proofs.Over.{so}
 use borrow.Author.Needs.{needs}

@@ -1,5 +1,6 @@
 -- `predicate_writer::write_left` meets its contract. Assumes nothing.
-use Rattle.predicate_writer.proofs.Ends.{no-room, nothing-length, nothing-written, something-length, something-written, written-out}
+use Rattle.answers.proofs.Ends.{no-room}
+use Rattle.predicate_writer.proofs.Ends.{nothing-length, nothing-written, something-length, something-written, written-out}
 use Rattle.tree.proofs.Plans.{taken}
 use borrow.Author.Needs.{needs}
 use mathlib.Core.Path.{refl, sym}

@@ -1,0 +1,2 @@
+-- What an entry answers.
+pub mod Answers
