@@ -16,13 +16,23 @@ line = refl
 s1 : List ℕ
 s1 = 67 ∷ 80 ∷ 76 ∷ 1 ∷ 0 ∷ 1 ∷ 3 ∷ 1 ∷ 0 ∷ 2 ∷ 0 ∷ 3 ∷ 0 ∷ 1 ∷ 1 ∷ 0 ∷ 1 ∷ 0 ∷ 1 ∷ 0 ∷ 11 ∷ 0 ∷ 1 ∷ 0 ∷ 0 ∷ []
 
--- its listing: 0 31 0, PLAN 2, 0 projection 1, 1 scan 3
+-- it is accepted, with two nodes and one root field: 0 0 2 1
+checked : callText (2 ∷ 25 ∷ 0 ∷ 0 ∷ 0 ∷ s1) ≡ 48 ∷ 32 ∷ 48 ∷ 32 ∷ 50 ∷ 32 ∷ 49 ∷ 10 ∷ []
+unfolding listing-computes rules-computes calls-compute s1
+checked = refl
+
+-- an empty file is not: 2 0 0 0
+unchecked : callText (2 ∷ []) ≡ 50 ∷ 32 ∷ 48 ∷ 32 ∷ 48 ∷ 32 ∷ 48 ∷ 10 ∷ []
+unfolding listing-computes rules-computes calls-compute
+unchecked = refl
+
+-- the listing of S1: 0 31 0, PLAN 2, 0 projection 1, 1 scan 3
 listing : callText (5 ∷ 25 ∷ 0 ∷ 0 ∷ 0 ∷ s1)
     ≡ 48 ∷ 32 ∷ 51 ∷ 49 ∷ 32 ∷ 48 ∷ 10 ∷ 80 ∷ 76 ∷ 65 ∷ 78 ∷ 32 ∷ 50 ∷ 10 ∷ 48 ∷ 32 ∷ 112 ∷ 114 ∷ 111 ∷ 106 ∷ 101 ∷ 99 ∷ 116 ∷ 105 ∷ 111 ∷ 110 ∷ 32 ∷ 49 ∷ 10 ∷ 49 ∷ 32 ∷ 115 ∷ 99 ∷ 97 ∷ 110 ∷ 32 ∷ 51 ∷ 10 ∷ []
 unfolding listing-computes rules-computes calls-compute s1
 listing = refl
 
--- the same of an empty file: 2 0 0
+-- an empty file has none: 2 0 0
 unlisted : callText (5 ∷ []) ≡ 50 ∷ 32 ∷ 48 ∷ 32 ∷ 48 ∷ 10 ∷ []
 unfolding listing-computes rules-computes calls-compute
 unlisted = refl

@@ -1,26 +1,27 @@
 -- The answer of an entry as it is written, and the entry that the input names. Assumes nothing.
 use mathlib.Core.Path.{_≡_, refl, sym, ap, ap₂, _∙_}
-use mathlib.Core.Bool.{Bool}
 use mathlib.Core.List.{List, [], _∷_, _++_}
 use Prim.Native.Nat.{ℕ, _≤_}
 use native.Mathlib.Omega.{arith}
 use borrow.Author.Tests.{ne-eqb}
-use lib.Dec.{eqb}
 use lib.ListN.{length, getD, take, replicate, length-append}
 use lib.Seq.{length-take-le, take-append-le}
-use Rattle.cpl.specs.Read.{little, pick}
+use Rattle.cpl.specs.Read.{little}
 use Rattle.cpl.specs.ReadPlan.{readFile}
 use Rattle.cpl.specs.Tests.{iota}
 use Rattle.rules.specs.Answer as rules
 use Rattle.rules.specs.Answer.{answer, answerAll, reply, verdict}
+use Rattle.rules.specs.Check.{checkFile, finding}
+use Rattle.acceptance.specs.Readings.{CheckedIs}
+use Rattle.acceptance.specs.declared.Checked.{Checked}
 use Rattle.answers.specs.Answers.{AnswerIs}
 use Rattle.answers.specs.declared.Answer.{Answer}
 use Rattle.writer_parts.specs.Wrote.{Wrote}
 use Rattle.writer_parts.proofs.Over.{so, start, then}
 use Rattle.listing.specs.Lines.{Counts, Puts}
 use Rattle.listing.proofs.Answers.{deliver-fits}
-use Rattle.calls.specs.Calls.{behindFile, behindRequest, callText, entryText, fileIn, listCallText, listed, mostAsked, noText, numbersText, outIn}
-use Rattle.calls.specs.Calls.{pruneAllText, pruneText, requestIn, said, textOf}
+use Rattle.calls.specs.Calls.{behindFile, behindRequest, callText, checkText, checkedText, entryText, fileIn, listCallText, listed, mostAsked}
+use Rattle.calls.specs.Calls.{noText, numbersText, outIn, pruneAllText, pruneText, requestIn, said, textOf}
 use Rattle.calls.proofs.Input.{counted, room-long}
 use Rattle.calls.proofs.Requests.{first-asked}
 
@@ -83,10 +84,18 @@ module _ (input : List ℕ) {mode mask : ℕ} {file out out′ : List ℕ} (rest
       ∙ ap₂ (λ (m : ℕ) (k : ℕ). said (answerAll m k file out)) e f
       ∙ ap₂ (λ (xs : List ℕ) (ys : List ℕ). said (answerAll (getD input 1 0) (little 2 input 2) xs ys)) g o
 
--- the file that the input has
-pub list-text : (input : List ℕ) {file : List ℕ} → file ≡ fileIn input 1 → said (listed (readFile file)) ≡ listCallText input
-unfolding listCallText
-list-text input e = ap (λ (xs : List ℕ). said (listed (readFile xs))) e
+-- what is said of the file that the input has, and its listing
+module _ (input : List ℕ) {file : List ℕ} (e : file ≡ fileIn input 1) where
+  pub check-text : {c : Checked} → CheckedIs (checkFile file) c → numbersText (c .code ∷ c .place ∷ c .nodes ∷ c .fields ∷ []) ≡ checkText input
+  unfolding checkedText checkText
+  check-text {c} h =
+      ap₂ (λ (i : ℕ) (j : ℕ). numbersText (i ∷ j ∷ c .nodes ∷ c .fields ∷ [])) (h .code-is) (h .place-is)
+      ∙ ap₂ (λ (i : ℕ) (j : ℕ). numbersText (checkFile file .code ∷ checkFile file .place ∷ i ∷ j ∷ [])) (h .nodes-is) (h .fields-is)
+      ∙ ap (λ (xs : List ℕ). checkedText (checkFile xs)) e
+
+  pub list-text : said (listed (finding (readFile file))) ≡ listCallText input
+  unfolding listCallText
+  list-text = ap (λ (xs : List ℕ). said (listed (finding (readFile xs)))) e
 
 -- ── the entry ───────────────────────────────────────────────────────────────────────────────
 
@@ -103,16 +112,17 @@ module _ (input : List ℕ) {n : ℕ} (e : n ≡ getD input 0 0) where
   unfolding entryText
   prune-all-named d = entry-is d
 
+  pub check-named : n ≡ 2 → checkText input ≡ callText input
+  unfolding entryText
+  check-named d = entry-is d
+
   pub list-named : n ≡ 5 → listCallText input ≡ callText input
   unfolding entryText
   list-named d = entry-is d
 
-  pub none-named : (n ≡ 0 → ⊥) → (n ≡ 1 → ⊥) → (n ≡ 5 → ⊥) → [] ≡ callText input
+  pub none-named : (n ≡ 0 → ⊥) → (n ≡ 1 → ⊥) → (n ≡ 2 → ⊥) → (n ≡ 5 → ⊥) → [] ≡ callText input
   unfolding entryText noText
-  none-named a b c =
-      sym (ap (λ (t : Bool). pick t pruneText (pick (eqb n 1) pruneAllText (pick (eqb n 5) listCallText noText)) input) (ne-eqb n 0 a)
-      ∙ ap (λ (t : Bool). pick t pruneAllText (pick (eqb n 5) listCallText noText) input) (ne-eqb n 1 b) ∙ ap (λ (t : Bool). pick t listCallText noText input) (ne-eqb n 5 c))
-      ∙ entry-is refl
+  none-named a b c d = sym (rw (ne-eqb n 0 a, ne-eqb n 1 b, ne-eqb n 2 c, ne-eqb n 5 d) refl) ∙ entry-is refl
 
 -- the same bytes by another name
 pub named : {v w xs ys : List ℕ} {r : ℕ} → v ≡ w → Wrote v xs r ys → Wrote w xs r ys

@@ -1,16 +1,14 @@
 -- What a call writes, byte by byte, for every input: the entry that the input names, its arguments, and its answer as a line of numbers and the bytes
 -- behind it. An argument is a function of the input and the offset where it stands: past the end of the input numbers are 0, files and requests shorter.
 use mathlib.Core.List.{List, [], _∷_, _++_, map}
-use mathlib.Core.Option.{Option, none, some}
 use Prim.Native.Nat.{ℕ, _+_, _*_, _-_, _/_, min}
 use lib.Dec.{eqb}
 use lib.ListN.{length, getD, take, drop, replicate}
-use Rattle.cpl.specs.Accept.{Fault, fault, check}
-use Rattle.cpl.specs.Plan.{Catalogue, Plan, Source}
-use Rattle.cpl.specs.Read.{Res, ok, bad, little, pick}
+use Rattle.cpl.specs.Read.{little, pick}
 use Rattle.cpl.specs.ReadPlan.{readFile}
 use Rattle.cpl.specs.Tests.{concatMap, iota}
 use Rattle.rules.specs.Answer.{Answer, answer, answerAll, refusal, success}
+use Rattle.rules.specs.Check.{Checked, Finding, accepted, checkFile, faulty, finding}
 use Rattle.rules.specs.Success.{wrote}
 use Rattle.listing.specs.Text.{decimal, mostRead, newline, planText, space}
 
@@ -78,18 +76,22 @@ pruneText input =
 unfoldable pub pruneAllText : (input : List ℕ) → List ℕ
 pruneAllText input = said (answerAll (getD input 1 0) (little 2 input 2) (fileIn input 4) (outIn input (behindFile input 4)))
 
--- a file's plan by its first fault, and a file by what it reads as: its listing, or its refusal
-unfoldable pub listedPlan : Catalogue → Plan → Option Fault → Answer
-listedPlan C p none = success (planText C p) []
-listedPlan C p (some (fault code node)) = refusal code node []
+-- what is said of a file: code, place, nodes and fields in a line, and nothing behind it
+unfoldable pub checkedText : Checked → List ℕ
+checkedText c = numbersText (c .code ∷ c .place ∷ c .nodes ∷ c .fields ∷ [])
 
-unfoldable pub listed : Res Source → Answer
-listed (ok s next tags nodes) = listedPlan (s .catalogue) (s .plan) (check (s .catalogue) (s .plan) 0)
-listed (bad code place) = refusal code place []
+-- file
+unfoldable pub checkText : (input : List ℕ) → List ℕ
+checkText input = checkedText (checkFile (fileIn input 1))
+
+-- a file's listing, or its refusal
+unfoldable pub listed : Finding → Answer
+listed (accepted C p) = success (planText C p) []
+listed (faulty code place) = refusal code place []
 
 -- file
 unfoldable pub listCallText : (input : List ℕ) → List ℕ
-listCallText input = said (listed (readFile (fileIn input 1)))
+listCallText input = said (listed (finding (readFile (fileIn input 1))))
 
 -- no entry
 unfoldable pub noText : (input : List ℕ) → List ℕ
@@ -97,7 +99,8 @@ noText input = []
 
 -- the entry of a number
 unfoldable pub entryText : (number : ℕ) (input : List ℕ) → List ℕ
-entryText number = pick (eqb number 0) pruneText (pick (eqb number 1) pruneAllText (pick (eqb number 5) listCallText noText))
+entryText number =
+    pick (eqb number 0) pruneText (pick (eqb number 1) pruneAllText (pick (eqb number 2) checkText (pick (eqb number 5) listCallText noText)))
 
 -- all that is written
 unfoldable pub callText : (input : List ℕ) → List ℕ

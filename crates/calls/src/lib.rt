@@ -1,10 +1,10 @@
 //! calls: an entry of the library for a caller that has only bytes. The input names the entry and has its arguments; the text has its answer.
 //!
-//! Input: the entry's number in a byte (0 `prune`, 1 `prune_all`, 5 `list`), then its arguments in the order of its signature, numbers
+//! Input: the entry's number in a byte (0 `prune`, 1 `prune_all`, 2 `check`, 5 `list`), then its arguments in the order of its signature, numbers
 //! little-endian: mode (1 byte), mask (2), the file (its length in 4 bytes, its bytes), the request (its length in 4, each index in 2), the length
 //! of the output (4). `list` takes a file and is answered by its listing. Where the input is cut off, numbers are 0, files and requests shorter.
 //! Of a file the first 65,536 bytes are looked at, and an output is at most as long. Text: a line with the numbers of the answer (code, length,
-//! place) and, behind it, `length` bytes. Another number is no entry: the text is empty.
+//! place) and, behind it, `length` bytes; of `check` the line `code place nodes fields` alone. Another number is no entry: the text is empty.
 //!
 //! An entry is a function here and a definition in specs/Calls.antt, and a case of `run` and `callText`.
 ghost use mathlib.Core.Path.{_≡_};
@@ -12,9 +12,10 @@ ghost use Prim.Native.Nat.{_+_, _*_, _-_, _^_, _<_, _≤_, min};
 ghost use lib.ListN.{drop, length, take};
 ghost use Rattle.cpl.specs.Read.{little};
 ghost use Rattle.cpl.specs.ReadPlan.{readFile};
+ghost use Rattle.rules.specs.Check.{finding};
 ghost use Rattle.writer_parts.specs.Wrote.{Wrote};
 ghost use Rattle.listing.specs.Lines.{Counts};
-ghost use Rattle.calls.specs.Calls.{callText, countIn, fileIn, listCallText, listed, mostAsked, numbersText, pruneAllText, pruneText, requestIn, said, spaced, textOf};
+ghost use Rattle.calls.specs.Calls.{callText, checkText, countIn, fileIn, listCallText, listed, mostAsked, numbersText, pruneAllText, pruneText, requestIn, said, spaced, textOf};
 
 // The bytes of the input from an offset up to another.
 struct Span {
@@ -179,18 +180,35 @@ fn prune_all(input: &[u8], text: &mut [u8; 65600]) -> usize
     write_answer(text, a.code, a.place, &out[..length])
 }
 
-// The text of a file's listing starts with P, that of a refusal with R; `prune_all` refuses such a file with the same code and place.
-fn list_file(file: &[u8], lines: &mut [u8; 16384], text: &mut [u8; 65600]) -> usize
-    ensures { λ r. ⌜ Wrote (said (listed (readFile (now (file .entry))))) (now (text .entry)) r (now (text .exit)) ⌝ }
+// 2: file.
+fn check(input: &[u8], text: &mut [u8; 65600]) -> usize
+    ensures { λ r. ⌜ Wrote (checkText (now (input .entry))) (now (text .entry)) r (now (text .exit)) ⌝ }
     ensures { λ r. ⌜ Counts r (now (text .exit)) ⌝ }
 {
-    let n = listing::list(file, lines);
-    if lines[0] == b'P' {
-        return write_success(text, lines, n);
+    let file = file_at(input, 1);
+    let from = file.from;
+    let to = file.to;
+    let c = acceptance::check(&input[from..to]);
+    let numbers = [
+        c.code as u64,
+        c.place as u64,
+        c.nodes as u64,
+        c.fields as u64,
+    ];
+    write_numbers(text, &numbers)
+}
+
+// The listing of an accepted file, or the refusal.
+fn list_file(file: &[u8], lines: &mut [u8; 16384], text: &mut [u8; 65600]) -> usize
+    ensures { λ r. ⌜ Wrote (said (listed (finding (readFile (now (file .entry)))))) (now (text .entry)) r (now (text .exit)) ⌝ }
+    ensures { λ r. ⌜ Counts r (now (text .exit)) ⌝ }
+{
+    let c = acceptance::check(file);
+    if c.code > 0 {
+        return write_answer(text, c.code, c.place, b"");
     }
-    let mut nothing = [0u8; 1];
-    let a = pruner::prune_all(0, 0, file, &mut nothing);
-    write_answer(text, a.code, a.place, b"")
+    let n = listing::list(file, lines);
+    write_success(text, lines, n)
 }
 
 // 5: file.
@@ -213,6 +231,7 @@ pub fn run(input: &[u8], text: &mut [u8; 65600]) -> usize
     match listing::byte(input, 0) {
         0 => prune(input, text),
         1 => prune_all(input, text),
+        2 => check(input, text),
         5 => list(input, text),
         _ => 0,
     }

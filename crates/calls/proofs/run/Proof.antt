@@ -1,6 +1,8 @@
 -- `calls::run` meets its contract: the entry that the input names. Assumes nothing.
-use Rattle.calls.proofs.Texts.{list-named, named, no-bytes, none-named, prune-all-named, prune-named}
+use Rattle.calls.proofs.Texts.{check-named, list-named, named, no-bytes, none-named, prune-all-named, prune-named}
 use Rattle.listing.proofs.Puts.{counts}
+use Rattle.writer.proofs.Plans.{input}
+use Rattle.writer_parts.proofs.Over.{rest}
 use borrow.Author.Needs.{needs}
 use mathlib.Core.Path.{refl}
 use Rattle.calls.proofs.run.Statement.{statement}
@@ -14,6 +16,9 @@ prune-requires c κs = search needs
 
 prune-all-requires : tie.Need-prune-all-requires
 prune-all-requires c κs = search needs
+
+check-requires : tie.Need-check-requires
+check-requires c κs = search needs
 
 list-requires : tie.Need-list-requires
 list-requires c κs = search needs
@@ -39,15 +44,23 @@ returns-3 c =
     let args = c .before .before .before .before .before .args in
     let byte = c .before .before .before .byte in
     let match = c .before .before .match in
-    let list = c .list in
-    (named (list-named (args .input .now) (byte .ensures) (match .keys3)) (list .ensures .0), list .ensures .1)
+    let check = c .check in
+    (named (check-named (args .input .now) (byte .ensures) (match .keys3)) (check .ensures .0), check .ensures .1)
 
 returns-4 : tie.Need-returns-4
 returns-4 c =
+    let args = c .before .before .before .before .before .args in
+    let byte = c .before .before .before .byte in
+    let match = c .before .before .match in
+    let list = c .list in
+    (named (list-named (args .input .now) (byte .ensures) (match .keys4)) (list .ensures .0), list .ensures .1)
+
+returns-5 : tie.Need-returns-5
+returns-5 c =
     let args = c .before .before .before .args in
     let byte = c .before .byte in
     let match = c .match in
-    let w = no-bytes (none-named (args .input .now) (byte .ensures) (match .rest .0 .0 .1) (match .rest .0 .1) (match .rest .1)) in (w, counts w refl)
+    let w = no-bytes (none-named (args .input .now) (byte .ensures) (match .rest .0 .0 .0 .1) (match .rest .0 .0 .1) (match .rest .0 .1) (match .rest .1)) in (w, counts w refl)
 
 pub run-spec : {M : Type 1} → statement M
-run-spec = tie.close (tie.spec byte-requires prune-requires prune-all-requires list-requires returns returns-2 returns-3 returns-4)
+run-spec = tie.close (tie.spec byte-requires prune-requires prune-all-requires check-requires list-requires returns returns-2 returns-3 returns-4 returns-5)
