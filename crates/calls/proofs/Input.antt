@@ -106,7 +106,7 @@ unlent room = drop room (replicate 65536 0)
 pub room-long : (room : ℕ) → room ≤ 65536 → length (take {A = ℕ} room (replicate 65536 0)) ≡ room
 room-long room h = length-take-le room (replicate 65536 0) (omega (arith, length-replicate {A = ℕ} 65536 0))
 
-pub out-is : (input : List ℕ) {at at′ w room : ℕ} → at ≡ at′ → w ≡ little 4 input at → room ≡ min w 65536 → take {A = ℕ} room (replicate 65536 0) ≡ outIn input at′
+pub out-is : (input : List ℕ) {at at′ room : ℕ} → at ≡ at′ → room ≡ min (little 4 input at) mostLent → take {A = ℕ} room (replicate 65536 0) ≡ outIn input at′
 unfolding outIn
-out-is input {at} {at′} {w} {room} p d e =
-    take-zeros room 65536 (omega arith) ∙ ap (λ n. replicate {A = ℕ} n 0) (e ∙ ap (λ i. min i mostLent) (d ∙ ap (little 4 input) p))
+out-is input {at} {at′} {room} p e =
+    take-zeros room 65536 (omega arith) ∙ ap (λ n. replicate {A = ℕ} n 0) (e ∙ ap (λ i. min (little 4 input i) mostLent) p)

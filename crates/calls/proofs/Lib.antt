@@ -2,6 +2,7 @@
 pub mod Input
 pub mod Requests
 pub mod Numbers
+pub mod Answers
 pub mod Texts
 pub mod Listings
 pub mod Samples

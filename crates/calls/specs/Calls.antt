@@ -2,19 +2,19 @@
 -- behind it. An argument is a function of the input and the offset where it stands: past the end of the input numbers are 0, files and requests shorter.
 use mathlib.Core.List.{List, [], _∷_, _++_, map}
 use Prim.Native.Nat.{ℕ, _+_, _*_, _-_, _/_, min}
-use lib.Dec.{eqb}
 use lib.ListN.{length, getD, take, drop, replicate}
-use Rattle.cpl.specs.Read.{little, pick}
+use Rattle.cpl.specs.Read.{little}
 use Rattle.cpl.specs.ReadPlan.{readFile}
 use Rattle.cpl.specs.Tests.{concatMap, iota}
 use Rattle.rules.specs.Answer.{Answer, answer, answerAll, refusal, success}
 use Rattle.rules.specs.Check.{Checked, Finding, accepted, checkFile, faulty, finding}
 use Rattle.rules.specs.Success.{wrote}
+use Rattle.join_keys.specs.Entries.{joinKeysAnswer, withoutKeysAnswer}
 use Rattle.listing.specs.Text.{decimal, mostRead, newline, planText, space}
 
 -- ── arguments ───────────────────────────────────────────────────────────────────────────────
 
--- a file: its length in four bytes, then its bytes, of which so many are looked at
+-- a file, a predicate or keys: its length in four bytes, then its bytes, of which so many are looked at
 unfoldable pub fileIn : (input : List ℕ) (at : ℕ) → List ℕ
 fileIn input at = take (min (little 4 input at) mostRead) (drop (at + 4) input)
 
@@ -84,6 +84,16 @@ checkedText c = numbersText (c .code ∷ c .place ∷ c .nodes ∷ c .fields ∷
 unfoldable pub checkText : (input : List ℕ) → List ℕ
 checkText input = checkedText (checkFile (fileIn input 1))
 
+-- predicate, length of the output
+unfoldable pub joinKeysText : (input : List ℕ) → List ℕ
+joinKeysText input = said (joinKeysAnswer (fileIn input 1) (outIn input (behindFile input 1)))
+
+-- predicate, keys, length of the output
+unfoldable pub withoutKeysText : (input : List ℕ) → List ℕ
+withoutKeysText input =
+    let at = behindFile input 1 in
+    said (withoutKeysAnswer (fileIn input 1) (fileIn input at) (outIn input (behindFile input at)))
+
 -- a file's listing, or its refusal
 unfoldable pub listed : Finding → Answer
 listed (accepted C p) = success (planText C p) []
@@ -97,10 +107,13 @@ listCallText input = said (listed (finding (readFile (fileIn input 1))))
 unfoldable pub noText : (input : List ℕ) → List ℕ
 noText input = []
 
+-- the entries, each at its number
+unfoldable pub entries : List (List ℕ → List ℕ)
+entries = pruneText ∷ pruneAllText ∷ checkText ∷ joinKeysText ∷ withoutKeysText ∷ listCallText ∷ []
+
 -- the entry of a number
 unfoldable pub entryText : (number : ℕ) (input : List ℕ) → List ℕ
-entryText number =
-    pick (eqb number 0) pruneText (pick (eqb number 1) pruneAllText (pick (eqb number 2) checkText (pick (eqb number 5) listCallText noText)))
+entryText number = getD entries number noText
 
 -- all that is written
 unfoldable pub callText : (input : List ℕ) → List ℕ

@@ -1,12 +1,13 @@
 //! calls: an entry of the library for a caller that has only bytes. The input names the entry and has its arguments; the text has its answer.
 //!
-//! Input: the entry's number in a byte (0 `prune`, 1 `prune_all`, 2 `check`, 5 `list`), then its arguments in the order of its signature, numbers
-//! little-endian: mode (1 byte), mask (2), the file (its length in 4 bytes, its bytes), the request (its length in 4, each index in 2), the length
-//! of the output (4). `list` takes a file and is answered by its listing. Where the input is cut off, numbers are 0, files and requests shorter.
-//! Of a file the first 65,536 bytes are looked at, and an output is at most as long. Text: a line with the numbers of the answer (code, length,
-//! place) and, behind it, `length` bytes; of `check` the line `code place nodes fields` alone. Another number is no entry: the text is empty.
+//! Input: the entry's number in a byte (0 `prune`, 1 `prune_all`, 2 `check`, 3 `join_keys`, 4 `without_keys`, 5 `list`), then its arguments in the
+//! order of its signature, numbers little-endian: mode (1 byte), mask (2), the file, the predicate or the keys (the length in 4 bytes, the bytes),
+//! the request (its length in 4, each index in 2), the length of the output (4). `list` takes a file and is answered by its listing. Where the input
+//! is cut off, numbers are 0, files and requests shorter. Of a file the first 65,536 bytes are looked at, and an output is at most as long. Text: a
+//! line with the numbers of the answer (code, length, place) and, behind it, `length` bytes; of `check` the line `code place nodes fields` alone.
+//! Another number is no entry: the text is empty.
 //!
-//! An entry is a function here and a definition in specs/Calls.antt, and a case of `run` and `callText`.
+//! An entry is a function here and a definition in specs/Calls.antt, and a case of `run` and a member of `entries`.
 ghost use mathlib.Core.Path.{_≡_};
 ghost use Prim.Native.Nat.{_+_, _*_, _-_, _^_, _<_, _≤_, min};
 ghost use lib.ListN.{drop, length, take};
@@ -15,7 +16,7 @@ ghost use Rattle.cpl.specs.ReadPlan.{readFile};
 ghost use Rattle.rules.specs.Check.{finding};
 ghost use Rattle.writer_parts.specs.Wrote.{Wrote};
 ghost use Rattle.listing.specs.Lines.{Counts};
-ghost use Rattle.calls.specs.Calls.{callText, checkText, countIn, fileIn, listCallText, listed, mostAsked, numbersText, pruneAllText, pruneText, requestIn, said, spaced, textOf};
+ghost use Rattle.calls.specs.Calls.{callText, checkText, countIn, fileIn, joinKeysText, listCallText, listed, mostAsked, mostLent, numbersText, pruneAllText, pruneText, requestIn, said, spaced, textOf, withoutKeysText};
 
 // The bytes of the input from an offset up to another.
 struct Span {
@@ -64,6 +65,14 @@ fn file_at(input: &[u8], at: usize) -> Span
     let from = least(at + 4, input.len());
     let to = least(at + 4 + size, input.len());
     Span { from, to }
+}
+
+// How long an output is whose length stands at an offset.
+fn room_at(input: &[u8], at: usize) -> usize
+    requires { ⌜ at < 2 ^ 36 ⌝ }
+    ensures { λ r. ⌜ (r ≡ min (little 4 (now (input .entry)) at) mostLent) × (r ≤ 65536) ⌝ }
+{
+    least(word_at(input, at), 65536)
 }
 
 // How many indices a request has whose length stands at an offset: as many as it says, if they are there whole.
@@ -150,7 +159,7 @@ fn prune(input: &[u8], text: &mut [u8; 65600]) -> usize
     let at = 8 + word_at(input, 4);
     let mut request = [0u16; 512];
     let n = read_request(input, at, &mut request);
-    let room = least(word_at(input, at + 4 + 2 * word_at(input, at)), 65536);
+    let room = room_at(input, at + 4 + 2 * word_at(input, at));
     let mut out = [0u8; 65536];
     let a = pruner::prune(
         mode,
@@ -173,7 +182,7 @@ fn prune_all(input: &[u8], text: &mut [u8; 65600]) -> usize
     let file = file_at(input, 4);
     let from = file.from;
     let to = file.to;
-    let room = least(word_at(input, 8 + word_at(input, 4)), 65536);
+    let room = room_at(input, 8 + word_at(input, 4));
     let mut out = [0u8; 65536];
     let a = pruner::prune_all(mode, mask, &input[from..to], &mut out[..room]);
     let length = a.length;
@@ -196,6 +205,40 @@ fn check(input: &[u8], text: &mut [u8; 65600]) -> usize
         c.fields as u64,
     ];
     write_numbers(text, &numbers)
+}
+
+// 3: predicate, length of the output.
+fn join_keys(input: &[u8], text: &mut [u8; 65600]) -> usize
+    ensures { λ r. ⌜ Wrote (joinKeysText (now (input .entry))) (now (text .entry)) r (now (text .exit)) ⌝ }
+    ensures { λ r. ⌜ Counts r (now (text .exit)) ⌝ }
+{
+    let predicate = file_at(input, 1);
+    let from = predicate.from;
+    let to = predicate.to;
+    let room = room_at(input, 5 + word_at(input, 1));
+    let mut out = [0u8; 65536];
+    let a = predicate_keys::join_keys(&input[from..to], &mut out[..room]);
+    let length = a.length;
+    write_answer(text, a.code, a.place, &out[..length])
+}
+
+// 4: predicate, keys, length of the output.
+fn without_keys(input: &[u8], text: &mut [u8; 65600]) -> usize
+    ensures { λ r. ⌜ Wrote (withoutKeysText (now (input .entry))) (now (text .entry)) r (now (text .exit)) ⌝ }
+    ensures { λ r. ⌜ Counts r (now (text .exit)) ⌝ }
+{
+    let predicate = file_at(input, 1);
+    let from = predicate.from;
+    let to = predicate.to;
+    let at = 5 + word_at(input, 1);
+    let keys = file_at(input, at);
+    let start = keys.from;
+    let end = keys.to;
+    let room = room_at(input, at + 4 + word_at(input, at));
+    let mut out = [0u8; 65536];
+    let a = predicate_keys::without_keys(&input[from..to], &input[start..end], &mut out[..room]);
+    let length = a.length;
+    write_answer(text, a.code, a.place, &out[..length])
 }
 
 // The listing of an accepted file, or the refusal.
@@ -232,6 +275,8 @@ pub fn run(input: &[u8], text: &mut [u8; 65600]) -> usize
         0 => prune(input, text),
         1 => prune_all(input, text),
         2 => check(input, text),
+        3 => join_keys(input, text),
+        4 => without_keys(input, text),
         5 => list(input, text),
         _ => 0,
     }
