@@ -1,5 +1,5 @@
--- What is known of every answer: its code, what it leaves of the buffer, and that two conforming answers are the same.
-use mathlib.Core.Path.{_≡_, refl, sym, _∙_}
+-- What is known of every answer: its code, and what it leaves of the buffer.
+use mathlib.Core.Path.{_≡_, refl, _∙_}
 use mathlib.Core.Logic.{_⊎_, inl, inr}
 use mathlib.Core.List.{List}
 use mathlib.Core.Bool.{Bool, true, false}
@@ -98,7 +98,5 @@ pub buffered : (mode mask : ℕ) (file : List ℕ) (request : ℕ → List ℕ) 
 unfolding reply
 buffered mode mask file request out = deliver-buffered (verdict mode mask file request) out (verdict-lawful mode mask file request)
 
--- ── conforming answers ──────────────────────────────────────────────────────────────────────
-
--- "that two conforming results coincide is proved" over the contracts of the entries: `coincide` in pruner/proofs/Entries, of an answer as three
--- numbers in simmerroof/proofs/Numbers.
+-- ("That two conforming results coincide is proved" over the contracts of the entries: `coincide` in answers/proofs/Ends, of an answer as three numbers
+-- in simmerroof/proofs/Numbers.)
