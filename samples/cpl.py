@@ -1,13 +1,18 @@
-"""Plans as tuples, to and from document 01's file form.
+"""Plans as tuples, to and from the file form of docs/FORMAT.md, both versions.
 
 Expressions: ('column', pair), ('literal', n), ('missing',), ('not', e), ('is-missing', e), (operator, e, e) with the
 operators of OPERATORS. Items: an expression of a bare column, or ('as', pair, e). Keys: (flags, e).
 Plans: ('projection', items, p), ('filter', e, p), ('sort', keys, p), ('limit', skip, fetch, p),
 ('aggregate', items, [(pair, function, e or None)], p), ('window', [(pair, function, partition, keys, e or None)], p),
 ('subqueryalias', q, p), ('union', p, p), ('distinct', p), ('join', type, [(e, e)], e or None, p, p),
-('scan', table, q, columns or None), ('empty', one_row, pairs).
+('scan', table, q, columns or None, filters), ('empty', one_row, pairs).
+A Catalogue is what stands before the plan: the version, the names of each table's columns, and keys as (table, columns); version 1
+has neither keys nor filters.
 """
 import struct
+from collections import namedtuple
+
+Catalogue = namedtuple("Catalogue", "version tables keys")
 
 OPERATORS = ["add", "subtract", "multiply", "equal", "less", "and", "or"]
 NO_FETCH = 4294967295
@@ -45,6 +50,15 @@ def many(parts):
     return bytes([len(parts)]) + b"".join(parts)
 
 
+def wide(version, n):
+    """A count or a column index: one byte in version 1, two in version 2."""
+    return u16(n) if version == 2 else bytes([n])
+
+
+def wide_many(version, parts):
+    return wide(version, len(parts)) + b"".join(parts)
+
+
 def exprs(es):
     return many([expr(e) for e in es])
 
@@ -63,10 +77,16 @@ def children(p):
     return list(p[-2:]) if p[0] in ("union", "join") else [p[-1]]
 
 
-def head(p):
+def scan(version, table, q, columns, filters):
+    read = b"\0" if columns is None else b"\1" + wide_many(version, [wide(version, i) for i in columns])
+    assert version == 2 or not filters, "version 1 has no filters"
+    return b"\13" + bytes([table]) + u16(q) + read + (exprs(filters) if version == 2 else b"")
+
+
+def head(version, p):
     kind = p[0]
     if kind == "projection":
-        return b"\1" + exprs(p[1])
+        return b"\1" + wide_many(version, [expr(e) for e in p[1]])
     if kind == "filter":
         return b"\2" + expr(p[1])
     if kind == "sort":
@@ -74,9 +94,11 @@ def head(p):
     if kind == "limit":
         return b"\4" + u32(p[1]) + u32(p[2])
     if kind == "aggregate":
-        return b"\5" + exprs(p[1]) + many([pair(q) + bytes([f]) + argument(e) for q, f, e in p[2]])
+        measures = [pair(q) + bytes([f]) + argument(e) for q, f, e in p[2]]
+        return b"\5" + wide_many(version, [expr(e) for e in p[1]]) + wide_many(version, measures)
     if kind == "window":
-        return b"\6" + many([pair(q) + bytes([f]) + exprs(by) + keys(ks) + argument(e) for q, f, by, ks, e in p[1]])
+        calls = [pair(q) + bytes([f]) + exprs(by) + keys(ks) + argument(e) for q, f, by, ks, e in p[1]]
+        return b"\6" + wide_many(version, calls)
     if kind == "subqueryalias":
         return b"\7" + u16(p[1])
     if kind == "union":
@@ -87,23 +109,28 @@ def head(p):
         condition = b"\0" if p[3] is None else b"\1" + expr(p[3])
         return b"\12" + bytes([p[1]]) + many([expr(l) + expr(r) for l, r in p[2]]) + condition
     if kind == "scan":
-        return b"\13" + bytes([p[1]]) + u16(p[2]) + (b"\0" if p[3] is None else b"\1" + bytes([len(p[3]), *p[3]]))
-    return b"\14" + bytes([p[1]]) + many([pair(q) for q in p[2]])
+        return scan(version, *p[1:])
+    return b"\14" + bytes([p[1]]) + wide_many(version, [pair(q) for q in p[2]])
 
 
-def plan_bytes(p):
-    return head(p) + b"".join(plan_bytes(c) for c in children(p))
+def plan_bytes(version, p):
+    return head(version, p) + b"".join(plan_bytes(version, c) for c in children(p))
 
 
-def write(tables, plan):
-    return b"CPL\1\0" + many([many([u16(n) for n in names]) for names in tables]) + plan_bytes(plan)
+def write(catalogue, plan):
+    version, tables, table_keys = catalogue
+    assert version == 2 or not table_keys, "version 1 has no keys"
+    out = b"CPL" + u16(version) + many([wide_many(version, [u16(n) for n in names]) for names in tables])
+    if version == 2:
+        out += many([bytes([table]) + wide_many(version, [u16(c) for c in columns]) for table, columns in table_keys])
+    return out + plan_bytes(version, plan)
 
 
 class Reader:
     """Reads files that were accepted; it refuses nothing by itself."""
 
     def __init__(self, data):
-        self.data, self.at = data, 0
+        self.data, self.at, self.version = data, 0, 1
 
     def take(self, n):
         self.at += n
@@ -123,6 +150,12 @@ class Reader:
 
     def many(self, part):
         return [part() for _ in range(self.u8())]
+
+    def wide(self):
+        return self.u16() if self.version == 2 else self.u8()
+
+    def wide_many(self, part):
+        return [part() for _ in range(self.wide())]
 
     def expr(self):
         tag = self.u8()
@@ -155,7 +188,7 @@ class Reader:
     def plan(self):
         tag = self.u8()
         if tag == 1:
-            return ("projection", self.many(self.expr), self.plan())
+            return ("projection", self.wide_many(self.expr), self.plan())
         if tag == 2:
             return ("filter", self.expr(), self.plan())
         if tag == 3:
@@ -163,9 +196,9 @@ class Reader:
         if tag == 4:
             return ("limit", self.u32(), self.u32(), self.plan())
         if tag == 5:
-            return ("aggregate", self.many(self.expr), self.many(self.measure), self.plan())
+            return ("aggregate", self.wide_many(self.expr), self.wide_many(self.measure), self.plan())
         if tag == 6:
-            return ("window", self.many(self.call), self.plan())
+            return ("window", self.wide_many(self.call), self.plan())
         if tag == 7:
             return ("subqueryalias", self.u16(), self.plan())
         if tag == 8:
@@ -177,12 +210,15 @@ class Reader:
             return ("join", kind, on, self.expr() if self.u8() else None, self.plan(), self.plan())
         if tag == 11:
             table, q = self.u8(), self.u16()
-            return ("scan", table, q, self.many(self.u8) if self.u8() else None)
-        return ("empty", self.u8(), self.many(self.pair))
+            columns = self.wide_many(self.wide) if self.u8() else None
+            return ("scan", table, q, columns, self.many(self.expr) if self.version == 2 else [])
+        return ("empty", self.u8(), self.wide_many(self.pair))
 
 
 def read(data):
     r = Reader(data)
-    r.take(5)
-    tables = r.many(lambda: r.many(r.u16))
-    return tables, r.plan()
+    r.take(3)
+    r.version = r.u16()
+    tables = r.many(lambda: r.wide_many(r.u16))
+    keys = r.many(lambda: (r.u8(), r.wide_many(r.u16))) if r.version == 2 else []
+    return Catalogue(r.version, tables, keys), r.plan()

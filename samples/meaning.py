@@ -1,5 +1,5 @@
-"""What a plan gives over the tables' contents: document 01's "Fields and meaning", with names alone, on Python's unbounded numbers; None is
-missing. A check by running, for the lessons; the proved meaning is crates/meaning."""
+"""What a plan gives over the tables' contents: document 01's "Fields and meaning", with names alone and scan filters, on Python's unbounded
+numbers; None is missing. A check by running, for the lessons; the proved meaning is crates/meaning."""
 from functools import cmp_to_key
 
 from cpl import NO_FETCH, children
@@ -154,8 +154,9 @@ def rows(p, tables, log):
     if kind == "join":
         return join(p, below[0], below[1], fs[0], fs[1])
     if kind == "scan":
-        columns = range(len(tables[p[1]])) if p[3] is None else p[3]
-        return [[r[i] for i in columns] for r in log[p[1]]]
+        every = [(p[2], n) for n in tables[p[1]]]
+        kept = [r for r in log[p[1]] if all(yes(value(e, every, r)) for e in p[4])]
+        return [[r[i] for i in (range(len(every)) if p[3] is None else p[3])] for r in kept]
     if kind == "empty":
         return [[None] * len(p[2])] if p[1] else []
     return below[0]

@@ -3,7 +3,7 @@
 A Names holds what qualifiers and names are called; a number that has no word is written q7 or c7."""
 import re
 
-from cpl import NO_FETCH, OPERATORS, children
+from cpl import NO_FETCH, OPERATORS, Catalogue, children
 
 SIGNS = ["+", "-", "*", "=", "<", "and", "or"]
 FUNCTIONS = ["rows", "count", "sum", "min", "max"]
@@ -13,7 +13,19 @@ TOKEN = re.compile(r"\s*([A-Za-z?][A-Za-z0-9-]*|-?\d+|[][(),.=+*<-])")
 
 class Names:
     def __init__(self):
-        self.qualifiers, self.names, self.tables = {}, {}, []
+        self.qualifiers, self.names, self.tables, self.version, self.keys = {}, {}, [], 1, []
+
+    def catalogue(self):
+        return Catalogue(self.version, self.tables, self.keys)
+
+    def columns(self, words):
+        """The numbers of a table's names; c101..c356 is a row of them."""
+        out = []
+        for word in words:
+            first, _, last = word.partition("..")
+            numbers = [self.number(self.names, w, "c") for w in (first, last) if w]
+            out += range(numbers[0], numbers[-1] + 1)
+        return out
 
     def qualifier(self, q):
         return next((w for w, n in self.qualifiers.items() if n == q), f"q{q}")
@@ -91,7 +103,7 @@ def show_head(p, names):
         return f"join {JOINS[p[1]]} on {on}" + ("" if p[3] is None else f" if {show_expr(p[3], names)}")
     if kind == "scan":
         columns = "" if p[3] is None else " " + show_list([names.name(names.tables[p[1]][i]) for i in p[3]])
-        return f"scan {p[1]} as {names.qualifier(p[2])}{columns}"
+        return f"scan {p[1]} as {names.qualifier(p[2])}{columns}" + (f" where {show_exprs(p[4], names)}" if p[4] else "")
     if kind == "empty":
         return f"empty {'one-row ' if p[1] else ''}{show_list([show_pair(q, names) for q in p[2]])}"
     return kind
@@ -230,7 +242,8 @@ class Line:
             table = int(self.next())
             self.need("as")
             q = self.qualifier()
-            return (kind, table, q, self.list(lambda: self.column(table)) if self.peek() == "[" else None), 0
+            columns = self.list(lambda: self.column(table)) if self.peek() == "[" else None
+            return (kind, table, q, columns, self.list(self.expr) if self.skip("where") else []), 0
         if kind == "empty":
             return (kind, int(self.skip("one-row")), self.list(self.pair)), 0
         return (kind,), {"union": 2, "distinct": 1}[kind]
@@ -270,13 +283,18 @@ def descriptions(path):
             continue
         close()
         words = text.split()
-        if words[0] == "qualifiers":
+        if words[0] == "version":
+            names.version = int(words[1])
+        elif words[0] == "qualifiers":
             names = Names()
             names.qualifiers = {w: int(n) for w, n in (x.split("=") for x in words[1:])}
         elif words[0] == "names":
             names.names = {w: int(n) for w, n in (x.split("=") for x in words[1:])}
         elif words[0] == "table":
-            names.tables.append([names.names[w] for w in words[1:]])
+            names.tables.append(names.columns(words[1:]))
+        elif words[0] == "key":
+            table = int(words[1])
+            names.keys.append((table, [names.tables[table].index(n) for n in names.columns(words[2:])]))
         else:
             block.append(text)
     close()

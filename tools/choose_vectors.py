@@ -1,24 +1,24 @@
 #!/usr/bin/env python3
-"""tools/choose_vectors.py [FOLDER]: writes crates/replay/stdin and crates/replay/stdout.
+"""tools/choose_vectors.py [FOLDER [OUT]]: writes crates/replay/stdin and crates/replay/stdout, or stdin and stdout of the folder OUT.
 
-The vectors that the gate replays: cases made by hand from documents 01 and 02, then a choice of the lines of library.txt and one of those of bare.txt,
-both of FOLDER (../shared/vectors), then the answers of the Rust's own texts (oracle/answers.txt, made by oracle/answers), then a choice of the lines of
-check-bare.txt.
+The vectors that the gate replays: cases made by hand from documents 01 and 02, then a choice of the lines of library.txt, bare.txt and version2.txt of
+FOLDER (../shared/vectors), then the answers of the Rust's own texts (oracle/answers.txt, made by oracle/answers), then a choice of the lines of
+check-bare.txt and check-v2.txt.
 
 By hand. Each case below has the answer that the documents give, written down beside it, never computed by code of this project: a
 result is spelled out as bytes, a refusal as code and place. A file is a list of fields, so that an offset is the sum of the sizes before it.
 
-Choice. Lines are looked at short ones first, none over 3,000 characters. A line is taken where it has a trait of which fewer than the
+Choice. Lines are looked at short ones first. A line is taken where it has a trait of which fewer than the
 wanted number were taken. Traits: its code (12 of each, so all where there are fewer); the field at which it is refused (2); each node kind in
-the file and in the result of a success (6 each), join type, function, expression tag (3 each); a count at its limit; mode, mask and
-request with the code (2); no room to spare, or one byte too little (5 each). Of check.txt: its code (8); the field at which it is refused (1);
-each node kind in an accepted file and at a refusal (1); a count at its limit; the most and the fewest nodes and fields.
+the file and in the result of a success (6 each), join type, function, expression tag, keys and filters (3 each); a count at its limit; mode, mask and
+request with the code (2); no room to spare, or one byte too little (5 each). Of the checks: its code (8); the field at which it is refused (1); each node
+kind in an accepted file and at a refusal (1); a count at its limit; the most and the fewest nodes and fields. The tables CHOICES and CHECKS lower these
+numbers and say how long a line may be: the program replay reads less than 524,288 bytes.
 """
 import sys
 from pathlib import Path
 
 ROOT = Path(__file__).resolve().parent.parent
-LONGEST = 3000
 ROOM = 65536
 
 
@@ -138,7 +138,7 @@ def settings_and_marks():
     refused(3, 5, MARK)
     refused(2, 0, MARK[:4])
     refused(2, 0, MARK[:1])
-    for mark in (b'cpl\x01\x00', b'CPM\x01\x00', b'DPL\x01\x00', b'CPL\x00\x00', b'CPL\x02\x00', b'CPL\x01\x01', b'\x00' * 5):
+    for mark in (b'cpl\x01\x00', b'CPM\x01\x00', b'DPL\x01\x00', b'CPL\x00\x00', b'CPL\x03\x00', b'CPL\x01\x01', b'CPL\x02\x01', b'\x00' * 5):
         refused(2, 0, mark)
         refused(2, 0, mark + HEADER[5:] + S)
     for mode, mask in ((2, 0), (255, 0), (0, 4096), (1, 65535), (2, 4096)):
@@ -397,6 +397,14 @@ def checks():
     faulty(9, 0, HEADER + UNION + S + scan([0]))
     faulty(7, 1, HEADER + filter_(col(1, 9)) + scan([0, 0]))
     faulty(10, 0, NO_TABLES + join_on(0) + empty([pair(1, i + 1) for i in range(128)]) + empty([pair(2, 1)]))
+    # version 2
+    found(1, 3, HEADER_2 + S_2)
+    found(1, 1, HEADER_2 + scan_2([2], filters=[A, col(0, 2)]))
+    found(1, 129, head_2([table_2(*range(1, 130))], [key_2(0, 128)]) + S_2)
+    faulty(3, 5, MARK_2)
+    faulty(4, 15, head_2([table_2(1, 2, 3)], [u8(1)]))
+    faulty(8, 1, HEADER_2 + DISTINCT + scan_2(filters=[col(1, 9)]))
+    faulty(17, 0, head_2([table_2(1, 1)]) + scan_2([0], filters=[A]))
 
 
 def bare_names():
@@ -427,7 +435,203 @@ def bare_names():
     gives(HEADER + projection(alias(*Z, add(a_1, a_1))) + scan([0]), HEADER + one_twice + lower + S, mask=32)
 
 
-for make in (settings_and_marks, samples, requests, counts_of_fields, limits_of_a_file, large, values, cuts, acceptance, checks, bare_names):
+# Version 2: counts of 64 and 128 are u16, keys follow the tables, a scan ends in its filters.
+MARK_2 = b'CPL' + u16(2)
+
+
+def table_2(*names):
+    return u16(len(names)) + join(*[u16(n) for n in names])
+
+
+def key_2(table, *columns):
+    return u8(table) + u16(len(columns)) + join(*[u16(c) for c in columns])
+
+
+def head_2(tables, keys=()):
+    return MARK_2 + u8(len(tables)) + join(*tables) + u8(len(keys)) + join(*keys)
+
+
+HEADER_2 = head_2([table_2(1, 2, 3)])  # 15 bytes: the keys' count is at 14, the plan starts at 15
+
+
+def projection_2(*items):
+    return u8(1) + u16(len(items)) + join(*items)
+
+
+def aggregate_2(groups, aggs):
+    return u8(5) + u16(len(groups)) + join(*groups) + u16(len(aggs)) + join(*aggs)
+
+
+def window_2(*calls):
+    return u8(6) + u16(len(calls)) + join(*calls)
+
+
+def scan_2(columns=None, table=0, q=1, filters=()):
+    head = u8(11) + u8(table) + u16(q)
+    read = u8(0) if columns is None else u8(1) + u16(len(columns)) + join(*[u16(c) for c in columns])
+    return head + read + u8(len(filters)) + join(*filters)
+
+
+def empty_2(pairs=(), one_row=0):
+    return u8(12) + u8(one_row) + u16(len(pairs)) + join(*pairs)
+
+
+S_2 = scan_2()
+
+
+def version_2():
+    """Document 02's request 9. Every node kind with a wide count once, then keys, then filters, then what is wide."""
+    gives(HEADER_2 + scan_2([0]), HEADER_2 + projection_2(A) + S_2)  # S1
+    gives(HEADER_2 + scan_2([]), HEADER_2 + S_2, [])
+    gives(HEADER_2 + scan_2([2]), HEADER_2 + scan_2([2, 0]), [0])  # S6
+    sum_b, max_c = pair(*X) + u8(2) + B, pair(*Y) + u8(4) + C
+    gives(HEADER_2 + aggregate_2([A], [max_c]) + scan_2([0, 2]), HEADER_2 + aggregate_2([A], [sum_b, max_c]) + S_2, [2])  # S3
+    gives(HEADER_2 + empty_2(one_row=1), HEADER_2 + aggregate_2([], [pair(*X) + u8(0)]) + S_2, [])  # S4
+    rows = window_2(pair(*X) + u8(0) + u8(1) + A + u8(1) + u8(0) + B)
+    gives(HEADER_2 + rows + scan_2([0, 1]), HEADER_2 + rows + S_2, [3])  # S5
+    topped = B_IS_5 + projection_2(A, B) + DISTINCT
+    gives(HEADER_2 + topped + scan_2([0, 1, 2]), HEADER_2 + B_IS_5 + DISTINCT + S_2, [0])
+    for room in (0, 24):
+        refused(13, 25, HEADER_2 + projection_2(A) + S_2, room=room)
+    # each version read as the other: 259 columns, of which the fifth is called 0; three columns, then a node of tag 0
+    refused(4, 16, MARK_2 + HEADER[5:] + S)
+    refused(4, 13, MARK + HEADER_2[5:] + S_2)
+    refused(2, 0, b'CPL' + u16(3) + HEADER_2[5:] + S_2)
+
+
+def cuts_2():
+    """As cuts, where version 2 has other fields."""
+    a = [u8(0), u16(1), u16(1)]
+    call = [u16(1), u16(1), u8(2)] + a
+    fields = [u8(2), u16(2), u16(1), u16(2), u16(0), u8(1), u8(0), u16(2), u16(1), u16(0)]  # two tables, a key of two columns
+    fields += [u8(1), u16(1)] + a + [u8(5), u16(1)] + a + [u16(1)] + call  # Projection, Aggregate
+    fields += [u8(6), u16(1), u16(1), u16(1), u8(0), u8(0), u8(0), u8(8), u8(12), u8(0), u16(1), u16(1), u16(1)]  # Window, Union, Empty
+    fields += [u8(11), u8(0), u16(1), u8(1), u16(1), u16(1), u8(1)] + a  # Scan of a column with a filter
+    file = MARK_2
+    for field in fields:
+        refused(3, len(file), file)
+        if len(field) > 1:
+            refused(3, len(file), file + field[:-1])
+        file += field
+
+
+def counts_2():
+    """Limits and counts of version 2: at the limit what follows is looked at, past it nothing is."""
+    plan = 7  # a file without tables and keys: the plan starts at 7
+    none = head_2([])
+    for code, place, file in (
+        (5, 5, MARK_2 + u8(17)),
+        (5, 6, MARK_2 + u8(1) + u16(513)),
+        (5, 6, MARK_2 + u8(1) + u16(65535)),
+        (3, 8, MARK_2 + u8(1) + u16(512)),
+        (4, 8, MARK_2 + u8(1) + u16(1) + u16(0)),
+        (5, plan + 1, none + u8(1) + u16(513)),
+        (3, plan + 3, none + u8(1) + u16(512)),
+        (5, plan + 1, none + u8(5) + u16(513)),
+        (4, plan + 3, none + u8(5) + u16(0) + u16(0)),
+        (5, plan + 3, none + u8(5) + u16(0) + u16(513)),
+        (4, plan + 1, none + u8(6) + u16(0)),
+        (5, plan + 1, none + u8(6) + u16(513)),
+        (5, plan + 2, none + u8(12) + u8(0) + u16(513)),
+        (3, plan + 4, none + u8(12) + u8(0) + u16(256)),  # as one byte it would be none
+        # as they are in version 1: a sort's, a window's and a join's counts
+        (4, plan + 1, none + u8(3) + u8(0)),
+        (5, plan + 1, none + u8(3) + u8(17)),
+        (5, plan + 8, none + window_2(pair(0, 1) + u8(0) + u8(17))),
+        (5, plan + 9, none + window_2(pair(0, 1) + u8(0) + u8(0) + u8(17))),
+        (5, plan + 2, none + u8(10) + u8(0) + u8(17)),
+        # a scan's
+        (5, 20, HEADER_2 + scan_2()[:-2] + u8(1) + u16(513)),
+        (4, 22, HEADER_2 + scan_2([3])),
+        (4, 24, HEADER_2 + scan_2([2, 256])),  # as one byte it would be 0
+        (5, 20, HEADER_2 + scan_2()[:-1] + u8(17)),
+        (3, 21, HEADER_2 + scan_2()[:-1] + u8(16)),
+        (4, 21, HEADER_2 + scan_2()[:-1] + u8(1) + alias(0, 1, A)),
+        (6, 21, HEADER_2 + S_2 + u8(0)),
+    ):
+        refused(code, place, file)
+
+
+def keys_of_tables():
+    """"a table or column out of range or repeated, or an empty key, is 4." Kept and written back, in the order that they have."""
+    tables = [table_2(1, 2, 3), table_2(4, 5)]  # the keys' count is at 20, the first key at 21
+    for keys in ([key_2(0, 1)], [key_2(1, 1, 0), key_2(0, 2, 0, 1)]):
+        head = head_2(tables, keys)
+        gives(head + scan_2([0]), head + S_2, [0])
+        gives(head + scan_2([1]), head + projection_2(B) + S_2)
+    for code, place, keys in (
+        (5, 20, u8(17)),
+        (4, 21, u8(1) + u8(2)),
+        (4, 22, u8(1) + u8(0) + u16(0)),
+        (5, 22, u8(1) + u8(0) + u16(513)),
+        (4, 26, u8(1) + u8(0) + u16(512) + u16(0) + u16(0)),  # before the cut
+        (4, 24, u8(1) + key_2(1, 2)),
+        (4, 26, u8(1) + key_2(1, 1, 2)),
+        (4, 26, u8(1) + key_2(0, 2, 2)),
+        (4, 28, u8(1) + key_2(0, 2, 1, 2)),
+        (4, 26, u8(2) + key_2(0, 1) + key_2(0, 2)),
+        (4, 26, u8(2) + key_2(0, 1) + u8(2)),
+        (4, 31, u8(3) + key_2(0, 1) + key_2(1, 0) + key_2(0, 0)),
+        (4, 24, u8(1) + key_2(0, 65535)),
+    ):
+        refused(code, place, MARK_2 + u8(2) + join(*tables) + keys + S_2)
+    # of a table without columns every column is out of range
+    refused(4, 12, MARK_2 + u8(1) + table_2() + u8(1) + key_2(0, 0))
+    # 16 keys
+    sixteen = head_2([table_2(t + 1) for t in range(16)], [key_2(15 - t, 0) for t in range(16)])
+    gives(sixteen + scan_2([]), sixteen + S_2, [])
+
+
+def filters():
+    """"n filter expressions, over all its table's columns under the scan's qualifier"; "Filters stay"."""
+    five = equal(B, lit(5))
+    for f in (five, equal(col(0, 2), lit(5)), MISSING, add(C, A)):
+        gives(HEADER_2 + scan_2([0], filters=[f]), HEADER_2 + scan_2(filters=[f]), [0])
+        gives(HEADER_2 + scan_2([0], filters=[f]), HEADER_2 + scan_2([2, 0], filters=[f]), [1])
+        gives(HEADER_2 + scan_2([], filters=[f, f]), HEADER_2 + scan_2([], filters=[f, f]))
+    every = [equal(A, lit(i)) for i in range(16)]
+    gives(HEADER_2 + scan_2([1], filters=every), HEADER_2 + scan_2(filters=every), [1])
+    # not among the columns that are read, and nothing is asked of the scan for them
+    gives(HEADER_2 + scan_2([0], filters=[five]), HEADER_2 + projection_2(A) + scan_2(filters=[five]))
+    # under the scan's own qualifier
+    refused(8, 0, HEADER_2 + scan_2(filters=[col(2, 1)]))
+    refused(8, 0, HEADER_2 + scan_2(q=2, filters=[A]))
+    refused(8, 0, HEADER_2 + scan_2(filters=[col(1, 9)]))
+    refused(8, 0, HEADER_2 + scan_2(filters=[col(0, 9)]))
+    refused(8, 2, HEADER_2 + UNION + S_2 + scan_2([1], filters=[five, col(1, 4)]))
+    # two columns of one name: a qualified reference fits twice too; no clash among all columns, only among those that are read
+    twice = head_2([table_2(1, 1, 2)])
+    gives(twice + scan_2([0, 2], filters=[col(1, 2)]), twice + scan_2([0, 2], filters=[col(1, 2)]))
+    for ref in (col(1, 1), col(0, 1)):
+        refused(17, 0, twice + scan_2([0, 2], filters=[ref]))
+        refused(17, 0, twice + scan_2(filters=[ref]))  # before 7
+        refused(8, 0, twice + scan_2(filters=[ref, col(1, 9)]))  # before 17
+        refused(17, 1, twice + filter_(col(1, 9)) + scan_2([0], filters=[ref]))  # children first
+    refused(7, 0, twice + scan_2(filters=[col(1, 2)]))
+    # tags of filters count: 4,095 in the filter above, the 4,096th here, the next one at 26 + 4,095 + 5
+    refused(5, 4126, HEADER_2 + filter_(u8(3) * 4094 + MISSING) + scan_2([0], filters=[A, A]))
+    # eleven doublings merge to 4,096 tags, which is not too long; with the scan's filter the result passes the limit
+    y_y = projection_2(alias(*Y, add(col(*Y), col(*Y))))
+    refused(12, 0, HEADER_2 + y_y * 11 + projection_2(alias(*Y, A)) + scan_2(filters=[A]), mask=33)
+
+
+def wide_2():
+    """Tables of 256 columns: indices past 127 and 255, 512 fields and one more."""
+    half = head_2([table_2(*range(1, 257))])
+    two = scan_2(q=2)
+    gives(half + join_on(0) + scan_2([0, 255]) + scan_2([1, 255], q=2), half + join_on(0) + S_2 + two, [0, 255, 257, 511])
+    refused(11, 1, half + join_on(0) + S_2 + two, [511, 512])
+    refused(10, 0, half + join_on(0) + join_on(0) + S_2 + two + scan_2([0], q=3))
+    refused(10, 1, half + DISTINCT + window_2(pair(*X) + u8(0) + u8(0) + u8(0)) + join_on(3) + S_2 + two)
+    gives(half + join_on(4) + scan_2([255]) + scan_2([], q=2), half + join_on(4) + S_2 + two, [255])
+    last = equal(col(1, 256), lit(1))
+    gives(half + filter_(last) + scan_2([0, 255], filters=[last]), half + filter_(last) + scan_2(filters=[last]), [0])
+    whole = head_2([table_2(*range(1, 513))], [key_2(0, 511)])
+    gives(whole + scan_2([1, 511]), whole + S_2, [1, 511])
+
+
+for make in (settings_and_marks, samples, requests, counts_of_fields, limits_of_a_file, large, values, cuts, acceptance, checks, bare_names,
+             version_2, cuts_2, counts_2, keys_of_tables, filters, wide_2):
     make()
 
 
@@ -443,10 +647,17 @@ class Walk:
 
     def __init__(self, file):
         self.file, self.at, self.traits, self.field, self.starts = file, 5, set(), 'start', {}
+        self.second = file[3:4] == u8(2)
+        self.columns, self.items = (512, 512) if self.second else (64, 128)
         try:
             for _ in range(self.count('tables', 16)):
-                for _ in range(self.count('columns', 64)):
+                for _ in range(self.wide('columns', self.columns)):
                     self.number('name', 2)
+            for _ in range(self.count('keys of tables', 16) if self.second else 0):
+                self.traits.add(('late', 'key'))
+                self.number('table of a key', 1)
+                for _ in range(self.wide('columns of a key', self.columns)):
+                    self.number('column of a key', 2)
             self.plan()
         except (Stop, RecursionError):
             pass
@@ -459,8 +670,12 @@ class Walk:
         self.at += size
         return x
 
-    def count(self, field, limit):
-        n = self.number(field, 1)
+    def wide(self, field, limit):
+        """A count of one byte in version 1, of two in version 2."""
+        return self.count(field, limit, 2 if self.second else 1)
+
+    def count(self, field, limit, size=1):
+        n = self.number(field, size)
         if n == limit:
             self.traits.add(('at its limit', field))
         if n > limit:
@@ -504,7 +719,7 @@ class Walk:
         tag = self.number('node tag', 1)
         self.traits.add(('node', tag))
         if tag == 1:
-            for _ in range(self.count('items', 128)):
+            for _ in range(self.wide('items', self.items)):
                 self.expr(True)
         elif tag == 2:
             self.expr()
@@ -514,13 +729,13 @@ class Walk:
             self.number('skip', 4)
             self.number('fetch', 4)
         elif tag == 5:
-            for _ in range(self.count('groups', 128)):
+            for _ in range(self.wide('groups', self.items)):
                 self.expr(True)
-            for _ in range(self.count('aggregates', 128)):
+            for _ in range(self.wide('aggregates', self.items)):
                 if self.function('aggregate'):
                     self.expr()
         elif tag == 6:
-            for _ in range(self.count('windows', 128)):
+            for _ in range(self.wide('windows', self.items)):
                 f = self.function('window')
                 for _ in range(self.count('parts', 16)):
                     self.expr()
@@ -540,11 +755,14 @@ class Walk:
             self.number('table', 1)
             self.number('scan qualifier', 2)
             if self.number('given', 1):
-                for _ in range(self.count('scan columns', 64)):
-                    self.number('column index', 1)
+                for _ in range(self.wide('scan columns', self.columns)):
+                    self.number('column index', 2 if self.second else 1)
+            for _ in range(self.count('filters', 16) if self.second else 0):
+                self.traits.add(('late', 'filter'))
+                self.expr()
         elif tag == 12:
             self.number('one row', 1)
-            for _ in range(self.count('pairs of empty', 128)):
+            for _ in range(self.wide('pairs of empty', self.items)):
                 self.pair('empty')
         elif tag not in (8, 9):
             raise Stop
@@ -573,7 +791,7 @@ def traits(line):
         some['a byte too little'] = 5
     if code >= 7:
         for t in walk.traits:
-            if t[0] == 'node':
+            if t[0] in ('node', 'late'):
                 some['code', code, t] = 1
     return some
 
@@ -589,36 +807,41 @@ def check_traits(line):
         some['at node', code, min(place, 3)] = 1
     if code == 0:
         some['nodes', nodes if nodes in (1, 255, 256) else 'some'] = 2
-        some['fields', fields if fields in (0, 1, 64, 127, 128) else 'some'] = 2
+        some['fields', fields if fields in (0, 1, 64, 127, 128, 512) else 'some'] = 2
     if code == 0 or code >= 7:
         for t in walk.traits:
-            if t[0] in ('node', 'at its limit'):
+            if t[0] in ('node', 'late', 'at its limit'):
                 some['file', code, t] = 1
     return some
 
 
-def choose(lines, traits):
+def choose(lines, traits, most, longest):
+    """No trait is wanted more than `most` times."""
     taken, had = [], {}
-    for line in sorted((l for l in lines if len(l) <= LONGEST), key=lambda l: (len(l), l)):
+    for line in sorted((l for l in lines if len(l) <= longest), key=lambda l: (len(l), l)):
         some = traits(line)
-        if any(had.get(t, 0) < wanted for t, wanted in some.items()):
+        if any(had.get(t, 0) < min(wanted, most) for t, wanted in some.items()):
             taken.append(line)
             for t in some:
                 had[t] = had.get(t, 0) + 1
     return taken
 
 
+# the file, its traits, how often one is wanted at most, and the longest line
+CHOICES = [('library.txt', traits, 3, 3000), ('bare.txt', traits, 1, 1000), ('version2.txt', traits, 1, 3000)]
+CHECKS = [('check-bare.txt', check_traits, 1, 1000), ('check-v2.txt', check_traits, 1, 1000)]
+
+
 def main():
     folder = Path(sys.argv[1]) if len(sys.argv) > 1 else ROOT.parent / 'shared/vectors'
-    chosen = [line for name in ('library.txt', 'bare.txt') for line in choose((folder / name).read_text().split('\n')[:-1], traits)]
+    chosen, checks = ([line for name, *how in files for line in choose((folder / name).read_text().split('\n')[:-1], *how)] for files in (CHOICES, CHECKS))
     rust = (ROOT / 'oracle/answers.txt').read_text().split('\n')[:-1]
-    checks = choose((folder / 'check-bare.txt').read_text().split('\n')[:-1], check_traits)
     lines = cases + chosen + rust + checks
     text = ''.join(line + '\n' for line in lines)
     code_of = lambda line: int(line.partition(' => ')[2].split(' ')[0])
     codes = sorted({code_of(line) for line in lines})
     per_code = {code: sum(code_of(line) == code for line in lines) for code in codes}
-    crate = ROOT / 'crates/replay'
+    crate = Path(sys.argv[2]) if len(sys.argv) > 2 else ROOT / 'crates/replay'
     (crate / 'stdin').write_text(text)
     summary = [f'vectors {len(lines)}'] + [f'code {code}: {n}' for code, n in per_code.items()] + ['differ 0']
     (crate / 'stdout').write_text('\n'.join(summary) + '\n')

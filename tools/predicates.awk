@@ -1,5 +1,5 @@
 # tools/predicates.awk: what ./simmerroof keys shows. Standard input: bytes as decimal numbers.
-#   -v what=plan   an accepted plan file: a line for each filter and join condition: node, kind, offset, length, text
+#   -v what=plan   an accepted plan file: a line for each filter, join condition and filter of a scan: node, kind, offset, length, text
 #   -v what=keys   what the entry join_keys wrote: a line for each pair
 #   -v what=left   what the entry without_keys wrote: what is left, or `nothing`
 
@@ -10,7 +10,17 @@ END {
     at = 0
     if (what == "keys") { for (n = b[at++]; n > 0; n--) { left = expr(); print left " = " expr() } }
     else if (what == "left") print b[at++] ? expr() : "nothing"
-    else { at = 5; for (n = b[at++]; n > 0; n--) at += 2 * b[at] + 1; node() }
+    else { at = 5; catalogue(); node() }
+}
+
+# a file of version 2 has wide counts, keys behind its tables, and filters at the end of a scan
+function second() { return b[3] == 2 }
+
+function wide() { return second() ? u16() : b[at++] }
+
+function catalogue(    n, m) {
+    for (n = b[at++]; n > 0; n--) { m = wide(); at += 2 * m }
+    if (second()) for (n = b[at++]; n > 0; n--) { at++; m = u16(); at += 2 * m }
 }
 
 function u16(    v) { v = b[at] + 256 * b[at + 1]; at += 2; return v }
@@ -45,7 +55,7 @@ function expr(    tag, left) {
     return "(" left " " sign[tag - 4] " " expr() ")"
 }
 
-function exprs(    n) { for (n = b[at++]; n > 0; n--) expr() }
+function exprs(n) { for (; n > 0; n--) expr() }
 
 function keys(    n) { for (n = b[at++]; n > 0; n--) { at++; expr() } }
 
@@ -60,16 +70,17 @@ function predicate(k, kind,    from, text) {
 function node(    k, tag, n, f) {
     k = nodes++
     tag = b[at++]
-    if (tag == 1) exprs()
+    if (tag == 1) exprs(wide())
     if (tag == 2) predicate(k, "filter")
     if (tag == 3) keys()
     if (tag == 4) at += 8
-    if (tag == 5) { exprs(); for (n = b[at++]; n > 0; n--) if (call()) expr() }
-    if (tag == 6) for (n = b[at++]; n > 0; n--) { f = call(); exprs(); keys(); if (f) expr() }
+    if (tag == 5) { exprs(wide()); for (n = wide(); n > 0; n--) if (call()) expr() }
+    if (tag == 6) for (n = wide(); n > 0; n--) { f = call(); exprs(b[at++]); keys(); if (f) expr() }
     if (tag == 7) at += 2
     if (tag == 10) { at++; for (n = 2 * b[at++]; n > 0; n--) expr(); if (b[at++]) predicate(k, "join") }
-    if (tag == 11) { at += 3; if (b[at++]) at += b[at] + 1 }
-    if (tag == 12) { at++; at += 4 * b[at] + 1 }
+    if (tag == 11) { at += 3; if (b[at++]) { n = wide(); at += n * (second() ? 2 : 1) } }
+    if (tag == 11 && second()) for (n = b[at++]; n > 0; n--) predicate(k, "scan")
+    if (tag == 12) { at++; n = wide(); at += 4 * n }
     if (tag < 11) node()
     if (tag == 8 || tag == 10) node()
 }

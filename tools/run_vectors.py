@@ -89,8 +89,10 @@ def compared(name, program, vectors):
 FILES = [
     ('library.txt', 'replay', replayed),
     ('bare.txt', 'replay', replayed),
+    ('version2.txt', 'replay', replayed),
     ('program.txt', 'prune', one_by_one),
     ('check-bare.txt', 'replay', replayed),
+    ('check-v2.txt', 'replay', replayed),
     ('join_keys.txt', 'key_vectors', replayed),
     ('without_keys.txt', 'key_vectors', replayed),
 ]
@@ -112,6 +114,11 @@ def own():
     yield b'\x00\x00\x10', 'REFUSED 1 0\n'
     yield settings + bytes(65536), 'REFUSED 2 0\n'
     yield settings + s1 + b'\xff' * 70000, 'REFUSED 6 25\n'
+    # S1 in version 2, and with a filter on its scan, whose column is not read for it
+    s1_2 = bytes.fromhex('43504C0200 01 0300 0100 0200 0300 00 01 0100 00 0100 0100 0B 00 0100 00')
+    yield settings + s1_2 + b'\x00', 'PLAN 1\n0 scan 1\n'
+    yield settings + s1_2 + bytes.fromhex('01 00 0100 0300'), 'PLAN 1\n0 scan 1\n'
+    yield settings + s1_2 + bytes.fromhex('01 00 0100 0900'), 'REFUSED 8 1\n'
     most = marks + rows(128) * 101  # 64,949 bytes
     narrowed = 'PLAN 2\n0 aggregate 128\n1 empty 0\n'
     yield settings + most + rows(116) + b'\x0c\x00\x00', narrowed  # 65,535

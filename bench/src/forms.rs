@@ -73,10 +73,10 @@ impl<'a> Form<'a> {
         match self.which {
             Which::Pass | Which::Read => unreachable!("by itself"),
             Which::Rust => {
-                let rig::File { head, plan } = rig::read(file).expect("accepted");
+                let rig::File { head, version, plan } = rig::read(file).expect("accepted");
                 self.out.clear();
                 self.out.extend_from_slice(&head);
-                rig::write_plan(&mut self.out, &rig::pass(plan).expect("rewritten"));
+                rig::write_plan(&mut self.out, version, &rig::pass(plan).expect("rewritten"));
                 self.out.len()
             }
             Which::Lent => self.pruner.prune_all(self.set.mode, 0, file, &mut self.out).expect("accepted"),

@@ -1,5 +1,6 @@
 //! The plans, and the mode that they are pruned in.
 use generator::{Case, broad, random_of, sized};
+use model::{VERSION1, VERSION2};
 use simmerroof::{Mode, Pruner};
 
 pub struct Set {
@@ -67,14 +68,22 @@ impl Set {
     }
 }
 
-/// Plans of 5, 20, 80 and 256 nodes; 40 random ones of 20 nodes; 20 nodes over tables of 4 to 64 columns; and house mode.
+/// Plans of 5, 20, 80 and 256 nodes; 40 random ones of 20 nodes; 20 nodes over tables of 4 to 64 columns; and house mode. Then files
+/// of version 2: two of these plans, and 20 nodes over tables of up to 512 columns, without and with filters on the scans.
 pub fn all(dir: &str) -> Vec<Set> {
     std::fs::create_dir_all(dir).expect("a directory for the plans");
-    let nodes = |n: usize| Set::of(&format!("{n} nodes"), n, vec![sized(n)], dir);
-    let columns = |w: u16| Set::of(&format!("{w} columns"), 20, vec![broad(w)], dir);
+    let nodes = |n: usize| Set::of(&format!("{n} nodes"), n, vec![sized(VERSION1, n)], dir);
+    let columns = |w: u16| Set::of(&format!("{w} columns"), 20, vec![broad(VERSION1, w, false)], dir);
     let mut sets: Vec<Set> = [5, 20, 80, 256].map(|n| nodes(n).plotted()).into();
     sets.push(Set::of("20 nodes random", 20, random_of(20, 40, 20), dir));
     sets.extend([4, 16, 32, 64].map(columns));
     sets.extend([nodes(20), nodes(256), columns(4), columns(64)].map(Set::in_house_mode));
+    let second = |n: usize| Set::of(&format!("v2, {n} nodes"), n, vec![sized(VERSION2, n)], dir);
+    let wide = |w: u16| Set::of(&format!("v2, {w} columns"), 20, vec![broad(VERSION2, w, false)], dir);
+    let filtered = |w: u16| Set::of(&format!("v2, {w}, filters"), 20, vec![broad(VERSION2, w, true)], dir);
+    sets.extend([second(20), second(256)]);
+    sets.extend([4, 64, 256, 512].map(wide));
+    sets.push(filtered(512));
+    sets.extend([wide(512), filtered(512)].map(Set::in_house_mode));
     sets
 }

@@ -1,5 +1,6 @@
 //! The exported functions, as include/simmerroof.h declares them. The arrays that are lent are listed here once, in the
-//! order in which the library takes them.
+//! order in which the library takes them; the number at the end of the two names is that of these lengths, and a library of
+//! other lengths does not link.
 
 /// code, length, place
 pub type Answer = [u64; 3];
@@ -13,7 +14,7 @@ macro_rules! lent {
         }
 
         unsafe extern "C" {
-            fn simmerroof_prune_in(
+            fn simmerroof_prune_in2(
                 mode: u8,
                 mask: u16,
                 file: *const u8,
@@ -25,7 +26,7 @@ macro_rules! lent {
                 $($array: *mut [$of; $n],)*
                 answer: *mut Answer,
             );
-            fn simmerroof_prune_all_in(
+            fn simmerroof_prune_all_in2(
                 mode: u8,
                 mask: u16,
                 file: *const u8,
@@ -51,12 +52,12 @@ macro_rules! lent {
             // SAFETY: as in `prune`; the arrays are of the sizes that the library asks for and are borrowed exclusively
             unsafe {
                 match request {
-                    Some(r) => simmerroof_prune_in(
+                    Some(r) => simmerroof_prune_in2(
                         mode, mask, file.as_ptr(), file.len(), r.as_ptr(), r.len(), start, length,
                         $(&mut work.$array,)*
                         &mut answer,
                     ),
-                    None => simmerroof_prune_all_in(
+                    None => simmerroof_prune_all_in2(
                         mode, mask, file.as_ptr(), file.len(), start, length,
                         $(&mut work.$array,)*
                         &mut answer,
@@ -70,19 +71,22 @@ macro_rules! lent {
 
 lent! {
     cells: [u64; 12288],
-    rows: [u16; 409728],
+    rows: [u16; 1065088],
     nodes: [u64; 1792],
-    names: [u16; 1040],
-    fields: [u16; 65536],
-    widths: [u64; 256],
-    arows: [u16; 512],
+    names: [u16; 8208],
+    fields: [u16; 262144],
+    widths: [u64; 512],
+    arows: [u16; 2048],
     acells: [u64; 12288],
-    brows: [u16; 512],
+    brows: [u16; 2048],
     bcells: [u64; 12288],
-    records: [u64; 1536],
+    records: [u64; 3328],
     items: [u16; 16896],
     icells: [u64; 12288],
 }
+
+// what include/simmerroof.h and the documentation of `Pruner` say
+const _: () = assert!(size_of::<Work>() == 3_151_136);
 
 impl Work {
     /// On the heap from the start: it is too large to pass through the stack.

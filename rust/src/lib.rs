@@ -54,7 +54,7 @@ pub struct Shape {
 /// Is this an accepted plan file? It is read and checked as [`prune`] does it before it looks at the request, so a refusal here
 /// ([`Kind::Mark`] to [`Kind::Fields`], or [`Kind::Ambiguous`]) is what `prune` would answer, whatever the request.
 ///
-/// The library keeps 1 MB of working arrays on the stack; 4 MiB of stack are enough for every file.
+/// The library keeps its working arrays on the stack: 2.8 MB, more than the 2 MiB that Rust gives a thread; 4 MiB are enough.
 pub fn check(file: &[u8]) -> Result<Shape, Refusal> {
     let [code, place, nodes, fields] = abi::check(file);
     accepted(code, place).map(|_| Shape { nodes: nodes as usize, fields: fields as usize })
@@ -63,9 +63,9 @@ pub fn check(file: &[u8]) -> Result<Shape, Refusal> {
 /// Narrows the plan for the fields in `request`: indices of the root's fields, strictly increasing. Writes the result to
 /// the front of `out` and returns its length; what lies behind it stays. A refusal changes no byte of `out`.
 ///
-/// The library keeps 1.4 MB of working arrays on the stack and clears them in every call. The deepest plans then need
-/// more than the 2 MiB that Rust gives a thread; 4 MiB are enough. To prune many plans, or on such a thread, use a
-/// [`Pruner`].
+/// The library keeps its working arrays on the stack and clears them in every call: 1.2 MB for a file of version 1, 3.2 MB for
+/// one of version 2. That is more than the 2 MiB that Rust gives a thread where plans are deep or of version 2; 4 MiB are enough
+/// for version 1, 8 MiB for version 2. To prune many plans, or on such a thread, use a [`Pruner`].
 pub fn prune(mode: Mode, mask: u16, file: &[u8], request: &[u16], out: &mut [u8]) -> Result<usize, Refusal> {
     result(abi::prune(mode as u8, mask, file, Some(request), out))
 }
@@ -89,7 +89,8 @@ pub fn without_keys(predicate: &[u8], keys: &[u8], out: &mut [u8]) -> Result<usi
     result(abi::without_keys(predicate, keys, out))
 }
 
-/// Holds the library's working arrays (1,410,336 bytes) on the heap, made once and never cleared between calls.
+/// Holds the library's working arrays (3,151,136 bytes, for files of both versions) on the heap, made once and never cleared
+/// between calls.
 pub struct Pruner {
     work: Box<abi::Work>,
 }

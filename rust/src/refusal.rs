@@ -29,7 +29,7 @@ pub enum Kind {
     Unknown = 8,
     /// A Union's inputs have unequal widths. Place: node.
     Width = 9,
-    /// Over 128 fields. Place: node.
+    /// Over 128 fields, in version 2 over 512. Place: node.
     Fields = 10,
     /// The request is not strictly increasing, or not below the root's field count. Place: the first such position.
     Request = 11,
@@ -45,7 +45,7 @@ pub enum Kind {
 
 const KINDS: [(Kind, &str); 15] = [
     (Kind::Setting, "setting not allowed"),
-    (Kind::Mark, "not a plan file of version 1"),
+    (Kind::Mark, "not a plan file of version 1 or 2"),
     (Kind::Cut, "a field runs past the end, at offset"),
     (Kind::Value, "a value is not allowed, at offset"),
     (Kind::Many, "too many, at offset"),
@@ -53,7 +53,7 @@ const KINDS: [(Kind, &str); 15] = [
     (Kind::Clash, "clashing fields at node"),
     (Kind::Unknown, "unknown column at node"),
     (Kind::Width, "a union of unequal widths at node"),
-    (Kind::Fields, "over 128 fields at node"),
+    (Kind::Fields, "too many fields at node"),
     (Kind::Request, "request not increasing or out of range at position"),
     (Kind::Large, "the rewritten plan passes a limit"),
     (Kind::Room, "the output is too short; bytes needed:"),

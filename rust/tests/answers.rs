@@ -2,7 +2,9 @@
 //! plain and the lent form.
 use simmerroof::{Mode, Pruner, Refusal, prune, prune_all};
 
+mod deep;
 mod hex;
+use deep::on_deep_stack;
 use hex::bytes;
 
 const UNTOUCHED: u8 = 0xA5;
@@ -40,6 +42,6 @@ fn line(text: &str, pruner: &mut Pruner) {
 fn the_texts_answers() {
     let list = std::fs::read_to_string(concat!(env!("CARGO_MANIFEST_DIR"), "/../oracle/answers.txt")).unwrap();
     let mut pruner = Pruner::new();
-    list.lines().for_each(|text| line(text, &mut pruner));
-    assert!(list.lines().count() >= 300);
+    on_deep_stack(|| list.lines().for_each(|text| line(text, &mut pruner)));
+    assert!(list.lines().count() >= 342);
 }

@@ -2,6 +2,9 @@
 use simmerroof::{Kind, Mode, Pruner, Refusal, prune_all};
 use std::path::PathBuf;
 
+mod deep;
+use deep::on_deep_stack;
+
 const UNTOUCHED: u8 = 0xA5;
 const ROOM: usize = 4096;
 
@@ -35,6 +38,10 @@ fn answers(pruner: &mut Pruner, file: &[u8]) -> [Result<usize, Refusal>; 2] {
 
 #[test]
 fn cut_files() {
+    on_deep_stack(cut_at_every_byte);
+}
+
+fn cut_at_every_byte() {
     let mut pruner = Pruner::new();
     for (name, file) in samples() {
         for n in 0..file.len() {
@@ -50,6 +57,10 @@ fn cut_files() {
 
 #[test]
 fn files_with_a_tail() {
+    on_deep_stack(with_a_tail);
+}
+
+fn with_a_tail() {
     let mut pruner = Pruner::new();
     for (_, mut file) in samples() {
         let end = file.len();
@@ -60,10 +71,15 @@ fn files_with_a_tail() {
 
 #[test]
 fn files_with_one_wrong_byte() {
+    on_deep_stack(with_one_wrong_byte);
+}
+
+fn with_one_wrong_byte() {
     let mut pruner = Pruner::new();
     let mut codes = [0; 18];
     for (_, file) in samples() {
-        for at in 0..file.len() {
+        // of the names of a wide table every sixteenth byte
+        for at in (0..file.len()).filter(|at| *at < 64 || at + 96 > file.len() || at % 16 == 0) {
             for wrong in [0, 1, 2, 3, 7, 8, 12, 13, 64, 65, 128, 129, 255] {
                 let mut file = file.clone();
                 file[at] = wrong;
@@ -81,6 +97,10 @@ fn files_with_one_wrong_byte() {
 
 #[test]
 fn no_file_and_no_room() {
+    on_deep_stack(with_no_room);
+}
+
+fn with_no_room() {
     assert_eq!(answers(&mut Pruner::new(), &[]), [Err(Refusal { kind: Kind::Mark, place: 0 }); 2]);
     let (_, file) = samples().swap_remove(0);
     let answer = prune_all(Mode::House, 0, &file, &mut []).unwrap_err();

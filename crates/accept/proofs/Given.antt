@@ -1,14 +1,14 @@
 -- The fields of a node, kind by kind. Assumes nothing.
 use mathlib.Core.Path.{_≡_, refl, sym, ap, ap₂, _∙_}
 use mathlib.Core.Bool.{Bool, true, false, cond, true≢false}
-use mathlib.Core.List.{List, [], _∷_, _++_, map}
+use mathlib.Core.List.{List, _∷_, _++_, map}
 use Prim.Native.Nat.{ℕ, zero, suc, _+_}
 use native.Mathlib.Omega.{arith}
 use lib.Dec.{eqb}
-use lib.ListN.{length, getD}
+use lib.ListN.{length}
 use Rattle.cpl.specs.Accept.{even, together}
 use Rattle.cpl.specs.Fields.{binaryFields, columnsOf, leafFields, scanField}
-use Rattle.cpl.specs.Plan.{Catalogue, Expr, Pair, aggPair, bare, itemPair, named, scan, winPair}
+use Rattle.cpl.specs.Plan.{Catalogue, Expr, Pair, aggPair, bare, itemPair, named, namesOf, scan, winPair}
 use Rattle.arena.specs.Cells.{exprAt}
 use Rattle.arena.specs.Rows.{itemAt, itemsAt, markAt, pairAt, rootAt, rowItem}
 use Rattle.tree.specs.Rows.{aggAt, aggsAt, listAt, one, pairsAt, winAt, winSize, winsAt}
@@ -19,8 +19,10 @@ use Rattle.lookup.proofs.Lists.{list-append, list-map}
 use Rattle.accept.specs.Heads.{evenHead, fieldsHead, togetherHead}
 use Rattle.lookup.specs.Fields.{leftRow, rightRow}
 use Rattle.lookup.specs.declared.Sides.{Sides}
-use Rattle.accept.specs.Nodes.{evenOf, joins, parts}
-use Rattle.accept.proofs.Rowed.{row-length}
+use Rattle.cpl.specs.ReadPlan.{Head}
+use Rattle.accept.specs.Nodes.{KeptBelow, Rowed, SidesReady, evenOf, joins, parts}
+use Rattle.accept.specs.declared.Row.{Row}
+use Rattle.accept.proofs.Rowed.{below-then, left-after, right-after, row-length, rowed-is}
 
 pub fields-at : {n m : Node} (C : Catalogue) (cells rows : List ℕ) (fl fr : List Pair) → n ≡ m → fieldsHead C (headOf (parts cells rows) m) fl fr ≡ fieldsHead C (headOf (parts cells rows) n) fl fr
 fields-at C cells rows fl fr e = ap (λ n. fieldsHead C (headOf (parts cells rows) n) fl fr) (sym e)
@@ -48,9 +50,9 @@ pub wins-pairs : (s cells : List ℕ) (f n : ℕ) → listAt (pairAt s) (winSize
 unfolding winPair winAt
 wins-pairs s cells f n = sym (list-map winPair (winAt s cells) (winSize s) f n)
 
-pub scan-fields : (C : Catalogue) (T : List ℕ) (t q : ℕ) (b : Bool) (xs : List ℕ) → getD C t [] ≡ T → map (scanField T q) (columnsOf T (if? b xs)) ≡ leafFields C (scan t q (if? b xs))
+pub scan-fields : (C : Catalogue) (T : List ℕ) (t q : ℕ) (b : Bool) (xs : List ℕ) (es : List Expr) → namesOf C t ≡ T → map (scanField T q) (columnsOf T (if? b xs)) ≡ leafFields C (scan t q (if? b xs) es)
 unfolding leafFields
-scan-fields C T t q b xs e = ap (λ U. map (scanField U q) (columnsOf U (if? b xs))) (sym e)
+scan-fields C T t q b xs es e = ap (λ U. map (scanField U q) (columnsOf U (if? b xs))) (sym e)
 
 -- ── what else is asked of a node ────────────────────────────────────────────────────────────
 
@@ -120,3 +122,10 @@ head-same cells rows x y Distinct = refl
 head-same cells rows x y (Join j) = refl
 head-same cells rows x y (Scan s) = refl
 head-same cells rows x y (Empty b f n) = refl
+
+-- a row over the sides as they were before what lies above them was written
+pub rowed-since : (C : Catalogue) (h : Head) {free most : ℕ} {x : Sides} {r : Row} {s s₁ s₂ : List ℕ} → SidesReady s free most x → KeptBelow free s s₁ → Rowed free most r (fieldsHead C h (leftRow s₁ x) (rightRow s₁ x)) s₁ s₂
+    → Rowed free most r (fieldsHead C h (leftRow s x) (rightRow s x)) s s₂
+rowed-since C h o p w =
+    let v = rowed-is w (ap₂ (fieldsHead C h) (left-after o p) (right-after o p)) in
+    record { long = v .long; kept = below-then p (v .kept); stored = v .stored }

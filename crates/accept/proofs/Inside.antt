@@ -1,5 +1,5 @@
 -- Node by node: what a tree says of a node is what code needs to judge it. Assumes nothing.
-use mathlib.Core.Path.{_≡_, sym, subst}
+use mathlib.Core.Path.{_≡_, sym, ap, subst, _∙_}
 use mathlib.Core.Bool.{true}
 use mathlib.Core.List.{List, []}
 use Prim.Native.Nat.{ℕ, zero, suc, _+_, _<_, _≤_}
@@ -7,18 +7,20 @@ use native.Mathlib.Decide.{ℕ-discrete}
 use native.Mathlib.Omega.{arith}
 use lib.ListN.{length, getD}
 use Rattle.cpl.specs.Lists.{All, _a∷_}
-use Rattle.cpl.specs.Plan.{Catalogue, Plan}
+use Rattle.cpl.specs.Plan.{Catalogue, Expr, keyless, namesOf}
 use Rattle.cpl.specs.ReadPlan.{Head, h0, h1, h2}
-use Rattle.cpl.specs.Writable.{FitColumns, FitLeaf, FitList, FitPlan}
+use Rattle.cpl.specs.Writable.{FitCatalogue, FitColumns, FitLeaf, FitList, FitPlan}
+use Rattle.cpl.proofs.CatalogueTrip.{few-columns}
+use Rattle.versions.proofs.Small.{small}
 use Rattle.arena.specs.Rows.{RowsOk}
-use Rattle.tree.specs.Rows.{AggOk, AllAt, EachOk, Inside, WinOk, columnsAt, listAt, numberAt, one, winSize}
+use Rattle.tree.specs.Rows.{AggOk, AllAt, EachOk, Inside, WinOk, columnsAt, exprsAt, listAt, numberAt, one, winSize}
 use Rattle.tree.specs.Shows.{Stands}
 use Rattle.tree.specs.Tree.{Arrays, PartsOk, headOf, if?, lent, planAt}
 use Rattle.tree.specs.declared.Node.{Node}
 use Rattle.tree.specs.declared.Node.the-variants.{Projection, Filter, Sort, Limit, Aggregate, Window, SubqueryAlias, Union, Distinct, Join, Scan, Empty}
 use Rattle.tree.specs.declared.ScanNode.{ScanNode}
 use Rattle.lookup.proofs.Lists.{list-length}
-use Rattle.parts.specs.Catalogue.{NamesOk, TableIn, catalogueAt}
+use Rattle.parts.specs.Catalogue.{NamesOk, catalogueAt, tableAt}
 use Rattle.parts.specs.Parts.{WinInside}
 use Rattle.parts.proofs.Tables.{catalogue-at, catalogue-length}
 use Rattle.accept.specs.Nodes.{Named, NodeInside, ScanInside}
@@ -70,28 +72,32 @@ rows-inside s cells f n o = record { room = o .room; each = λ k a b. o .each k 
 both-inside : (s cells : List ℕ) (f g v : ℕ) → RowsOk s cells f g → EachOk (AggOk s cells) s (f + g) v → EachOk (Inside s) s f (g + v)
 both-inside s cells f g v o p = record { room = omega (arith, p .room); each = λ k a b. omega (arith, p .room) }
 
-module _ (names : List ℕ) (tables : ℕ) (ok : NamesOk names tables) where
-  table-in : (t : ℕ) → t < length (catalogueAt names tables) → TableIn names t
-  table-in t h = ok .each t (omega (arith, catalogue-length names tables))
+module _ {C : Catalogue} {names : List ℕ} {tables most : ℕ} (ok : NamesOk names tables) (fits : FitCatalogue C) (are : C .tables ≡ catalogueAt names tables) (m : C .version .maxFields ≡ most) where
+  table-there : (t : ℕ) → t < length (C .tables) → t < tables
+  table-there t h = omega (arith, h, ap length are ∙ catalogue-length names tables)
 
-  scan-inside : (rows : List ℕ) (s : ScanNode) → EachOk (Inside rows) rows (s .first) (s .n)
-      → FitLeaf (catalogueAt names tables) (Rattle.cpl.specs.Plan.scan (s .table) (s .qualifier) (if? (s .given) (columnsAt rows (s .first) (s .n)))) → ScanInside names rows s
+  table-named : (t : ℕ) → t < length (C .tables) → namesOf C t ≡ tableAt names t
+  table-named t h = ap (λ T. getD T t []) are ∙ catalogue-at names tables t (table-there t h)
+
+  scan-inside : (rows : List ℕ) (s : ScanNode) (es : List Expr) → EachOk (Inside rows) rows (s .first) (s .n)
+      → FitLeaf C (Rattle.cpl.specs.Plan.scan (s .table) (s .qualifier) (if? (s .given) (columnsAt rows (s .first) (s .n))) es) → ScanInside most names rows s
   unfolding FitLeaf FitColumns FitList
-  scan-inside rows s o f =
-      let t : s .table < tables = omega (arith, f .0, catalogue-length names tables) in
-      let named = catalogue-at names tables (s .table) t in
-      let fit : s .given ≡ true → (length (columnsAt rows (s .first) (s .n)) ≤ 64) × All (λ i. i < length (getD (catalogueAt names tables) (s .table) [])) (columnsAt rows (s .first) (s .n)) =
-      λ e. subst (λ b. FitColumns (length (getD (catalogueAt names tables) (s .table) [])) (if? b (columnsAt rows (s .first) (s .n)))) e (f .2) in
+  scan-inside rows s es o f =
+      let named = table-named (s .table) (f .0) in
+      let v = small (fits .version-is) in
+      let fit : s .given ≡ true → (length (columnsAt rows (s .first) (s .n)) ≤ C .version .maxColumns) × All (λ i. i < length (namesOf C (s .table))) (columnsAt rows (s .first) (s .n)) =
+      λ e. subst (λ b. FitColumns (C .version) (length (namesOf C (s .table))) (if? b (columnsAt rows (s .first) (s .n)))) e (f .2) in
       record {
-        table = table-in (s .table) (f .0);
-        few = λ e. omega (arith, fit e .0, list-length (numberAt rows) one (s .first) (s .n));
+        table = ok .each (s .table) (table-there (s .table) (f .0));
+        all-few = omega (arith, ap length named, few-columns C fits (s .table), v .columns-fields, m);
+        few = λ e. omega (arith, fit e .0, list-length (numberAt rows) one (s .first) (s .n), v .columns-fields, m);
         columns = λ e. record {
           room = o .room;
           each = λ k a b. record { inside = o .each k a b; column = subst (λ T. numberAt rows k < length T) named (all-at (numberAt rows) (s .first) (s .n) (fit e .1) k a b) };
         };
       }
 
-  pub node-inside : (cells rows nodes : List ℕ) (n : Node) → PartsOk (lent cells rows nodes) n → FitHead (catalogueAt names tables) (headOf (lent cells rows nodes) n) → NodeInside names rows n
+  pub node-inside : (cells rows nodes : List ℕ) (n : Node) → PartsOk (lent cells rows nodes) n → FitHead C (headOf (lent cells rows nodes) n) → NodeInside most names rows n
   node-inside cells rows nodes (Projection f n) o fit = rows-inside rows cells f n o
   node-inside cells rows nodes (Filter r) o fit = tt
   node-inside cells rows nodes (Sort f n) o fit = tt
@@ -102,10 +108,10 @@ module _ (names : List ℕ) (tables : ℕ) (ok : NamesOk names tables) where
   node-inside cells rows nodes (Union r) o fit = tt
   node-inside cells rows nodes Distinct o fit = tt
   node-inside cells rows nodes (Join j) o fit = tt
-  node-inside cells rows nodes (Scan s) o fit = scan-inside rows s o fit
+  node-inside cells rows nodes (Scan s) o fit = scan-inside rows s (exprsAt rows cells (s .first + s .n) (s .filters)) (o .0) fit
   node-inside cells rows nodes (Empty b f n) o fit = o
 
-  pub node-named : (a : Arrays) (n : Node) → FitHead (catalogueAt names tables) (headOf a n) → Named (catalogueAt names tables) names n
+  pub node-named : (a : Arrays) (n : Node) → FitHead C (headOf a n) → Named C names n
   unfolding FitLeaf
   node-named a (Projection f n) fit = tt
   node-named a (Filter r) fit = tt
@@ -117,20 +123,20 @@ module _ (names : List ℕ) (tables : ℕ) (ok : NamesOk names tables) where
   node-named a (Union r) fit = tt
   node-named a Distinct fit = tt
   node-named a (Join j) fit = tt
-  node-named a (Scan s) fit = catalogue-at names tables (s .table) (omega (arith, fit .0, catalogue-length names tables))
+  node-named a (Scan s) fit = table-named (s .table) (fit .0)
   node-named a (Empty b f n) fit = tt
 
 -- some catalogue has the table of a scan
 pub some-catalogue : (names : List ℕ) (n : Node) → (C : Catalogue) × Named C names n
-some-catalogue names (Projection f n) = ([], tt)
-some-catalogue names (Filter r) = ([], tt)
-some-catalogue names (Sort f n) = ([], tt)
-some-catalogue names (Limit s n) = ([], tt)
-some-catalogue names (Aggregate f g v) = ([], tt)
-some-catalogue names (Window f n) = ([], tt)
-some-catalogue names (SubqueryAlias q) = ([], tt)
-some-catalogue names (Union r) = ([], tt)
-some-catalogue names Distinct = ([], tt)
-some-catalogue names (Join j) = ([], tt)
-some-catalogue names (Scan s) = (catalogueAt names (s .table + 1), catalogue-at names (s .table + 1) (s .table) (omega arith))
-some-catalogue names (Empty b f n) = ([], tt)
+some-catalogue names (Projection f n) = (keyless [], tt)
+some-catalogue names (Filter r) = (keyless [], tt)
+some-catalogue names (Sort f n) = (keyless [], tt)
+some-catalogue names (Limit s n) = (keyless [], tt)
+some-catalogue names (Aggregate f g v) = (keyless [], tt)
+some-catalogue names (Window f n) = (keyless [], tt)
+some-catalogue names (SubqueryAlias q) = (keyless [], tt)
+some-catalogue names (Union r) = (keyless [], tt)
+some-catalogue names Distinct = (keyless [], tt)
+some-catalogue names (Join j) = (keyless [], tt)
+some-catalogue names (Scan s) = (keyless (catalogueAt names (s .table + 1)), catalogue-at names (s .table + 1) (s .table) (omega arith))
+some-catalogue names (Empty b f n) = (keyless [], tt)

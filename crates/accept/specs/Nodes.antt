@@ -4,20 +4,20 @@ use mathlib.Core.Bool.{Bool, true, false}
 use mathlib.Core.List.{List, []}
 use Prim.Native.Nat.{ℕ, _+_, _<_, _≤_}
 use lib.Dec.{eqb}
-use lib.ListN.{length, getD}
+use lib.ListN.{length}
 use Rattle.cpl.specs.Accept.{clash}
-use Rattle.cpl.specs.Limits.{maxFields}
-use Rattle.cpl.specs.Plan.{Binary, Catalogue, Leaf, Pair, Unary}
-use Rattle.cpl.specs.ReadPlan.{h0, h1, h2}
+use Rattle.cpl.specs.Plan.{Binary, Catalogue, Leaf, Pair, Unary, namesOf}
+use Rattle.cpl.specs.ReadPlan.{Head, h0, h1, h2}
 use Rattle.tree.specs.Rows.{AllAt, EachOk, Inside, winSize}
 use Rattle.tree.specs.Tree.{Arrays, headOf, lent, rightOf}
 use Rattle.tree.specs.declared.Node.{Node}
 use Rattle.tree.specs.declared.Node.the-variants.{Projection, Filter, Sort, Limit, Aggregate, Window, SubqueryAlias, Union, Distinct, Join, Scan, Empty}
 use Rattle.tree.specs.declared.ScanNode.{ScanNode}
-use Rattle.lookup.specs.Fields.{RowIn, RowsKept, SidesIn, leftRow, rightRow, rowAt}
+use Rattle.lookup.specs.Fields.{RowIn, SidesClear, fieldAt, leftRow, rightRow, rowAt}
 use Rattle.lookup.specs.declared.Sides.{Sides}
 use Rattle.parts.specs.Catalogue.{TableIn, tableAt}
 use Rattle.parts.specs.Parts.{ColumnOk, WinInside}
+use Rattle.accept.specs.Heads.{inputHead, passesHead}
 use Rattle.accept.specs.declared.Kids.{Kids}
 use Rattle.accept.specs.declared.Kids.the-variants.{Nothing, One, Two}
 use Rattle.accept.specs.declared.Row.{Row}
@@ -28,25 +28,27 @@ parts cells rows = lent cells rows []
 
 -- ── a node ──────────────────────────────────────────────────────────────────────────────────
 
-pub record ScanInside (names rows : List ℕ) (s : ScanNode) : Type 0 where
+-- a scan's table and columns lie in the arrays; neither are more than `most`
+pub record ScanInside (most : ℕ) (names rows : List ℕ) (s : ScanNode) : Type 0 where
   pub table : TableIn names (s .table)
-  pub few : s .given ≡ true → s .n ≤ maxFields
+  pub all-few : length (tableAt names (s .table)) ≤ most
+  pub few : s .given ≡ true → s .n ≤ most
   pub columns : s .given ≡ true → EachOk (ColumnOk rows (length (tableAt names (s .table)))) rows (s .first) (s .n)
 
 -- what gives a node's fields lies in the arrays
-abbrev pub NodeInside : (names rows : List ℕ) → Node → Type 0
-NodeInside names rows (Projection f n) = EachOk (Inside rows) rows f n
-NodeInside names rows (Filter r) = Unit {0}
-NodeInside names rows (Sort f n) = Unit {0}
-NodeInside names rows (Limit s n) = Unit {0}
-NodeInside names rows (Aggregate f g v) = EachOk (Inside rows) rows f (g + v)
-NodeInside names rows (Window f n) = AllAt (WinInside rows) (winSize rows) f n
-NodeInside names rows (SubqueryAlias q) = Unit {0}
-NodeInside names rows (Union r) = Unit {0}
-NodeInside names rows Distinct = Unit {0}
-NodeInside names rows (Join j) = Unit {0}
-NodeInside names rows (Scan s) = ScanInside names rows s
-NodeInside names rows (Empty b f n) = EachOk (Inside rows) rows f n
+abbrev pub NodeInside : (most : ℕ) (names rows : List ℕ) → Node → Type 0
+NodeInside most names rows (Projection f n) = EachOk (Inside rows) rows f n
+NodeInside most names rows (Filter r) = Unit {0}
+NodeInside most names rows (Sort f n) = Unit {0}
+NodeInside most names rows (Limit s n) = Unit {0}
+NodeInside most names rows (Aggregate f g v) = EachOk (Inside rows) rows f (g + v)
+NodeInside most names rows (Window f n) = AllAt (WinInside rows) (winSize rows) f n
+NodeInside most names rows (SubqueryAlias q) = Unit {0}
+NodeInside most names rows (Union r) = Unit {0}
+NodeInside most names rows Distinct = Unit {0}
+NodeInside most names rows (Join j) = Unit {0}
+NodeInside most names rows (Scan s) = ScanInside most names rows s
+NodeInside most names rows (Empty b f n) = EachOk (Inside rows) rows f n
 
 -- a scan's table is the one that the array has
 abbrev pub Named : Catalogue → (names : List ℕ) → Node → Type 0
@@ -60,7 +62,7 @@ Named C names (SubqueryAlias q) = Unit {0}
 Named C names (Union r) = Unit {0}
 Named C names Distinct = Unit {0}
 Named C names (Join j) = Unit {0}
-Named C names (Scan s) = getD C (s .table) [] ≡ tableAt names (s .table)
+Named C names (Scan s) = namesOf C (s .table) ≡ tableAt names (s .table)
 Named C names (Empty b f n) = Unit {0}
 
 -- "Union inputs of unequal width"
@@ -100,20 +102,45 @@ KidsAre n (Two r) = (r ≡ rightOf n) × ((a : Arrays) → (h : Binary) × (head
 
 -- ── its sides and its row ───────────────────────────────────────────────────────────────────
 
--- the two sides of node k: later nodes, with few fields that do not clash; and node k has room for its own
-pub record SidesReady (s : List ℕ) (k : ℕ) (x : Sides) : Type 0 where
-  pub sides-in : SidesIn s x
-  pub after-left : k < x .left
-  pub after-right : k < x .right
-  pub few-left : x .lwidth ≤ maxFields
-  pub few-right : x .rwidth ≤ maxFields
+-- an array of fields was written to: it is as long as before, and below field `free` reads the same
+pub record KeptBelow (free : ℕ) (s s′ : List ℕ) : Type 0 where
+  pub long : length s′ ≡ length s
+  pub low : (x : ℕ) → x < free → fieldAt s′ x ≡ fieldAt s x
+
+-- the two sides of a node lie below field `free`, and have few fields that do not clash; from `free` on there is room for the node's own
+pub record SidesReady (s : List ℕ) (free most : ℕ) (x : Sides) : Type 0 where
+  pub before-left : x .left + x .lwidth ≤ free
+  pub before-right : x .right + x .rwidth ≤ free
+  pub few-left : x .lwidth ≤ most
+  pub few-right : x .rwidth ≤ most
   pub clear-left : clash (leftRow s x) ≡ false
   pub clear-right : clash (rightRow s x) ≡ false
-  pub room : RowIn s k maxFields
+  pub room : RowIn s free most
 
--- node k's fields are fs: as many as the row says, stored unless they are too many. The first `clear` of them do not clash.
-pub record Rowed (k : ℕ) (row : Row) (fs : List Pair) (s s′ : List ℕ) : Type 0 where
+-- what is asked so that the fields that a node's expressions are over can be had
+pub record Looking (names s : List ℕ) (free : ℕ) (n : Node) (x : Sides) : Type 0 where
+  pub most : ℕ
+  pub rows : List ℕ
+  pub inside : NodeInside most names rows n
+  pub ready : SidesReady s free most x
+
+-- they are the sides y, once the array is s′: the expressions of the head h pass over them where they pass over what they are to be over
+pub record Looked (C : Catalogue) (free : ℕ) (h : Head) (x y : Sides) (s s′ : List ℕ) : Type 0 where
+  pub clear : SidesClear s′ y
+  pub kept : KeptBelow free s s′
+  pub passes : passesHead h (leftRow s′ y) (rightRow s′ y) ≡ passesHead h (inputHead C h (leftRow s x)) (rightRow s x)
+
+-- a row with the fields fs is stored. The first `clear` of them do not clash, and it ends below the next free field.
+pub record RowStored (free most : ℕ) (row : Row) (fs : List Pair) (s′ : List ℕ) : Type 0 where
+  pub is : rowAt s′ (row .first) (row .width) ≡ fs
+  pub part : row .clear ≤ row .width
+  pub clear : clash (rowAt s′ (row .first) (row .clear)) ≡ false
+  pub before : row .first + row .width ≤ row .next
+  pub from : free ≤ row .next
+  pub upto : row .next ≤ free + most
+
+-- a node's fields are fs: as many as the row says, stored unless they are more than `most`
+pub record Rowed (free most : ℕ) (row : Row) (fs : List Pair) (s s′ : List ℕ) : Type 0 where
   pub long : row .width ≡ length fs
-  pub kept : RowsKept k (k + 1) s s′
-  pub stored : row .width ≤ maxFields → rowAt s′ k (row .width) ≡ fs
-  pub first : row .width ≤ maxFields → (row .clear ≤ row .width) × (clash (rowAt s′ k (row .clear)) ≡ false)
+  pub kept : KeptBelow free s s′
+  pub stored : row .width ≤ most → RowStored free most row fs s′

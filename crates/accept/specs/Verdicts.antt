@@ -7,48 +7,99 @@ use lib.ListN.{length}
 use Rattle.cpl.specs.Accept.{Fault, check, fault}
 use Rattle.cpl.specs.Exprs.{planNodes}
 use Rattle.cpl.specs.Fields.{fieldsOf}
-use Rattle.cpl.specs.Limits.{maxFields, maxNodes}
+use Rattle.cpl.specs.Limits.{maxNodes}
 use Rattle.cpl.specs.Plan.{Catalogue, Pair}
 use Rattle.cpl.specs.ReadPlan.{Head}
+use Rattle.cpl.specs.Writable.{FitCatalogue}
+use Rattle.versions.specs.Versions.{versionOf}
+use Rattle.versions.specs.declared.Version.{Version}
 use Rattle.tree.specs.Tree.{Arrays, WfTree, planAt}
-use Rattle.lookup.specs.Fields.{RowsKept, WidthsKept, fieldsAt, widthAt}
-use Rattle.parts.specs.Catalogue.{NamesOk}
+use Rattle.lookup.specs.Fields.{RowIn, WidthsKept, fieldsAt, firstAt, widthAt}
+use Rattle.parts.specs.Catalogue.{NamesOk, catalogueAt}
 use Rattle.accept.specs.Heads.{fieldsHead, headFault}
+use Rattle.accept.specs.Nodes.{KeptBelow}
 use Rattle.accept.specs.declared.Verdict.{Verdict}
 use Rattle.accept.specs.declared.Verdict.the-variants.{Fine, Bad}
 
 abbrev pub faultOf : Verdict → Option Fault
-faultOf Fine = none
+faultOf (Fine next) = none
 faultOf (Bad code node) = some (fault code node)
 
--- node k, with head h over inputs with the fields fl and fr, is judged: s and w are the fields and widths before, s′ and w′ after
-pub record Judged (C : Catalogue) (h : Head) (fl fr : List Pair) (k : ℕ) (s w s′ w′ : List ℕ) (r : Verdict) : Type 0 where
-  pub says : faultOf r ≡ headFault C k h fl fr
-  pub row : faultOf r ≡ none → (fieldsAt s′ w′ k ≡ fieldsHead C h fl fr) × (widthAt w′ k ≤ maxFields)
-  pub rows-kept : RowsKept k (k + 1) s s′
+-- ── a node by itself ────────────────────────────────────────────────────────────────────────
+
+-- node k, with head h over inputs with the fields fl and fr, has its row, which ends below field `next`: s and w are the fields and widths before,
+-- s′ and w′ after. Fields below `free` were kept.
+pub record Placed (C : Catalogue) (h : Head) (fl fr : List Pair) (k free next : ℕ) (s w s′ w′ : List ℕ) : Type 0 where
+  pub from : free ≤ next
+  pub upto : next ≤ free + C .version .maxFields
+  pub row : fieldsAt s′ w′ k ≡ fieldsHead C h fl fr
+  pub few : widthAt w′ k ≤ C .version .maxFields
+  pub before : firstAt w′ k + widthAt w′ k ≤ next
+  pub inside : RowIn s′ (firstAt w′ k) (widthAt w′ k)
+  pub rows-kept : KeptBelow free s s′
   pub widths-kept : WidthsKept k (k + 1) w w′
+
+-- it is judged, and where there is no fault it has its row
+pub record Judged (C : Catalogue) (h : Head) (fl fr : List Pair) (k free : ℕ) (s w s′ w′ : List ℕ) (r : Verdict) : Type 0 where
+  pub says : faultOf r ≡ headFault C k h fl fr
+  pub done : (next : ℕ) → r ≡ Fine next → Placed C h fl fr k free next s w s′ w′
+
+-- ── a plan ──────────────────────────────────────────────────────────────────────────────────
 
 -- the fields of the plan at node j stand in the arrays
 pub record FieldsStand (C : Catalogue) (a : Arrays) (s w : List ℕ) (j : ℕ) : Type 0 where
   pub fields : fieldsAt s w j ≡ fieldsOf C (planAt a j)
-  pub few : widthAt w j ≤ maxFields
+  pub few : widthAt w j ≤ C .version .maxFields
+  pub inside : RowIn s (firstAt w j) (widthAt w j)
+
+-- below field `next`
+pub record Settled (C : Catalogue) (a : Arrays) (s w : List ℕ) (next j : ℕ) : Type 0 where
+  pub stand : FieldsStand C a s w j
+  pub before : firstAt w j + widthAt w j ≤ next
 
 -- the node after the last of the plan at k
 abbrev pub endOf : Arrays → ℕ → ℕ
 endOf a k = k + planNodes (planAt a k)
 
--- the plan at node k is judged: the answer is `check`'s; where there is no fault, the fields of each of its nodes stand in the arrays; no other
--- node's were touched
-pub record Checked (C : Catalogue) (a : Arrays) (k : ℕ) (s w s′ w′ : List ℕ) (r : Verdict) : Type 0 where
-  pub says : faultOf r ≡ check C (planAt a k) k
-  pub stand : faultOf r ≡ none → (j : ℕ) → k ≤ j → j < endOf a k → FieldsStand C a s′ w′ j
-  pub rows-kept : RowsKept k (endOf a k) s s′
+-- as many fields as the nodes of the plan at k may have
+abbrev pub spanOf : Catalogue → Arrays → ℕ → ℕ
+spanOf C a k = C .version .maxFields * planNodes (planAt a k)
+
+-- the fields of each node of the plan at node k stand in the arrays, below field `next`. Fields below `free` were kept, and other nodes have their
+-- rows where they had them.
+pub record Done (C : Catalogue) (a : Arrays) (k free next : ℕ) (s w s′ w′ : List ℕ) : Type 0 where
+  pub from : free ≤ next
+  pub upto : next ≤ free + spanOf C a k
+  pub each : (j : ℕ) → k ≤ j → j < endOf a k → Settled C a s′ w′ next j
+  pub rows-kept : KeptBelow free s s′
   pub widths-kept : WidthsKept k (endOf a k) w w′
 
--- the plan at node k can be judged: it is a node of a tree, its tables lie in their array, and the fields and widths of 256 nodes have room
-pub record Judgeable (C : Catalogue) (a : Arrays) (count : ℕ) (names : List ℕ) (tables : ℕ) (s w : List ℕ) (k : ℕ) : Type 0 where
+-- the plan at node k is judged: the answer is `check`'s; where there is no fault, the fields of each of its nodes stand in the arrays
+pub record Checked (C : Catalogue) (a : Arrays) (k free : ℕ) (s w s′ w′ : List ℕ) (r : Verdict) : Type 0 where
+  pub says : faultOf r ≡ check C (planAt a k) k
+  pub done : (next : ℕ) → r ≡ Fine next → Done C a k free next s w s′ w′
+
+-- what is asked so that the plan at node k can be judged
+pub record Walking (C : Catalogue) (a : Arrays) (names : List ℕ) (most : ℕ) (s w : List ℕ) (k free : ℕ) : Type 0 where
+  pub count : ℕ
+  pub tables : ℕ
   pub tree : WfTree C a count
   pub here : k < count
   pub named : NamesOk names tables
-  pub room : maxNodes * maxFields * 2 ≤ length s
-  pub wide : maxNodes ≤ length w
+  pub tables-fit : FitCatalogue C
+  pub tables-are : C .tables ≡ catalogueAt names tables
+  pub most-is : C .version .maxFields ≡ most
+  pub room : (free + spanOf C a k) * 2 ≤ length s
+  pub wide : maxNodes + maxNodes ≤ length w
+
+-- the same in the words of a version: k is a node of a tree of `count` nodes, the catalogue is that of the version and of the tables in their array,
+-- and there is room for the fields of the plan's nodes from field `free` on, and for the rows of 256 nodes
+pub record Judgeable (C : Catalogue) (a : Arrays) (count : ℕ) (names : List ℕ) (tables : ℕ) (version : Version) (s w : List ℕ) (k free : ℕ) : Type 0 where
+  pub tree : WfTree C a count
+  pub here : k < count
+  pub named : NamesOk names tables
+  pub tables-fit : FitCatalogue C
+  pub tables-are : C .tables ≡ catalogueAt names tables
+  pub version-is : C .version ≡ versionOf version
+  pub room : (free + spanOf C a k) * 2 ≤ length s
+  pub wide : maxNodes + maxNodes ≤ length w

@@ -1,23 +1,23 @@
 //! Acceptance: codes 7 to 10 of document 01 and 17 of document 02 at the first node that has one, and the fields of every node of a plan
 //! without.
 //!
-//! `fields` and `widths` are lent: node k's fields are the pairs from 128 * k on, as many as `widths` has at k.
-ghost use mathlib.Core.Bool.{Bool};
+//! `fields` and `widths` are lent: node k has as many fields as `widths` has at k, from the field on whose number `widths` has at 256 + k. A node
+//! whose fields are an input's has that input's; other nodes' fields are put behind those in use.
 ghost use mathlib.Core.List.{List, _++_, map};
 ghost use mathlib.Core.Path.{_≡_};
-ghost use Prim.Native.Nat.{ℕ, _+_, _*_, _<_, _≤_};
+ghost use Prim.Native.Nat.{ℕ, _+_, _*_, _^_, _<_, _≤_};
 ghost use lib.ListN.{length};
 ghost use Rattle.accept.specs.Heads.{fieldsHead, passesHead};
-ghost use Rattle.accept.specs.Nodes.{evenOf, joins, KidsAre, Named, NodeInside, parts, Rowed, ScanInside, SidesReady};
-ghost use Rattle.accept.specs.Verdicts.{Checked, Judgeable, Judged};
+ghost use Rattle.accept.specs.Nodes.{evenOf, joins, KidsAre, Looked, Looking, Named, NodeInside, parts, Rowed, ScanInside, SidesReady};
+ghost use Rattle.accept.specs.Verdicts.{Checked, Judgeable, Judged, Walking};
 ghost use Rattle.arena.specs.Rows.{pairAt};
-ghost use Rattle.cpl.specs.Accept.{clash};
 ghost use Rattle.cpl.specs.Fields.{columnsOf, joinFields, requalify, scanField};
+ghost use Rattle.cpl.specs.Limits.{maxNodes};
 ghost use Rattle.cpl.specs.Plan.{Catalogue, join};
 ghost use Rattle.cpl.specs.ReadPlan.{h2};
 ghost use Rattle.lookup.specs.Answers.{resolving};
-ghost use Rattle.lookup.specs.Fields.{leftRow, rightRow, rowAt, RowIn, SidesClear};
-ghost use Rattle.parts.specs.Catalogue.{catalogueAt, tableAt};
+ghost use Rattle.lookup.specs.Fields.{firstAt, leftRow, rightRow, RowIn, SidesClear, widthAt};
+ghost use Rattle.parts.specs.Catalogue.{tableAt};
 ghost use Rattle.parts.specs.Parts.{WinInside};
 ghost use Rattle.tree.specs.Node.{joinIs};
 ghost use Rattle.tree.specs.Rows.{AllAt, columnsAt, EachOk, Inside, listAt, pairsAt, winSize};
@@ -31,6 +31,7 @@ use tree::JoinNode;
 use tree::JoinType;
 use tree::Node;
 use tree::ScanNode;
+use versions::Version;
 
 // The codes of documents 01 and 02.
 const CLASH: u8 = 7;
@@ -43,12 +44,9 @@ const FIELDS: u8 = 10;
 
 const AMBIGUOUS: u8 = 17;
 
-// The most fields that a node may have.
-const MAX_FIELDS: usize = 128;
-
-/// No fault, or a code with its node.
+/// No fault, with the number of the next free field; or a code with its node.
 pub enum Verdict {
-    Fine,
+    Fine(usize),
     Bad(u8, usize),
 }
 
@@ -59,10 +57,13 @@ pub enum Kids {
     Two(usize),
 }
 
-/// A node's row: how many fields it has, and how many of its first are known not to clash.
+/// A node's row: the number of its first field, how many fields it has, how many of its first are known not to clash, and the number of the next
+/// free field.
 pub struct Row {
+    pub first: usize,
     pub width: usize,
     pub clear: usize,
+    pub next: usize,
 }
 
 /// The inputs of a node.
@@ -149,8 +150,8 @@ fn is_even(node: Node, left: usize, right: usize) -> bool
     }
 }
 
-/// What a join's references find: pair halves each in their own side, the condition in both. Its rows and roots are well formed. The sides lie
-/// in the array, and the fields of each by themselves do not clash.
+/// What a join's references find: pair halves each in their own side, the condition in both. Its rows and roots are well formed, and the
+/// sides lie in the array.
 fn join_resolved(cells: &[u64], rows: &[u16], j: JoinNode, fields: &[u16], sides: Sides) -> Resolved
     requires { ⌜ PartsOk (parts (now cells) (now rows)) (Node.Join j) ⌝ }
     requires { ⌜ SidesClear (now fields) sides ⌝ }
@@ -164,36 +165,48 @@ fn join_resolved(cells: &[u64], rows: &[u16], j: JoinNode, fields: &[u16], sides
     pairs
 }
 
-/// What a node's references find among its inputs' fields. Its rows and roots are well formed. The sides lie in the array, and the fields of
-/// each by themselves do not clash.
+/// What a node's references find among the fields that they are over. Its rows and roots are well formed, and the sides lie in the array.
 fn node_resolved(cells: &[u64], rows: &[u16], node: Node, fields: &[u16], sides: Sides) -> Resolved
     requires { ⌜ PartsOk (parts (now cells) (now rows)) node ⌝ }
     requires { ⌜ SidesClear (now fields) sides ⌝ }
     ensures { λ r. ⌜ r ≡ resolving (passesHead (headOf (parts (now (cells .entry)) (now (rows .entry))) node) (leftRow (now (fields .entry)) sides) (rightRow (now (fields .entry)) sides)) ⌝ }
 {
-    let k = sides.left;
+    let at = sides.left;
     let width = sides.lwidth;
+    let clear = sides.clear;
     match node {
-        Node::Projection { first, n } => resolve_roots(cells, rows, first, n, fields, k, width),
-        Node::Filter { root } => lookup::resolve_expr(cells, root, fields, k, width),
-        Node::Sort { first, n } => resolve_roots(cells, rows, first, n, fields, k, width),
+        Node::Projection { first, n } => resolve_roots(
+            cells,
+            rows,
+            first,
+            n,
+            fields,
+            at,
+            width,
+            clear,
+        ),
+        Node::Filter { root } => lookup::resolve_expr(cells, root, fields, at, width, clear),
+        Node::Sort { first, n } => resolve_roots(cells, rows, first, n, fields, at, width, clear),
         Node::Limit { skip: _, fetch: _ } => Resolved::Fine,
         Node::Aggregate {
             first,
             groups,
             aggregates,
         } => {
-            let keys = resolve_roots(cells, rows, first, groups, fields, k, width);
+            let keys = resolve_roots(cells, rows, first, groups, fields, at, width, clear);
             let next = first + groups;
-            let calls = resolve_aggs(cells, rows, next, aggregates, fields, k, width);
+            let calls = resolve_aggs(cells, rows, next, aggregates, fields, at, width, clear);
             lookup::both_resolved(keys, calls)
         }
-        Node::Window { first, n } => resolve_wins(cells, rows, first, n, fields, k, width),
+        Node::Window { first, n } => resolve_wins(cells, rows, first, n, fields, at, width, clear),
         Node::SubqueryAlias { qualifier: _ } => Resolved::Fine,
         Node::Union { right: _ } => Resolved::Fine,
         Node::Distinct => Resolved::Fine,
         Node::Join(j) => join_resolved(cells, rows, j, fields, sides),
-        Node::Scan(_) => Resolved::Fine,
+        Node::Scan(s) => {
+            let next = s.first + s.n;
+            resolve_roots(cells, rows, next, s.filters, fields, at, width, clear)
+        }
         Node::Empty {
             one_row: _,
             first: _,
@@ -202,200 +215,307 @@ fn node_resolved(cells: &[u64], rows: &[u16], node: Node, fields: &[u16], sides:
     }
 }
 
-/// The pairs of `n` rows as node `k`'s fields. The rows lie in the array, and the node has room.
-fn pairs_row(fields: &mut [u16], k: usize, rows: &[u16], first: usize, n: usize) -> Row
-    requires { ⌜ RowIn (now fields) k 128 ⌝ }
-    requires { ⌜ EachOk (Inside (now rows)) (now rows) first n ⌝ }
-    ensures { λ r. ⌜ Rowed k r (pairsAt (now (rows .entry)) first n) (now (fields .entry)) (now (fields .exit)) ⌝ }
+/// What a scan's filters are over: all columns of its table under its qualifier, put from field `free` on. A scan without filters needs none.
+fn table_sides(fields: &mut [u16], free: usize, names: &[u16], s: ScanNode, sides: Sides) -> Sides
+    requires { ⌜ Looking (now names) (now fields) free (Node.Scan s) sides ⌝ }
+    ensures { λ r. ⌜ ((C : Catalogue) (cells rows : List ℕ) → Named C (now (names .entry)) (Node.Scan s) → Looked C free (headOf (parts cells rows) (Node.Scan s)) sides r (now (fields .entry)) (now (fields .exit))) ⌝ }
 {
-    if MAX_FIELDS < n {
-        return Row { width: n, clear: 0 };
+    if s.filters == 0 {
+        return sides;
     }
-    parts::take_pairs(fields, k, rows, first, n);
-    Row { width: n, clear: 0 }
+    parts::scan_all(fields, free, names, s.table, s.qualifier);
+    let width = parts::columns(names, s.table);
+    Sides {
+        left: free,
+        lwidth: width,
+        right: free,
+        rwidth: 0,
+        clear: false,
+    }
 }
 
-/// The fields of a later node `j`, which do not clash, as node `k`'s. They lie in the array and are at most 128.
-fn same_row(fields: &mut [u16], k: usize, j: usize, width: usize) -> Row
-    requires { ⌜ (k < j) × (width ≤ 128) × RowIn (now fields) j width ⌝ }
-    requires { ⌜ clash (rowAt (now fields) j width) ≡ Bool.false ⌝ }
-    ensures { λ r. ⌜ Rowed k r (rowAt (now (fields .entry)) j width) (now (fields .entry)) (now (fields .exit)) ⌝ }
+/// What a node's expressions are over: its inputs' fields, or for a scan its table's.
+fn input_sides(fields: &mut [u16], free: usize, names: &[u16], node: Node, sides: Sides) -> Sides
+    requires { ⌜ Looking (now names) (now fields) free node sides ⌝ }
+    ensures { λ r. ⌜ ((C : Catalogue) (cells rows : List ℕ) → Named C (now (names .entry)) node → Looked C free (headOf (parts cells rows) node) sides r (now (fields .entry)) (now (fields .exit))) ⌝ }
 {
-    lookup::copy_fields(fields, k, 0, j, width);
+    match node {
+        Node::Projection { first: _, n: _ } => sides,
+        Node::Filter { root: _ } => sides,
+        Node::Sort { first: _, n: _ } => sides,
+        Node::Limit { skip: _, fetch: _ } => sides,
+        Node::Aggregate {
+            first: _,
+            groups: _,
+            aggregates: _,
+        } => sides,
+        Node::Window { first: _, n: _ } => sides,
+        Node::SubqueryAlias { qualifier: _ } => sides,
+        Node::Union { right: _ } => sides,
+        Node::Distinct => sides,
+        Node::Join(_) => sides,
+        Node::Scan(s) => table_sides(fields, free, names, s, sides),
+        Node::Empty {
+            one_row: _,
+            first: _,
+            n: _,
+        } => sides,
+    }
+}
+
+/// A row of too many fields, which is not stored.
+fn over_row(free: usize, width: usize) -> Row
+    ensures { λ r. ⌜ r .width ≡ width ⌝ }
+{
     Row {
+        first: free,
+        width,
+        clear: 0,
+        next: free,
+    }
+}
+
+/// A row that was put from field `free` on, of which the first `clear` do not clash.
+fn put_row(free: usize, width: usize, clear: usize) -> Row
+    requires { ⌜ (free + width) * 2 < 2 ^ 64 ⌝ }
+    ensures { λ r. ⌜ (r .first ≡ free) × (r .width ≡ width) × (r .clear ≡ clear) × (r .next ≡ free + width) ⌝ }
+{
+    Row {
+        first: free,
+        width,
+        clear,
+        next: free + width,
+    }
+}
+
+/// A row that another node has too, whose fields do not clash: nothing is put.
+fn same_row(first: usize, width: usize, free: usize) -> Row
+    ensures { λ r. ⌜ (r .first ≡ first) × (r .width ≡ width) × (r .clear ≡ width) × (r .next ≡ free) ⌝ }
+{
+    Row {
+        first,
         width,
         clear: width,
+        next: free,
     }
 }
 
-/// The left side's fields and those of `n` windows as node `k`'s. The rows lie in the array.
+/// The pairs of `n` rows as fields from field `free` on, at most `most`. The rows lie in the array, and there is room.
+fn pairs_row(
+    fields: &mut [u16],
+    free: usize,
+    most: usize,
+    rows: &[u16],
+    first: usize,
+    n: usize,
+) -> Row
+    requires { ⌜ RowIn (now fields) free most ⌝ }
+    requires { ⌜ EachOk (Inside (now rows)) (now rows) first n ⌝ }
+    ensures { λ r. ⌜ Rowed free most r (pairsAt (now (rows .entry)) first n) (now (fields .entry)) (now (fields .exit)) ⌝ }
+{
+    if most < n {
+        return over_row(free, n);
+    }
+    parts::take_pairs(fields, free, rows, first, n);
+    put_row(free, n, 0)
+}
+
+/// The left side's fields and those of `n` windows as fields from field `free` on, at most `most`. The rows lie in the array.
 fn window_row(
     fields: &mut [u16],
-    k: usize,
+    free: usize,
+    most: usize,
     rows: &[u16],
     first: usize,
     n: usize,
     sides: Sides,
 ) -> Row
-    requires { ⌜ SidesReady (now fields) k sides ⌝ }
+    requires { ⌜ SidesReady (now fields) free most sides ⌝ }
     requires { ⌜ AllAt (WinInside (now rows)) (winSize (now rows)) first n ⌝ }
-    ensures { λ r. ⌜ Rowed k r (leftRow (now (fields .entry)) sides ++ listAt (pairAt (now (rows .entry))) (winSize (now (rows .entry))) first n) (now (fields .entry)) (now (fields .exit)) ⌝ }
+    ensures { λ r. ⌜ Rowed free most r (leftRow (now (fields .entry)) sides ++ listAt (pairAt (now (rows .entry))) (winSize (now (rows .entry))) first n) (now (fields .entry)) (now (fields .exit)) ⌝ }
 {
     let own = sides.lwidth;
     let width = own + n;
-    if MAX_FIELDS < width {
-        return Row { width, clear: 0 };
+    if most < width {
+        return over_row(free, width);
     }
-    lookup::copy_fields(fields, k, 0, sides.left, own);
-    parts::win_pairs(fields, k, own, rows, first, n);
-    Row { width, clear: own }
+    lookup::copy_fields(fields, free, sides.left, own);
+    parts::win_pairs(fields, free + own, rows, first, n);
+    put_row(free, width, own)
 }
 
-/// The left side's fields under a qualifier as node `k`'s.
-fn alias_row(fields: &mut [u16], k: usize, qualifier: u16, sides: Sides) -> Row
-    requires { ⌜ SidesReady (now fields) k sides ⌝ }
-    ensures { λ r. ⌜ Rowed k r (map (requalify qualifier) (leftRow (now (fields .entry)) sides)) (now (fields .entry)) (now (fields .exit)) ⌝ }
+/// The left side's fields under a qualifier as fields from field `free` on.
+fn alias_row(fields: &mut [u16], free: usize, most: usize, qualifier: u16, sides: Sides) -> Row
+    requires { ⌜ SidesReady (now fields) free most sides ⌝ }
+    ensures { λ r. ⌜ Rowed free most r (map (requalify qualifier) (leftRow (now (fields .entry)) sides)) (now (fields .entry)) (now (fields .exit)) ⌝ }
 {
-    lookup::alias_fields(fields, k, sides.left, sides.lwidth, qualifier);
-    Row {
-        width: sides.lwidth,
-        clear: 0,
-    }
+    lookup::alias_fields(fields, free, sides.left, sides.lwidth, qualifier);
+    put_row(free, sides.lwidth, 0)
 }
 
-/// The fields of both sides as node `k`'s.
-fn both_row(fields: &mut [u16], k: usize, sides: Sides) -> Row
-    requires { ⌜ SidesReady (now fields) k sides ⌝ }
-    ensures { λ r. ⌜ Rowed k r (leftRow (now (fields .entry)) sides ++ rightRow (now (fields .entry)) sides) (now (fields .entry)) (now (fields .exit)) ⌝ }
+/// The fields of both sides as fields from field `free` on, at most `most`.
+fn both_row(fields: &mut [u16], free: usize, most: usize, sides: Sides) -> Row
+    requires { ⌜ SidesReady (now fields) free most sides ⌝ }
+    ensures { λ r. ⌜ Rowed free most r (leftRow (now (fields .entry)) sides ++ rightRow (now (fields .entry)) sides) (now (fields .entry)) (now (fields .exit)) ⌝ }
 {
     let own = sides.lwidth;
     let width = own + sides.rwidth;
-    if MAX_FIELDS < width {
-        return Row { width, clear: 0 };
+    if most < width {
+        return over_row(free, width);
     }
-    lookup::copy_fields(fields, k, 0, sides.left, own);
-    lookup::copy_fields(fields, k, own, sides.right, sides.rwidth);
-    Row { width, clear: own }
+    lookup::copy_fields(fields, free, sides.left, own);
+    lookup::copy_fields(fields, free + own, sides.right, sides.rwidth);
+    put_row(free, width, own)
 }
 
-/// A join's fields, by its type, as node `k`'s.
-fn join_row(fields: &mut [u16], k: usize, join_type: JoinType, sides: Sides) -> Row
-    requires { ⌜ SidesReady (now fields) k sides ⌝ }
-    ensures { λ r. ⌜ Rowed k r (joinFields (joinIs «join_type») (leftRow (now (fields .entry)) sides) (rightRow (now (fields .entry)) sides)) (now (fields .entry)) (now (fields .exit)) ⌝ }
+/// A join's fields, by its type: one side's, or both from field `free` on.
+fn join_row(fields: &mut [u16], free: usize, most: usize, join_type: JoinType, sides: Sides) -> Row
+    requires { ⌜ SidesReady (now fields) free most sides ⌝ }
+    ensures { λ r. ⌜ Rowed free most r (joinFields (joinIs «join_type») (leftRow (now (fields .entry)) sides) (rightRow (now (fields .entry)) sides)) (now (fields .entry)) (now (fields .exit)) ⌝ }
 {
     match join_type {
-        JoinType::Inner => both_row(fields, k, sides),
-        JoinType::Left => both_row(fields, k, sides),
-        JoinType::Right => both_row(fields, k, sides),
-        JoinType::Full => both_row(fields, k, sides),
-        JoinType::LeftSemi => same_row(fields, k, sides.left, sides.lwidth),
-        JoinType::LeftAnti => same_row(fields, k, sides.left, sides.lwidth),
-        JoinType::RightSemi => same_row(fields, k, sides.right, sides.rwidth),
-        JoinType::RightAnti => same_row(fields, k, sides.right, sides.rwidth),
+        JoinType::Inner => both_row(fields, free, most, sides),
+        JoinType::Left => both_row(fields, free, most, sides),
+        JoinType::Right => both_row(fields, free, most, sides),
+        JoinType::Full => both_row(fields, free, most, sides),
+        JoinType::LeftSemi => same_row(sides.left, sides.lwidth, free),
+        JoinType::LeftAnti => same_row(sides.left, sides.lwidth, free),
+        JoinType::RightSemi => same_row(sides.right, sides.rwidth, free),
+        JoinType::RightAnti => same_row(sides.right, sides.rwidth, free),
     }
 }
 
-/// A scan's fields as node `k`'s. Its table and its rows lie in their arrays, its columns are the table's, and the node has room.
-fn scan_row(fields: &mut [u16], k: usize, names: &[u16], rows: &[u16], s: ScanNode) -> Row
-    requires { ⌜ RowIn (now fields) k 128 ⌝ }
-    requires { ⌜ ScanInside (now names) (now rows) s ⌝ }
-    ensures { λ r. ⌜ Rowed k r (map (scanField (tableAt (now (names .entry)) (s .table)) (s .qualifier)) (columnsOf (tableAt (now (names .entry)) (s .table)) (if? (s .given) (columnsAt (now (rows .entry)) (s .first) (s .n))))) (now (fields .entry)) (now (fields .exit)) ⌝ }
+/// A scan's fields from field `free` on. Its table and its rows lie in their arrays, its columns are the table's, at most `most`, and there is room.
+fn scan_row(
+    fields: &mut [u16],
+    free: usize,
+    most: usize,
+    names: &[u16],
+    rows: &[u16],
+    s: ScanNode,
+) -> Row
+    requires { ⌜ RowIn (now fields) free most ⌝ }
+    requires { ⌜ ScanInside most (now names) (now rows) s ⌝ }
+    ensures { λ r. ⌜ Rowed free most r (map (scanField (tableAt (now (names .entry)) (s .table)) (s .qualifier)) (columnsOf (tableAt (now (names .entry)) (s .table)) (if? (s .given) (columnsAt (now (rows .entry)) (s .first) (s .n))))) (now (fields .entry)) (now (fields .exit)) ⌝ }
 {
     if s.given {
-        parts::scan_given(fields, k, names, s.table, s.qualifier, rows, s.first, s.n);
-        return Row {
-            width: s.n,
-            clear: 0,
-        };
+        parts::scan_given(
+            fields,
+            free,
+            names,
+            s.table,
+            s.qualifier,
+            rows,
+            s.first,
+            s.n,
+        );
+        return put_row(free, s.n, 0);
     }
-    parts::scan_all(fields, k, names, s.table, s.qualifier);
-    Row {
-        width: parts::columns(names, s.table),
-        clear: 0,
-    }
+    parts::scan_all(fields, free, names, s.table, s.qualifier);
+    let width = parts::columns(names, s.table);
+    put_row(free, width, 0)
 }
 
-/// A node's fields as node `k`'s. What gives them lies in the arrays.
+/// A node's fields, at most `most`: an input's, or from field `free` on. What gives them lies in the arrays.
 fn node_row(
     fields: &mut [u16],
-    k: usize,
+    free: usize,
+    most: usize,
     names: &[u16],
     rows: &[u16],
     node: Node,
     sides: Sides,
 ) -> Row
-    requires { ⌜ NodeInside (now names) (now rows) node ⌝ }
-    requires { ⌜ SidesReady (now fields) k sides ⌝ }
-    ensures { λ r. ⌜ ((C : Catalogue) (cells : List ℕ) → Named C (now (names .entry)) node → Rowed k r (fieldsHead C (headOf (parts cells (now (rows .entry))) node) (leftRow (now (fields .entry)) sides) (rightRow (now (fields .entry)) sides)) (now (fields .entry)) (now (fields .exit))) ⌝ }
+    requires { ⌜ NodeInside most (now names) (now rows) node ⌝ }
+    requires { ⌜ SidesReady (now fields) free most sides ⌝ }
+    ensures { λ r. ⌜ ((C : Catalogue) (cells : List ℕ) → Named C (now (names .entry)) node → Rowed free most r (fieldsHead C (headOf (parts cells (now (rows .entry))) node) (leftRow (now (fields .entry)) sides) (rightRow (now (fields .entry)) sides)) (now (fields .entry)) (now (fields .exit))) ⌝ }
 {
     match node {
-        Node::Projection { first, n } => pairs_row(fields, k, rows, first, n),
-        Node::Filter { root: _ } => same_row(fields, k, sides.left, sides.lwidth),
-        Node::Sort { first: _, n: _ } => same_row(fields, k, sides.left, sides.lwidth),
-        Node::Limit { skip: _, fetch: _ } => same_row(fields, k, sides.left, sides.lwidth),
+        Node::Projection { first, n } => pairs_row(fields, free, most, rows, first, n),
+        Node::Filter { root: _ } => same_row(sides.left, sides.lwidth, free),
+        Node::Sort { first: _, n: _ } => same_row(sides.left, sides.lwidth, free),
+        Node::Limit { skip: _, fetch: _ } => same_row(sides.left, sides.lwidth, free),
         Node::Aggregate {
             first,
             groups,
             aggregates,
-        } => pairs_row(fields, k, rows, first, groups + aggregates),
-        Node::Window { first, n } => window_row(fields, k, rows, first, n, sides),
-        Node::SubqueryAlias { qualifier } => alias_row(fields, k, qualifier, sides),
-        Node::Union { right: _ } => same_row(fields, k, sides.left, sides.lwidth),
-        Node::Distinct => same_row(fields, k, sides.left, sides.lwidth),
+        } => pairs_row(fields, free, most, rows, first, groups + aggregates),
+        Node::Window { first, n } => window_row(fields, free, most, rows, first, n, sides),
+        Node::SubqueryAlias { qualifier } => alias_row(fields, free, most, qualifier, sides),
+        Node::Union { right: _ } => same_row(sides.left, sides.lwidth, free),
+        Node::Distinct => same_row(sides.left, sides.lwidth, free),
         Node::Join(j) => {
             let t = j.join_type;
-            join_row(fields, k, t, sides)
+            join_row(fields, free, most, t, sides)
         }
-        Node::Scan(s) => scan_row(fields, k, names, rows, s),
+        Node::Scan(s) => scan_row(fields, free, most, names, rows, s),
         Node::Empty {
             one_row: _,
             first,
             n,
-        } => pairs_row(fields, k, rows, first, n),
+        } => pairs_row(fields, free, most, rows, first, n),
     }
 }
 
-/// The sides of a node with at most one input, with `width` fields at node `left`.
-fn one_side(left: usize, width: usize) -> Sides
-    ensures { λ r. ⌜ (r .left ≡ left) × (r .lwidth ≡ width) × (r .right ≡ left) × (r .rwidth ≡ 0) ⌝ }
+/// The sides of a node without inputs.
+fn no_sides() -> Sides
+    ensures { λ r. ⌜ (r .left ≡ 0) × (r .lwidth ≡ 0) × (r .right ≡ 0) × (r .rwidth ≡ 0) ⌝ }
 {
     Sides {
-        left,
-        lwidth: width,
-        right: left,
+        left: 0,
+        lwidth: 0,
+        right: 0,
         rwidth: 0,
+        clear: true,
     }
 }
 
-/// The sides of a node with two inputs.
-fn two_sides(left: usize, lwidth: usize, right: usize, rwidth: usize) -> Sides
-    ensures { λ r. ⌜ (r .left ≡ left) × (r .lwidth ≡ lwidth) × (r .right ≡ right) × (r .rwidth ≡ rwidth) ⌝ }
+/// The sides of a node whose one input is node `left`, whose fields do not clash.
+fn one_side(widths: &[u64], left: usize) -> Sides
+    ensures { λ r. ⌜ (r .left ≡ firstAt (now (widths .entry)) left) × (r .lwidth ≡ widthAt (now (widths .entry)) left) × (r .right ≡ 0) × (r .rwidth ≡ 0) ⌝ }
 {
     Sides {
-        left,
-        lwidth,
-        right,
-        rwidth,
+        left: lookup::first_at(widths, left),
+        lwidth: lookup::width_at(widths, left),
+        right: 0,
+        rwidth: 0,
+        clear: true,
     }
 }
 
-/// The verdict on node `k` alone, whose sides are its inputs' fields: 8, 17, 9, 10, 7 in that order. Its fields are stored. Its rows and roots are
-/// well formed, and what gives its fields lies in the arrays.
+/// The sides of a node whose inputs are nodes `left` and `right`, neither of whose fields clash.
+fn two_sides(widths: &[u64], left: usize, right: usize) -> Sides
+    ensures { λ r. ⌜ (r .left ≡ firstAt (now (widths .entry)) left) × (r .lwidth ≡ widthAt (now (widths .entry)) left) × (r .right ≡ firstAt (now (widths .entry)) right) × (r .rwidth ≡ widthAt (now (widths .entry)) right) ⌝ }
+{
+    Sides {
+        left: lookup::first_at(widths, left),
+        lwidth: lookup::width_at(widths, left),
+        right: lookup::first_at(widths, right),
+        rwidth: lookup::width_at(widths, right),
+        clear: true,
+    }
+}
+
+/// The verdict on node `k` alone, whose sides are its inputs' fields: 8, 17, 9, 10, 7 in that order. Its fields, at most `most`, stand where its
+/// input's do, or from field `free` on. Its rows and roots are well formed, and what gives its fields lies in the arrays.
 fn own_verdict(
     cells: &[u64],
     rows: &[u16],
     names: &[u16],
+    most: usize,
     node: Node,
     sides: Sides,
     fields: &mut [u16],
     widths: &mut [u64],
     k: usize,
+    free: usize,
 ) -> Verdict
-    requires { ⌜ PartsOk (parts (now cells) (now rows)) node × NodeInside (now names) (now rows) node ⌝ }
-    requires { ⌜ SidesReady (now fields) k sides × (k < length (now widths)) ⌝ }
-    ensures { λ r. ⌜ ((C : Catalogue) → Named C (now (names .entry)) node → Judged C (headOf (parts (now (cells .entry)) (now (rows .entry))) node) (leftRow (now (fields .entry)) sides) (rightRow (now (fields .entry)) sides) k (now (fields .entry)) (now (widths .entry)) (now (fields .exit)) (now (widths .exit)) r) ⌝ }
+    requires { ⌜ PartsOk (parts (now cells) (now rows)) node × NodeInside most (now names) (now rows) node ⌝ }
+    requires { ⌜ SidesReady (now fields) free most sides × (k < maxNodes) × (maxNodes + maxNodes ≤ length (now widths)) ⌝ }
+    ensures { λ r. ⌜ ((C : Catalogue) → C .version .maxFields ≡ most → Named C (now (names .entry)) node → Judged C (headOf (parts (now (cells .entry)) (now (rows .entry))) node) (leftRow (now (fields .entry)) sides) (rightRow (now (fields .entry)) sides) k free (now (fields .entry)) (now (widths .entry)) (now (fields .exit)) (now (widths .exit)) r) ⌝ }
 {
-    let resolved = node_resolved(cells, rows, node, fields, sides);
+    let over = input_sides(fields, free, names, node, sides);
+    let resolved = node_resolved(cells, rows, node, fields, over);
     match resolved {
         Resolved::Fine => {}
         Resolved::Unknown => return Verdict::Bad(UNKNOWN, k),
@@ -405,26 +525,75 @@ fn own_verdict(
     if !even {
         return Verdict::Bad(WIDTH, k);
     }
-    let row = node_row(fields, k, names, rows, node, sides);
+    let row = node_row(fields, free, most, names, rows, node, sides);
     let width = row.width;
-    if MAX_FIELDS < width {
+    if most < width {
         return Verdict::Bad(FIELDS, k);
     }
     widths[k] = width as u64;
+    widths[256 + k] = row.first as u64;
     if is_join(node) {
         if lookup::sides_clash(fields, sides) {
             return Verdict::Bad(CLASH, k);
         }
-        return Verdict::Fine;
+        return Verdict::Fine(row.next);
     }
-    if lookup::clash_from(fields, k, row.clear, width) {
+    if lookup::clash_from(fields, row.first, row.clear, width) {
         return Verdict::Bad(CLASH, k);
     }
-    Verdict::Fine
+    Verdict::Fine(row.next)
 }
 
-/// The verdict on the plan at node `k`, children first, left before right. Where it is fine, the fields of each of the plan's nodes are stored.
-/// Requires a tree of `n` nodes of which `k` is one, `tables` tables, and room for the fields and the widths of 256 nodes.
+/// The verdict on the plan at node `k`, children first, left before right: see `accept_node`. The fields of a node are at most `most`, and those
+/// below field `to` are kept.
+fn accept_at(
+    cells: &[u64],
+    rows: &[u16],
+    nodes: &[u64],
+    names: &[u16],
+    most: usize,
+    fields: &mut [u16],
+    widths: &mut [u64],
+    k: usize,
+    to: usize,
+) -> Verdict
+    requires { ⌜ ((C : Catalogue) × Walking C (lent (now cells) (now rows) (now nodes)) (now names) most (now fields) (now widths) k to) ⌝ }
+    ensures { λ r. ⌜ ((C : Catalogue) → Walking C (lent (now (cells .entry)) (now (rows .entry)) (now (nodes .entry))) (now (names .entry)) most (now (fields .entry)) (now (widths .entry)) k to → Checked C (lent (now (cells .entry)) (now (rows .entry)) (now (nodes .entry))) k to (now (fields .entry)) (now (widths .entry)) (now (fields .exit)) (now (widths .exit)) r) ⌝ }
+{
+    let node = tree::node_at(nodes, k);
+    let kids = kids_of(node);
+    let left = k + 1;
+    match kids {
+        Kids::Nothing => {
+            let sides = no_sides();
+            own_verdict(cells, rows, names, most, node, sides, fields, widths, k, to)
+        }
+        Kids::One => {
+            let below = accept_at(cells, rows, nodes, names, most, fields, widths, left, to);
+            let Verdict::Fine(on) = below else {
+                return below;
+            };
+            let sides = one_side(widths, left);
+            own_verdict(cells, rows, names, most, node, sides, fields, widths, k, on)
+        }
+        Kids::Two(right) => {
+            let first = accept_at(cells, rows, nodes, names, most, fields, widths, left, to);
+            let Verdict::Fine(mid) = first else {
+                return first;
+            };
+            let second = accept_at(cells, rows, nodes, names, most, fields, widths, right, mid);
+            let Verdict::Fine(on) = second else {
+                return second;
+            };
+            let sides = two_sides(widths, left, right);
+            own_verdict(cells, rows, names, most, node, sides, fields, widths, k, on)
+        }
+    }
+}
+
+/// The verdict on the plan at node `k`, children first, left before right. Where it is fine, the fields of each of the plan's nodes are stored, and
+/// it has the number of the next free field. Fields below number `free` are kept. Requires a tree of `n` nodes of which `k` is one, `tables`
+/// tables, the version's room for the fields of each of the plan's nodes from field `free` on, and 512 numbers for widths.
 pub fn accept_node(
     cells: &[u64],
     rows: &[u16],
@@ -432,40 +601,15 @@ pub fn accept_node(
     n: usize,
     names: &[u16],
     tables: usize,
+    version: Version,
     fields: &mut [u16],
     widths: &mut [u64],
     k: usize,
+    free: usize,
 ) -> Verdict
-    requires { ⌜ Judgeable (catalogueAt (now names) tables) (lent (now cells) (now rows) (now nodes)) n (now names) tables (now fields) (now widths) k ⌝ }
-    ensures { λ r. ⌜ Checked (catalogueAt (now (names .entry)) tables) (lent (now (cells .entry)) (now (rows .entry)) (now (nodes .entry))) k (now (fields .entry)) (now (widths .entry)) (now (fields .exit)) (now (widths .exit)) r ⌝ }
+    requires { ⌜ ((C : Catalogue) × Judgeable C (lent (now cells) (now rows) (now nodes)) n (now names) tables version (now fields) (now widths) k free) ⌝ }
+    ensures { λ r. ⌜ ((C : Catalogue) → Judgeable C (lent (now (cells .entry)) (now (rows .entry)) (now (nodes .entry))) n (now (names .entry)) tables version (now (fields .entry)) (now (widths .entry)) k free → Checked C (lent (now (cells .entry)) (now (rows .entry)) (now (nodes .entry))) k free (now (fields .entry)) (now (widths .entry)) (now (fields .exit)) (now (widths .exit)) r) ⌝ }
 {
-    let node = tree::node_at(nodes, k);
-    let kids = kids_of(node);
-    let left = k + 1;
-    match kids {
-        Kids::Nothing => {
-            let sides = one_side(left, 0);
-            own_verdict(cells, rows, names, node, sides, fields, widths, k)
-        }
-        Kids::One => {
-            let below = accept_node(cells, rows, nodes, n, names, tables, fields, widths, left);
-            let Verdict::Fine = below else {
-                return below;
-            };
-            let sides = one_side(left, widths[left] as usize);
-            own_verdict(cells, rows, names, node, sides, fields, widths, k)
-        }
-        Kids::Two(right) => {
-            let first = accept_node(cells, rows, nodes, n, names, tables, fields, widths, left);
-            let Verdict::Fine = first else {
-                return first;
-            };
-            let second = accept_node(cells, rows, nodes, n, names, tables, fields, widths, right);
-            let Verdict::Fine = second else {
-                return second;
-            };
-            let sides = two_sides(left, widths[left] as usize, right, widths[right] as usize);
-            own_verdict(cells, rows, names, node, sides, fields, widths, k)
-        }
-    }
+    let most = version.fields;
+    accept_at(cells, rows, nodes, names, most, fields, widths, k, free)
 }

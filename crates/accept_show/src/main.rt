@@ -14,7 +14,7 @@ fn number(x: usize) {
     text(b" ");
 }
 
-// The verdict on an Empty with two pairs, whose names are not 0.
+// The verdict on an Empty with two pairs, whose names are not 0, in a plan of version 1.
 fn judge(q: u16, n: u16, r: u16, m: u16)
     requires { ⌜ (0 < n) × (0 < m) ⌝ }
 {
@@ -22,8 +22,9 @@ fn judge(q: u16, n: u16, r: u16, m: u16)
     let rows = [q, n, 0, 0, r, m, 0, 0];
     let nodes = [12u64, 0, 0, 2, 1, 0, 0];
     let names = [0u16; 1];
-    let mut fields = [0u16; 65536];
-    let mut widths = [0u64; 256];
+    let version = versions::version1();
+    let mut fields = [0u16; 256];
+    let mut widths = [0u64; 512];
     match accept::accept_node(
         &cells,
         &rows,
@@ -31,11 +32,13 @@ fn judge(q: u16, n: u16, r: u16, m: u16)
         1,
         &names,
         0,
+        version,
         &mut fields,
         &mut widths,
         0,
+        0,
     ) {
-        Verdict::Fine => text(b"fine\n"),
+        Verdict::Fine(_) => text(b"fine\n"),
         Verdict::Bad(code, node) => {
             text(b"bad ");
             number(code as usize);
@@ -48,7 +51,7 @@ fn judge(q: u16, n: u16, r: u16, m: u16)
 // What a reference finds among four fields, two of which have one name.
 fn place(q: u16, n: u16) {
     let fields = [1u16, 1, 1, 2, 0, 3, 2, 1];
-    match lookup::look_up(&fields, 0, 4, q, n) {
+    match lookup::look_up(&fields, 0, 4, true, q, n) {
         Lookup::Found(i) => {
             text(b"found ");
             number(i);

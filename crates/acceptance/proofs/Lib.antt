@@ -1,5 +1,6 @@
 -- Laws of files that were read and checked.
 pub mod Findings
 pub mod Tables
+pub mod Rooms
 pub mod Ways
 pub mod Plans

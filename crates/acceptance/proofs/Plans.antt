@@ -4,7 +4,6 @@ use mathlib.Core.List.{List}
 use Prim.Native.Nat.{ℕ, zero, suc, _+_, _<_, _≤_}
 use native.Mathlib.Decide.{decLt}
 use native.Mathlib.Omega.{arith}
-use lib.ListN.{length}
 use Rattle.cpl.specs.Exprs.{planNodes}
 use Rattle.cpl.specs.Plan.{Catalogue}
 use Rattle.cpl.specs.ReadPlan.{Head, h0, h1, h2}
@@ -13,6 +12,7 @@ use Rattle.tree.specs.Node.{nodeAt}
 use Rattle.tree.specs.Shows.{Stands}
 use Rattle.tree.specs.Tree.{Arrays, WfTree, headOf, lent, planAt, rightOf}
 use Rattle.tree.proofs.Plans.{nodes-pos, shows}
+use Rattle.versions.specs.declared.Version.{Version}
 use Rattle.lookup.specs.Standing.{Standing}
 use Rattle.accept.proofs.Inside.{from-on}
 use Rattle.acceptance.specs.Readings.{PlanIn, rootPlan}
@@ -53,15 +53,14 @@ module _ (C : Catalogue) (a : Arrays) (count : ℕ) where
 
 -- ── an accepted plan stands ─────────────────────────────────────────────────────────────────
 
-abbrev pub standing : {file cells rows nodes fields widths : List ℕ} {start count : ℕ} → PlanIn file cells rows nodes fields widths start count → length fields ≡ 65536 → length widths ≡ 256
+abbrev pub standing : {file cells rows nodes fields widths : List ℕ} {version : Version} {start count : ℕ} → PlanIn file cells rows nodes fields widths version start count
     → Standing cells rows nodes fields widths
-standing {cells = cells} {rows} {nodes} {count = count} p f w = record {
+standing {cells = cells} {rows} {nodes} {count = count} p = record {
   C = p .C;
   count = count;
   tables = p .tables;
   tree = p .tree;
   stand = λ j l. p .stand j l .fields;
   accepted = all-accepted (p .C) (lent cells rows nodes) count (p .tree) (p .whole) (accepted (p .C) (rootPlan cells rows nodes) 0 (p .fine));
-  fields-long = omega (arith, f);
-  widths-long = omega (arith, w);
+  inside = λ j l. p .stand j l .inside;
 }

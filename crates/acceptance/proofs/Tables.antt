@@ -1,5 +1,5 @@
 -- The catalogue that the reader stored is the one that acceptance reads.
-use mathlib.Core.Path.{_≡_, refl, sym, _∙_, ap, ap₂}
+use mathlib.Core.Path.{_≡_, refl, sym, _∙_, ap, ap₂, subst}
 use mathlib.Core.List.{List, _∷_}
 use Prim.Native.Nat.{ℕ, zero, suc, _+_, _*_, _≤_, _<_}
 use native.Mathlib.Omega.{arith}
@@ -7,7 +7,9 @@ use native.Mathlib.Numerals.{add-one}
 use lib.ListN.{length, getD, take, drop}
 use lib.Seq.{drop-cons}
 use Rattle.cpl.specs.Lists.{All, _a∷_}
+use Rattle.cpl.specs.Plan.{Catalogue}
 use Rattle.cpl.specs.Writable.{FitList, FitName, FitCatalogue}
+use Rattle.versions.proofs.Small.{small}
 use Rattle.reader.specs.Tables as read
 use Rattle.reader.specs.Tables.{namesAt, tablesAt}
 use Rattle.tree.specs.Rows.{listAt, one}
@@ -25,38 +27,40 @@ names-take names at (suc k) l =
     ap (getD names at 0 ∷_) (names-take names (at + 1) k (omega arith) ∙ ap (λ i. take k (drop i names)) (add-one at))
     ∙ sym (ap (take (suc k)) (drop-cons names at 0 (omega arith)))
 
-table-same : (names : List ℕ) (t : ℕ) → getD names (65 * t) 0 ≤ 64 → 65 * t + 65 ≤ length names → read.tableAt names t ≡ tableAt names t
+table-same : (names : List ℕ) (t : ℕ) → getD names (513 * t) 0 ≤ 512 → 513 * t + 513 ≤ length names → read.tableAt names t ≡ tableAt names t
 unfolding read.tableAt tableAt
 table-same names t w l =
-    let e : 65 * t ≡ t * 65 = omega arith in
-    names-take names (65 * t + 1) (getD names (65 * t) 0) (omega arith) ∙ ap (λ i. take (getD names i 0) (drop (i + 1) names)) e
+    let e : 513 * t ≡ t * 513 = omega arith in
+    names-take names (513 * t + 1) (getD names (513 * t) 0) (omega arith) ∙ ap (λ i. take (getD names i 0) (drop (i + 1) names)) e
 
--- each table has at most 64 columns
-few-columns : (names : List ℕ) (t k : ℕ) → All (FitList FitName 64) (tablesAt names t k) → (i : ℕ) → t ≤ i → i < t + k → getD names (65 * i) 0 ≤ 64
+-- each table has at most so many columns as its version lets it have, and so at most 512
+few-columns : (most : ℕ) → most ≤ 512 → (names : List ℕ) (t k : ℕ) → All (FitList FitName most) (tablesAt names t k) → (i : ℕ) → t ≤ i → i < t + k → getD names (513 * i) 0 ≤ 512
 unfolding tablesAt read.tableAt FitList
-few-columns names t zero a i l h = absurd (omega arith)
-few-columns names t (suc k) (a a∷ more) i l h = go (native.Mathlib.Decide.ℕ-discrete t i)
-    (λ n. few-columns names (t + 1) k more i (omega (arith, n)) (omega arith))
+few-columns most m names t zero a i l h = absurd (omega arith)
+few-columns most m names t (suc k) (a a∷ more) i l h = go (native.Mathlib.Decide.ℕ-discrete t i)
+    (λ n. few-columns most m names (t + 1) k more i (omega (arith, n)) (omega arith))
   where
-    go : Dec (t ≡ i) → (¬ (t ≡ i) → getD names (65 * i) 0 ≤ 64) → getD names (65 * i) 0 ≤ 64
-    go (yes e) f = let m = a .0 in let c = names-length names (65 * t + 1) (getD names (65 * t) 0) in let d : getD names (65 * t) 0 ≤ 64 = omega arith in mathlib.Core.Path.subst (λ j. getD names (65 * j) 0 ≤ 64) e d
+    go : Dec (t ≡ i) → (¬ (t ≡ i) → getD names (513 * i) 0 ≤ 512) → getD names (513 * i) 0 ≤ 512
+    go (yes e) f = let few = a .0 in let c = names-length names (513 * t + 1) (getD names (513 * t) 0) in let d : getD names (513 * t) 0 ≤ 512 = omega arith in subst (λ j. getD names (513 * j) 0 ≤ 512) e d
     go (no n) f = f n
 
-tables-same : (names : List ℕ) (t k : ℕ) → ((i : ℕ) → t ≤ i → i < t + k → getD names (65 * i) 0 ≤ 64) → 65 * (t + k) ≤ length names → tablesAt names t k ≡ listAt (tableAt names) one t k
+tables-same : (names : List ℕ) (t k : ℕ) → ((i : ℕ) → t ≤ i → i < t + k → getD names (513 * i) 0 ≤ 512) → 513 * (t + k) ≤ length names → tablesAt names t k ≡ listAt (tableAt names) one t k
 unfolding tablesAt listAt
 tables-same names t zero w l = refl
 tables-same names t (suc k) w l = ap₂ _∷_ (table-same names t (w t (omega arith) (omega arith)) (omega arith)) (tables-same names (t + 1) k (λ i a b. w i (omega arith) (omega arith)) (omega arith))
 
 -- ── the whole catalogue ─────────────────────────────────────────────────────────────────────
 
-module _ (names : List ℕ) (tables : ℕ) (fit : FitCatalogue (read.catalogueAt names tables)) (few : tables ≤ 16) (long : 1040 ≤ length names) where
-  columns-few : (i : ℕ) → i < tables → getD names (65 * i) 0 ≤ 64
-  unfolding FitCatalogue FitList
-  columns-few i h = few-columns names 0 tables (fit .1) i (omega arith) (omega arith)
+module _ (C : Catalogue) (names : List ℕ) (tables : ℕ) (are : C .tables ≡ tablesAt names 0 tables) (fit : FitCatalogue C) (few : tables ≤ 16)
+    (long : 8208 ≤ length names) where
+  columns-few : (i : ℕ) → i < tables → getD names (513 * i) 0 ≤ 512
+  unfolding FitList
+  columns-few i h = few-columns (C .version .maxColumns) (small (fit .version-is) .columns-small) names 0 tables
+      (subst (All (FitList FitName (C .version .maxColumns))) are (fit .tables-fit .1)) i (omega arith) (omega arith)
 
-  pub catalogue-same : read.catalogueAt names tables ≡ catalogueAt names tables
+  pub catalogue-same : C .tables ≡ catalogueAt names tables
   unfolding catalogueAt
-  catalogue-same = tables-same names 0 tables (λ i a b. columns-few i (omega arith)) (omega arith)
+  catalogue-same = are ∙ tables-same names 0 tables (λ i a b. columns-few i (omega arith)) (omega arith)
 
   pub names-ok : NamesOk names tables
-  names-ok = record { each = λ t h. record { inside = omega arith; few = let e : 65 * t ≡ t * 65 = omega arith in mathlib.Core.Path.subst (λ i. getD names i 0 ≤ 64) e (columns-few t h) } }
+  names-ok = record { each = λ t h. record { inside = omega arith; few = let e : 513 * t ≡ t * 513 = omega arith in subst (λ i. getD names i 0 ≤ 512) e (columns-few t h) } }

@@ -2,16 +2,19 @@
 use mathlib.Core.Path.{_≡_}
 use mathlib.Core.List.{List}
 use mathlib.Core.Option.{none}
-use Prim.Native.Nat.{ℕ, _<_}
+use Prim.Native.Nat.{ℕ, _<_, _≤_}
 use lib.ListN.{length}
+use Rattle.cpl.specs.Limits as cpl-limits
 use Rattle.cpl.specs.Plan.{Catalogue, Plan}
 use Rattle.cpl.specs.Exprs.{planNodes, planTags}
 use Rattle.cpl.specs.Read.{ok}
-use Rattle.cpl.specs.ReadPlan.{readCatalogue, readFile}
+use Rattle.cpl.specs.ReadPlan.{readCatalogue, readFile, readMark}
 use Rattle.cpl.specs.Accept as cpl
 use Rattle.cpl.specs.Writable.{FitCatalogue}
 use Rattle.rules.specs.Check as rules
 use Rattle.rules.specs.Success.{sourceOf}
+use Rattle.versions.specs.Versions.{fieldsRoom, rowsRoom, versionOf}
+use Rattle.versions.specs.declared.Version.{Version}
 use Rattle.tree.specs.Tree.{lent, planAt, WfTree}
 use Rattle.accept.specs.Verdicts.{FieldsStand}
 use Rattle.acceptance.specs.declared.Checked.{Checked}
@@ -28,18 +31,36 @@ pub record CheckedIs (c : rules.Checked) (r : Checked) : Type 0 where
 abbrev pub rootPlan : (cells rows nodes : List ℕ) → Plan
 rootPlan cells rows nodes = planAt (lent cells rows nodes) 0
 
--- the file's plan was read, starts at that offset, is accepted and stands in the arrays with the fields of each of its nodes
-pub record PlanIn (file cells rows nodes fields widths : List ℕ) (start count : ℕ) : Type 0 where
+-- the file starts with the mark of this version
+abbrev pub Marked : (file : List ℕ) → cpl-limits.Version → Type 0
+Marked file v = readMark file 0 0 0 ≡ ok v 5 0 0
+
+-- 128 fields a node are enough for the file's version
+abbrev pub Narrow : (file : List ℕ) → Type 0
+Narrow file = (v : cpl-limits.Version) → Marked file v → v .maxFields ≤ 128
+
+-- the lent arrays are long enough for every plan file of the file's version
+pub record Room (file cells rows nodes names fields widths : List ℕ) : Type 0 where
+  pub cells-long : 12288 ≤ length cells
+  pub rows-long : (v : cpl-limits.Version) → Marked file v → rowsRoom v ≤ length rows
+  pub nodes-long : 1792 ≤ length nodes
+  pub names-long : 8208 ≤ length names
+  pub fields-long : (v : cpl-limits.Version) → Marked file v → fieldsRoom v ≤ length fields
+  pub widths-long : 512 ≤ length widths
+
+-- the file's plan was read, is of that version, starts at that offset, is accepted and stands in the arrays with the fields of each of its nodes
+pub record PlanIn (file cells rows nodes fields widths : List ℕ) (version : Version) (start count : ℕ) : Type 0 where
   pub C : Catalogue
+  pub version-is : C .version ≡ versionOf version
   pub tables : FitCatalogue C
   pub tree : WfTree C (lent cells rows nodes) count
   pub whole : count ≡ planNodes (rootPlan cells rows nodes)
   pub reads : readFile file ≡ ok (sourceOf C (rootPlan cells rows nodes)) (length file) (planTags (rootPlan cells rows nodes)) count
-  pub starts-at : readCatalogue file 5 0 0 ≡ ok C start 0 0
+  pub starts-at : readCatalogue (C .version) file 5 0 0 ≡ ok C start 0 0
   pub fine : cpl.check C (rootPlan cells rows nodes) 0 ≡ none
   pub stand : (j : ℕ) → j < count → FieldsStand C (lent cells rows nodes) fields widths j
 
 -- what is said of a file; and where it is accepted, its plan
 pub record ReadingIs (file cells rows nodes fields widths : List ℕ) (r : Reading) : Type 0 where
   pub says : CheckedIs (rules.checkFile file) (r .checked)
-  pub plan : r .checked .code ≡ 0 → PlanIn file cells rows nodes fields widths (r .start) (r .checked .nodes)
+  pub plan : r .checked .code ≡ 0 → PlanIn file cells rows nodes fields widths (r .version) (r .start) (r .checked .nodes)

@@ -2,13 +2,13 @@
 //!
 //! `check` makes the arrays that a plan is read into; `check_in` is lent them, and says nothing of what they held or hold. `read_and_check` leaves an
 //! accepted plan in them, for what goes on with it.
+ghost use mathlib.Core.Bool.{true};
 ghost use mathlib.Core.Path.{_≡_};
-ghost use Prim.Native.Nat.{_≤_};
-ghost use lib.ListN.{length};
 ghost use Rattle.rules.specs.Check.{checkFile};
-ghost use Rattle.acceptance.specs.Readings.{CheckedIs, ReadingIs};
+ghost use Rattle.acceptance.specs.Readings.{CheckedIs, Narrow, ReadingIs, Room};
 use accept::Verdict;
 use reader::Read;
+use versions::Version;
 
 /// Code 0, place 0, the number of nodes and of the root's fields; or a refusal's code and place, and 0 for both numbers.
 pub struct Checked {
@@ -18,10 +18,11 @@ pub struct Checked {
     pub fields: usize,
 }
 
-/// What was checked, and the offset of its plan.
+/// What was checked, the offset of its plan and its version.
 pub struct Reading {
     pub checked: Checked,
     pub start: usize,
+    pub version: Version,
 }
 
 // A refusal.
@@ -34,11 +35,15 @@ fn refuse(code: u8, place: usize) -> Reading
         nodes: 0,
         fields: 0,
     };
-    Reading { checked, start: 0 }
+    Reading {
+        checked,
+        start: 0,
+        version: versions::version1(),
+    }
 }
 
-/// A file's plan, read into the lent arrays and accepted; or a refusal. The arrays are long enough for every plan file: see `reader::read_file` and
-/// `accept::accept_node`.
+/// A file's plan, read into the lent arrays and accepted; or a refusal. The arrays are long enough for every plan file of the file's version: see
+/// `reader::read_file` and `accept::accept_node`.
 pub fn read_and_check(
     file: &[u8],
     cells: &mut [u64],
@@ -48,13 +53,14 @@ pub fn read_and_check(
     fields: &mut [u16],
     widths: &mut [u64],
 ) -> Reading
-    requires { ⌜ (12288 ≤ length (now cells)) × (409728 ≤ length (now rows)) × (1792 ≤ length (now nodes)) × (1040 ≤ length (now names)) × (65536 ≤ length (now fields)) × (256 ≤ length (now widths)) ⌝ }
+    requires { ⌜ Room (now file) (now cells) (now rows) (now nodes) (now names) (now fields) (now widths) ⌝ }
     ensures { λ r. ⌜ ReadingIs (now (file .entry)) (now (cells .exit)) (now (rows .exit)) (now (nodes .exit)) (now (fields .exit)) (now (widths .exit)) r ⌝ }
 {
     let read = reader::read_file(file, cells, rows, nodes, names);
     match read {
         Read::Bad(code, place) => refuse(code, place),
         Read::Done {
+            version,
             tables,
             start,
             nodes: count,
@@ -68,20 +74,26 @@ pub fn read_and_check(
                 count,
                 names,
                 tables,
+                version,
                 fields,
                 widths,
+                0,
                 0,
             );
             match v {
                 Verdict::Bad(code, node) => refuse(code, node),
-                Verdict::Fine => {
+                Verdict::Fine(_) => {
                     let checked = Checked {
                         code: 0,
                         place: 0,
                         nodes: count,
                         fields: widths[0] as usize,
                     };
-                    Reading { checked, start }
+                    Reading {
+                        checked,
+                        start,
+                        version,
+                    }
                 }
             }
         }
@@ -92,11 +104,11 @@ pub fn read_and_check(
 pub fn check_in(
     file: &[u8],
     cells: &mut [u64; 12288],
-    rows: &mut [u16; 409728],
+    rows: &mut [u16; 1065088],
     nodes: &mut [u64; 1792],
-    names: &mut [u16; 1040],
-    fields: &mut [u16; 65536],
-    widths: &mut [u64; 256],
+    names: &mut [u16; 8208],
+    fields: &mut [u16; 262144],
+    widths: &mut [u64; 512],
 ) -> Checked
     ensures { λ r. ⌜ CheckedIs (checkFile (now (file .entry))) r ⌝ }
 {
@@ -104,16 +116,16 @@ pub fn check_in(
     read.checked
 }
 
-/// Is the file an accepted plan file? Its number of nodes and of root fields, or a refusal: 2 to 10 of document 01.
-pub fn check(file: &[u8]) -> Checked
+// The same in arrays of its own, for every file.
+fn check_wide(file: &[u8]) -> Checked
     ensures { λ r. ⌜ CheckedIs (checkFile (now (file .entry))) r ⌝ }
 {
     let mut cells = [0u64; 12288];
-    let mut rows = [0u16; 409728];
+    let mut rows = [0u16; 1065088];
     let mut nodes = [0u64; 1792];
-    let mut names = [0u16; 1040];
-    let mut fields = [0u16; 65536];
-    let mut widths = [0u64; 256];
+    let mut names = [0u16; 8208];
+    let mut fields = [0u16; 262144];
+    let mut widths = [0u64; 512];
     check_in(
         file,
         &mut cells,
@@ -123,4 +135,46 @@ pub fn check(file: &[u8]) -> Checked
         &mut fields,
         &mut widths,
     )
+}
+
+// The same in arrays for a file whose nodes have at most 128 fields.
+fn check_narrow(file: &[u8]) -> Checked
+    requires { ⌜ Narrow (now file) ⌝ }
+    ensures { λ r. ⌜ CheckedIs (checkFile (now (file .entry))) r ⌝ }
+{
+    let mut cells = [0u64; 12288];
+    let mut rows = [0u16; 278656];
+    let mut nodes = [0u64; 1792];
+    let mut names = [0u16; 8208];
+    let mut fields = [0u16; 65536];
+    let mut widths = [0u64; 512];
+    let read = read_and_check(
+        file,
+        &mut cells,
+        &mut rows,
+        &mut nodes,
+        &mut names,
+        &mut fields,
+        &mut widths,
+    );
+    read.checked
+}
+
+/// Are 128 fields a node enough for the file, by its version? So smaller arrays are, too.
+pub fn is_narrow(file: &[u8]) -> bool
+    ensures { λ r. ⌜ (r ≡ true → Narrow (now (file .entry))) ⌝ }
+{
+    let version = reader::version_at(file);
+    version.fields <= 128
+}
+
+/// Is the file an accepted plan file? Its number of nodes and of root fields, or a refusal: 2 to 10 of document 01. The arrays are chosen by the
+/// file's version.
+pub fn check(file: &[u8]) -> Checked
+    ensures { λ r. ⌜ CheckedIs (checkFile (now (file .entry))) r ⌝ }
+{
+    if is_narrow(file) {
+        return check_narrow(file);
+    }
+    check_wide(file)
 }

@@ -34,7 +34,7 @@ behindRequest input at = at + 4 + 2 * little 4 input at
 
 -- of a longer request so many are read: it is refused at one of them, see proofs/Requests
 abbrev pub mostAsked : ℕ
-mostAsked = 512
+mostAsked = 513
 
 -- an output of the length in four bytes, and of no more than so many
 abbrev pub mostLent : ℕ

@@ -84,13 +84,13 @@ fn count_at(input: &[u8], at: usize) -> usize
     least(word_at(input, at), behind / 2)
 }
 
-// The first 512 indices of a request; how many they are. A root has at most 128 fields, so that a longer request has a fault among them.
+// The first 513 indices of a request; how many they are. A root has at most 512 fields, so that a longer request has a fault among them.
 fn read_request(input: &[u8], at: usize, request: &mut [u16]) -> usize
-    requires { ⌜ (at < 2 ^ 36) × (512 ≤ length (now request)) ⌝ }
+    requires { ⌜ (at < 2 ^ 36) × (513 ≤ length (now request)) ⌝ }
     ensures { λ r. ⌜ take r (now (request .exit)) ≡ take mostAsked (requestIn (now (input .entry)) at) ⌝ }
     ensures { λ r. ⌜ Counts r (now (request .exit)) ⌝ }
 {
-    let count = least(count_at(input, at), 512);
+    let count = least(count_at(input, at), 513);
     let mut k = 0;
     while k < count {
         request[k] = half_at(input, at + 4 + 2 * k);
@@ -157,7 +157,7 @@ fn prune(input: &[u8], text: &mut [u8; 65600]) -> usize
     let from = file.from;
     let to = file.to;
     let at = 8 + word_at(input, 4);
-    let mut request = [0u16; 512];
+    let mut request = [0u16; 513];
     let n = read_request(input, at, &mut request);
     let room = room_at(input, at + 4 + 2 * word_at(input, at));
     let mut out = [0u8; 65536];

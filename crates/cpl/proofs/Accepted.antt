@@ -6,11 +6,10 @@ use mathlib.Core.Option.{Option, none, some}
 use Prim.Native.Nat.{ℕ, suc, _+_, _≤_}
 use lib.Dec.{T, leb, leb→le, le→leb}
 use lib.ListN.{length}
-use Rattle.cpl.specs.Limits.{maxFields}
 use Rattle.cpl.specs.Codes.{CLASH, UNKNOWN, AMBIGUOUS, WIDTH, FIELDS}
 use Rattle.cpl.specs.Plan.{Pair, Expr, Binary, union, join, Plan, leaf, unary, binary, Catalogue}
-use Rattle.cpl.specs.Exprs.{known, definite, unaryExprs, planNodes}
-use Rattle.cpl.specs.Fields.{leafFields, unaryFields, binaryFields, fieldsOf}
+use Rattle.cpl.specs.Exprs.{known, leafExprs, definite, unaryExprs, planNodes}
+use Rattle.cpl.specs.Fields.{leafFields, leafInput, unaryFields, binaryFields, fieldsOf}
 use Rattle.cpl.specs.Accept.{clash, Test, allPass, binaryPasses, even, together, Fault, _then_, must, nodeFault, check}
 use Rattle.cpl.specs.Lists.{All}
 use Rattle.cpl.proofs.Lists.{All-map, All-both, all-T, T-all}
@@ -22,18 +21,18 @@ pub record Resolved (all-pass : Test → Bool) : Type 0 where
   pub all-definite : T (all-pass definite)
 
 -- a node without a fault
-pub record NodeOk (all-pass : Test → Bool) (inputs-even : Bool) (fs gs : List Pair) : Type 0 where
+pub record NodeOk (C : Catalogue) (all-pass : Test → Bool) (inputs-even : Bool) (fs gs : List Pair) : Type 0 where
   pub resolved : Resolved all-pass
   pub as-wide : T inputs-even
-  pub few : length fs ≤ maxFields
+  pub few : length fs ≤ C .version .maxFields
   pub distinct : Clear gs
 
 unfoldable pub Accepted : Catalogue → Plan → Type 0
-Accepted C (leaf h) = NodeOk (λ test. true) true (leafFields C h) (leafFields C h)
-Accepted C (unary h p) = Accepted C p × NodeOk (allPass (unaryExprs h) (fieldsOf C p)) true (unaryFields h (fieldsOf C p)) (unaryFields h (fieldsOf C p))
+Accepted C (leaf h) = NodeOk C (allPass (leafExprs h) (leafInput C h)) true (leafFields C h) (leafFields C h)
+Accepted C (unary h p) = Accepted C p × NodeOk C (allPass (unaryExprs h) (fieldsOf C p)) true (unaryFields h (fieldsOf C p)) (unaryFields h (fieldsOf C p))
 Accepted C (binary h p₁ p₂) =
     Accepted C p₁ × Accepted C p₂
-    × NodeOk (binaryPasses h (fieldsOf C p₁) (fieldsOf C p₂)) (even h (fieldsOf C p₁) (fieldsOf C p₂)) (binaryFields h (fieldsOf C p₁) (fieldsOf C p₂)) (together h (fieldsOf C p₁) (fieldsOf C p₂))
+    × NodeOk C (binaryPasses h (fieldsOf C p₁) (fieldsOf C p₂)) (even h (fieldsOf C p₁) (fieldsOf C p₂)) (binaryFields h (fieldsOf C p₁) (fieldsOf C p₂)) (together h (fieldsOf C p₁) (fieldsOf C p₂))
 
 -- ── expression by expression ────────────────────────────────────────────────────────────────
 
@@ -68,47 +67,47 @@ unfolding must
 none-must true code at t = refl
 none-must false code at t = absurd t
 
-node-ok : (at : ℕ) (k : Test → Bool) (e : Bool) (fs gs : List Pair) → nodeFault at k e fs gs ≡ none → NodeOk k e fs gs
+node-ok : (C : Catalogue) (at : ℕ) (k : Test → Bool) (e : Bool) (fs gs : List Pair) → nodeFault C at k e fs gs ≡ none → NodeOk C k e fs gs
 unfolding nodeFault
-node-ok at k e fs gs n =
+node-ok C at k e fs gs n =
     let h₁ = then-none (must (k known) UNKNOWN at) _ n in
     let h₀ = then-none (must (k definite) AMBIGUOUS at) _ (h₁ .1) in
     let h₂ = then-none (must e WIDTH at) _ (h₀ .1) in
-    let h₃ = then-none (must (leb (length fs) maxFields) FIELDS at) _ (h₂ .1) in
+    let h₃ = then-none (must (leb (length fs) (C .version .maxFields)) FIELDS at) _ (h₂ .1) in
     record {
       resolved = record { all-found = must-none (k known) UNKNOWN at (h₁ .0); all-definite = must-none (k definite) AMBIGUOUS at (h₀ .0) };
       as-wide = must-none e WIDTH at (h₂ .0);
-      few = leb→le (length fs) maxFields (must-none (leb (length fs) maxFields) FIELDS at (h₃ .0));
+      few = leb→le (length fs) (C .version .maxFields) (must-none (leb (length fs) (C .version .maxFields)) FIELDS at (h₃ .0));
       distinct = clear gs (must-none (not (clash gs)) CLASH at (h₃ .1));
     }
 
-ok-node : (at : ℕ) {k : Test → Bool} {e : Bool} {fs gs : List Pair} → NodeOk k e fs gs → nodeFault at k e fs gs ≡ none
+ok-node : (C : Catalogue) (at : ℕ) {k : Test → Bool} {e : Bool} {fs gs : List Pair} → NodeOk C k e fs gs → nodeFault C at k e fs gs ≡ none
 unfolding nodeFault
-ok-node at {k} {e} {fs} {gs} o =
+ok-node C at {k} {e} {fs} {gs} o =
     none-then (none-must (k known) UNKNOWN at (o .resolved .all-found))
     (none-then (none-must (k definite) AMBIGUOUS at (o .resolved .all-definite))
     (none-then (none-must e WIDTH at (o .as-wide))
-    (none-then (none-must (leb (length fs) maxFields) FIELDS at (le→leb (length fs) maxFields (o .few))) (none-must (not (clash gs)) CLASH at (no-clash (o .distinct))))))
+    (none-then (none-must (leb (length fs) (C .version .maxFields)) FIELDS at (le→leb (length fs) (C .version .maxFields) (o .few))) (none-must (not (clash gs)) CLASH at (no-clash (o .distinct))))))
 
 -- ── plans ───────────────────────────────────────────────────────────────────────────────────
 
 pub accepted : (C : Catalogue) (p : Plan) (at : ℕ) → check C p at ≡ none → Accepted C p
 unfolding check Accepted
-accepted C (leaf h) at n = node-ok at _ _ _ _ n
-accepted C (unary h p) at n = let k = then-none (check C p (suc at)) _ n in (accepted C p (suc at) (k .0), node-ok at _ _ _ _ (k .1))
+accepted C (leaf h) at n = node-ok C at _ _ _ _ n
+accepted C (unary h p) at n = let k = then-none (check C p (suc at)) _ n in (accepted C p (suc at) (k .0), node-ok C at _ _ _ _ (k .1))
 accepted C (binary h p₁ p₂) at n =
     let k = then-none (check C p₁ (suc at)) _ n in
     let l = then-none (check C p₂ (suc (at + planNodes p₁))) _ (k .1) in
-    (accepted C p₁ (suc at) (k .0), accepted C p₂ (suc (at + planNodes p₁)) (l .0), node-ok at _ _ _ _ (l .1))
+    (accepted C p₁ (suc at) (k .0), accepted C p₂ (suc (at + planNodes p₁)) (l .0), node-ok C at _ _ _ _ (l .1))
 
 pub no-fault : (C : Catalogue) (p : Plan) (at : ℕ) → Accepted C p → check C p at ≡ none
 unfolding check Accepted
-no-fault C (leaf h) at o = ok-node at o
-no-fault C (unary h p) at o = none-then (no-fault C p (suc at) (o .0)) (ok-node at (o .1))
-no-fault C (binary h p₁ p₂) at o = none-then (no-fault C p₁ (suc at) (o .0)) (none-then (no-fault C p₂ (suc (at + planNodes p₁)) (o .1)) (ok-node at (o .2)))
+no-fault C (leaf h) at o = ok-node C at o
+no-fault C (unary h p) at o = none-then (no-fault C p (suc at) (o .0)) (ok-node C at (o .1))
+no-fault C (binary h p₁ p₂) at o = none-then (no-fault C p₁ (suc at) (o .0)) (none-then (no-fault C p₂ (suc (at + planNodes p₁)) (o .1)) (ok-node C at (o .2)))
 
 -- the fields of an accepted plan are few and distinct
-pub few-fields : (C : Catalogue) (p : Plan) → Accepted C p → length (fieldsOf C p) ≤ maxFields
+pub few-fields : (C : Catalogue) (p : Plan) → Accepted C p → length (fieldsOf C p) ≤ C .version .maxFields
 unfolding Accepted fieldsOf
 few-fields C (leaf h) o = o .few
 few-fields C (unary h p) o = o .1 .few

@@ -1,21 +1,22 @@
 -- Numbers, tags, counts and lists: their readers and their bytes belong together. Assumes nothing.
 use Prim.Native.Nat.{ℕ, zero, suc, _+_, _*_, _/_, _%_, _^_, _≤_, _<_}
-use mathlib.Core.Path.{_≡_, refl, sym, ap, _∙_}
+use mathlib.Core.Path.{_≡_, refl, sym, ap}
 use mathlib.Core.Bool.{Bool, true, true≢false}
-use mathlib.Core.List.{List, [], _∷_, _++_, append-nil}
+use mathlib.Core.List.{List, [], _∷_, append-nil}
 use native.Mathlib.Omega.{arith}
 use native.Mathlib.Nat.{pow-succ'}
 use lib.ListN.{length, getD}
 use lib.Dec.{ltb, leb, eqb·suc-zero}
 use borrow.Author.Tests.{ltb-true, leb-true, lt-ltb, le-leb}
 use Rattle.cpl.specs.Limits.{maxNodes, maxTags}
-use Rattle.cpl.specs.Lists.{All, a[], _a∷_}
+use Rattle.cpl.specs.Lists.{All, a[], _a∷_, AllAfter, b[], _b∷_}
 use Rattle.cpl.specs.Codes.{CUT, MANY}
 use Rattle.cpl.specs.Tests.{concatMap, sumOf}
 use Rattle.cpl.specs.AreBytes.{AreBytes}
-use Rattle.cpl.specs.Read.{ok, bad, Reader, pick, little, field, value, isNot, nonzero, below, count, any, tag, nodeTag, times, counted}
+use Rattle.cpl.specs.Read.{ok, bad, Reader, pick, little, field, value, isNot, nonzero, index, below, fresh, count, any, tag, nodeTag, times, counted, timesAfter, countedAfter}
 use Rattle.cpl.specs.Bytes.{bytes, countedBytes}
-use Rattle.cpl.specs.Writable.{FitList, FitName}
+use Rattle.cpl.specs.Writable.{FitList, FitAfter, FitName}
+use Rattle.cpl.proofs.Bools.{and-left}
 use Rattle.cpl.proofs.Stands.{Stands, stands-fits, byte-at}
 use Rattle.cpl.proofs.Codec.{same-ok, Reads, reads-give, reads-then, reads-map, reads-here, reads-yes, reads-as, holds-pick, Found, Spelled, Only, only-give, only-refuse, only-then, only-map, only-here, only-pick, only-as, Codec, nought, codec-as}
 
@@ -112,12 +113,24 @@ one-byte : (x : ℕ) → x < 256 → bytes 1 x ≡ x ∷ []
 unfolding bytes
 one-byte x h = ap (λ (y : ℕ). y ∷ []) (omega arith)
 
-pub index-codec : (n : ℕ) → n ≤ 256 → Codec (λ x. x < n) (bytes 1) nought nought (below n)
+pub index-codec : (k n : ℕ) → n ≤ 256 ^ k → Codec (λ x. x < n) (bytes k) nought nought (index k n)
+unfolding index
+index-codec k n h = codec-as (λ x l. (omega arith, lt-ltb x n l)) (λ x l. ltb-true x n (l .1)) (λ x l. (refl, refl)) (value-codec k (λ x. ltb x n))
+
+pub below-codec : (n : ℕ) → n ≤ 256 → Codec (λ x. x < n) (bytes 1) nought nought (below n)
 unfolding below
-index-codec n h = codec-as (λ x l. (omega arith, lt-ltb x n l)) (λ x l. ltb-true x n (l .1)) (λ x l. (refl, refl)) (value-codec 1 (λ x. ltb x n))
+below-codec n h = index-codec 1 n h
 
 pub byte-codec : (n : ℕ) → n ≤ 256 → Codec (λ x. x < n) (λ x. x ∷ []) nought nought (below n)
-byte-codec n h = codec-as (λ x l. l) (λ x l. l) (λ x l. (one-byte x (omega arith), refl)) (index-codec n h)
+byte-codec n h = codec-as (λ x l. l) (λ x l. l) (λ x l. (one-byte x (omega arith), refl)) (below-codec n h)
+
+-- below n, and none of those that were taken
+pub fresh-below : (n : ℕ) (taken : List ℕ) (x : ℕ) → fresh n taken x ≡ true → x < n
+unfolding fresh
+fresh-below n taken x e = ltb-true x n (and-left (ltb x n) _ e)
+
+pub fresh-codec : (k n : ℕ) (taken : List ℕ) → n ≤ 256 ^ k → Codec (λ x. fresh n taken x ≡ true) (bytes k) nought nought (value k (fresh n taken))
+fresh-codec k n taken h = codec-as (λ x e. (omega (arith, fresh-below n taken x e), e)) (λ x g. g .1) (λ x g. (refl, refl)) (value-codec k (fresh n taken))
 
 -- ── tags ────────────────────────────────────────────────────────────────────────────────────
 
@@ -180,23 +193,20 @@ node-tag-codec =
 
 -- ── lists ───────────────────────────────────────────────────────────────────────────────────
 
-count-codec : (allowed : ℕ → Bool) (limit : ℕ) → limit < 256 → Codec (λ n. (allowed n ≡ true) × (n ≤ limit)) (λ n. n ∷ []) nought nought (count allowed limit)
+count-codec : (k : ℕ) (allowed : ℕ → Bool) (limit : ℕ) → limit < 256 ^ k → Codec (λ n. (allowed n ≡ true) × (n ≤ limit)) (bytes k) nought nought (count k allowed limit)
 unfolding count
-count-codec allowed limit h =
+count-codec k allowed limit h =
     record {
       reads =
           λ n g.
           reads-here _ λ at.
-          reads-as refl (one-byte-nil n (omega arith)) refl refl
-          (reads-then _ (value-codec 1 allowed .reads n (omega arith, g .0)) (reads-yes (leb n limit) _ (le-leb n limit (g .1)) reads-give));
+          reads-as refl (append-nil (bytes k n)) refl refl
+          (reads-then _ (value-codec k allowed .reads n (omega arith, g .0)) (reads-yes (leb n limit) _ (le-leb n limit (g .1)) reads-give));
       only =
           only-here _ λ at.
-          only-then _ (value-codec 1 allowed) λ n g.
-          only-pick (leb n limit) (λ e. only-give ((g .1, leb-true n limit e), one-byte-nil n (g .0), refl, refl)) (λ e. only-refuse);
+          only-then _ (value-codec k allowed) λ n g.
+          only-pick (leb n limit) (λ e. only-give ((g .1, leb-true n limit e), append-nil (bytes k n), refl, refl)) (λ e. only-refuse);
     }
-  where
-    one-byte-nil : (n : ℕ) → n < 256 → bytes 1 n ++ [] ≡ n ∷ []
-    one-byte-nil n l = append-nil (bytes 1 n) ∙ one-byte n l
 
 module _ {A : Type 0} {Good : A → Type 0} {w : A → List ℕ} {tags : A → ℕ} {p : Reader A} (c : Codec Good w tags nought p) where
   times-reads : (xs : List A) → All Good xs → Reads (times (length xs) p) xs (concatMap w xs) (sumOf tags xs) 0
@@ -216,23 +226,23 @@ module _ {A : Type 0} {Good : A → Type 0} {w : A → List ℕ} {tags : A → �
   times-only zero = only-give ((refl, a[]), refl, refl, refl)
   times-only (suc n) = only-then _ c λ x h. only-map (λ (xs : List A). x ∷ xs) (times-both n (times-only n)) λ xs g. ((ap suc (g .0), h a∷ (g .1)), refl, refl, refl)
 
-  pub counted-codec : (allowed : ℕ → Bool) (limit : ℕ) → limit < 256 →
-      Codec (λ xs. (allowed (length xs) ≡ true) × FitList Good limit xs) (countedBytes w) (sumOf tags) nought (counted allowed limit p)
+  pub counted-codec : (k : ℕ) (allowed : ℕ → Bool) (limit : ℕ) → limit < 256 ^ k →
+      Codec (λ xs. (allowed (length xs) ≡ true) × FitList Good limit xs) (countedBytes k w) (sumOf tags) nought (counted k allowed limit p)
   unfolding counted countedBytes FitList
-  counted-codec allowed limit h =
+  counted-codec k allowed limit h =
       record {
-        reads = λ xs g. reads-as refl refl (omega arith) refl (reads-then _ (count-codec allowed limit h .reads (length xs) (g .0, g .1 .0)) (times-reads xs (g .1 .1)));
+        reads = λ xs g. reads-as refl refl (omega arith) refl (reads-then _ (count-codec k allowed limit h .reads (length xs) (g .0, g .1 .0)) (times-reads xs (g .1 .1)));
         only =
-            only-then _ (count-codec allowed limit h) λ n g.
+            only-then _ (count-codec k allowed limit h) λ n g.
             only-as (λ xs bs t ν i. ((rw (i .0 .0) (g .0), (rw (i .0 .0) (g .1), i .0 .1)), cc, omega arith, omega arith)) (times-only n);
       }
 
-  pub list-codec : (limit : ℕ) → limit < 256 → Codec (FitList Good limit) (countedBytes w) (sumOf tags) nought (counted any limit p)
+  pub list-codec : (k limit : ℕ) → limit < 256 ^ k → Codec (FitList Good limit) (countedBytes k w) (sumOf tags) nought (counted k any limit p)
   unfolding any
-  list-codec limit h = codec-as (λ xs g. (refl, g)) (λ xs g. g .1) (λ xs g. (refl, refl)) (counted-codec any limit h)
+  list-codec k limit h = codec-as (λ xs g. (refl, g)) (λ xs g. g .1) (λ xs g. (refl, refl)) (counted-codec k any limit h)
 
-  pub some-codec : (limit : ℕ) → limit < 256 → Codec (λ xs. (0 < length xs) × FitList Good limit xs) (countedBytes w) (sumOf tags) nought (counted (isNot 0) limit p)
-  some-codec limit h = codec-as (λ xs g. (not-zero (length xs) (g .0), g .1)) (λ xs g. (is-not-zero (length xs) (g .0), g .1)) (λ xs g. (refl, refl)) (counted-codec (isNot 0) limit h)
+  pub some-codec : (k limit : ℕ) → limit < 256 ^ k → Codec (λ xs. (0 < length xs) × FitList Good limit xs) (countedBytes k w) (sumOf tags) nought (counted k (isNot 0) limit p)
+  some-codec k limit h = codec-as (λ xs g. (not-zero (length xs) (g .0), g .1)) (λ xs g. (is-not-zero (length xs) (g .0), g .1)) (λ xs g. (refl, refl)) (counted-codec k (isNot 0) limit h)
 
 sum-nought : {A : Type 0} (xs : List A) → sumOf nought xs ≡ 0
 unfolding sumOf
@@ -240,6 +250,45 @@ sum-nought [] = refl
 sum-nought (x ∷ xs) = omega (arith, sum-nought xs)
 
 -- a list of things without tags
-pub plain-codec : {A : Type 0} {Good : A → Type 0} {w : A → List ℕ} {p : Reader A} → Codec Good w nought nought p → (limit : ℕ) → limit < 256 →
-    Codec (FitList Good limit) (countedBytes w) nought nought (counted any limit p)
-plain-codec c limit h = codec-as (λ xs g. g) (λ xs g. g) (λ xs g. (refl, sum-nought xs)) (list-codec c limit h)
+pub plain-codec : {A : Type 0} {Good : A → Type 0} {w : A → List ℕ} {p : Reader A} → Codec Good w nought nought p → (k limit : ℕ) → limit < 256 ^ k →
+    Codec (FitList Good limit) (countedBytes k w) nought nought (counted k any limit p)
+plain-codec c k limit h = codec-as (λ xs g. g) (λ xs g. g) (λ xs g. (refl, sum-nought xs)) (list-codec c k limit h)
+
+-- ── lists whose elements know those before them ─────────────────────────────────────────────
+
+module _ {A : Type 0} {Good : List A → A → Type 0} {w : A → List ℕ} {p : List A → Reader A} (c : (before : List A) → Codec (Good before) w nought nought (p before)) where
+  after-reads : (before : List A) {xs : List A} → AllAfter Good before xs → Reads (timesAfter (length xs) p before) xs (concatMap w xs) 0 0
+  unfolding timesAfter concatMap
+  after-reads before b[] = reads-give
+  after-reads before (_b∷_ {x = x} {xs = xs} h hs) = reads-then _ (c before .reads x h) (reads-map (λ (ys : List A). x ∷ ys) (after-reads (x ∷ before) hs))
+
+  -- n elements, good behind `before`
+  abbrev ManyAfter : ℕ → List A → List A → Type 0
+  ManyAfter n before xs = (length xs ≡ n) × AllAfter Good before xs
+
+  after-both : (n : ℕ) (before : List A) → Only (Spelled (ManyAfter n before) (concatMap w) nought nought) (timesAfter n p before) → Codec (ManyAfter n before) (concatMap w) nought nought (timesAfter n p before)
+  after-both n before o = record { reads = λ xs h. rw (← (h .0)) (after-reads before (h .1)); only = o }
+
+  after-only : (n : ℕ) (before : List A) → Only (Spelled (ManyAfter n before) (concatMap w) nought nought) (timesAfter n p before)
+  unfolding timesAfter concatMap
+  after-only zero before = only-give ((refl, b[]), refl, refl, refl)
+  after-only (suc n) before =
+      only-then _ (c before) λ x h. only-map (λ (xs : List A). x ∷ xs) (after-both n (x ∷ before) (after-only n (x ∷ before))) λ xs g. ((ap suc (g .0), h b∷ (g .1)), refl, refl, refl)
+
+  pub after-codec : (k : ℕ) (allowed : ℕ → Bool) (limit : ℕ) → limit < 256 ^ k →
+      Codec (λ xs. (allowed (length xs) ≡ true) × FitAfter Good limit xs) (countedBytes k w) nought nought (countedAfter k allowed limit p)
+  unfolding countedAfter countedBytes FitAfter
+  after-codec k allowed limit h =
+      record {
+        reads = λ xs g. reads-then _ (count-codec k allowed limit h .reads (length xs) (g .0, g .1 .0)) (after-reads [] (g .1 .1));
+        only =
+            only-then _ (count-codec k allowed limit h) λ n g.
+            only-as (λ xs bs t ν i. ((rw (i .0 .0) (g .0), (rw (i .0 .0) (g .1), i .0 .1)), cc, omega arith, omega arith)) (after-only n []);
+      }
+
+  pub list-after-codec : (k limit : ℕ) → limit < 256 ^ k → Codec (FitAfter Good limit) (countedBytes k w) nought nought (countedAfter k any limit p)
+  unfolding any
+  list-after-codec k limit h = codec-as (λ xs g. (refl, g)) (λ xs g. g .1) (λ xs g. (refl, refl)) (after-codec k any limit h)
+
+  pub some-after-codec : (k limit : ℕ) → limit < 256 ^ k → Codec (λ xs. (0 < length xs) × FitAfter Good limit xs) (countedBytes k w) nought nought (countedAfter k (isNot 0) limit p)
+  some-after-codec k limit h = codec-as (λ xs g. (not-zero (length xs) (g .0), g .1)) (λ xs g. (is-not-zero (length xs) (g .0), g .1)) (λ xs g. (refl, refl)) (after-codec k (isNot 0) limit h)

@@ -10,6 +10,7 @@ pub mod Accepted
 pub mod FitFields
 pub mod BareNames
 -- reading and writing are inverse
+pub mod Versions
 pub mod Stands
 pub mod Codec
 pub mod FieldTrip
@@ -20,5 +21,6 @@ pub mod CatalogueTrip
 pub mod HeadTrip
 pub mod PlanTrip
 pub mod RoundTrip
+pub mod Version1
 -- codes
 pub mod Refusals

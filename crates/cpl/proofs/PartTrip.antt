@@ -7,16 +7,17 @@ use native.Mathlib.Omega.{arith}
 use lib.Dec.{eqb, eqb·suc-zero}
 use borrow.Author.Tests.{eqb-true, eqb-false, ne-eqb}
 use mathlib.Core.Option.{Option, none, some}
-use Rattle.cpl.specs.Limits.{maxKeys, maxColumns, noFetch}
+use Rattle.cpl.specs.Limits.{Version, maxKeys, noFetch}
 use Rattle.cpl.specs.Tests.{sumOf}
 use Rattle.cpl.specs.Plan.{Fn, Expr, Item, bare, named, Key, key, Call, rows, over, Agg, agg, Win, win, On, on, keyExpr}
 use Rattle.cpl.specs.Codes.{VALUE, aliasTag, fnNumber, fnOf, bit}
 use Rattle.cpl.specs.Exprs.{callExprs, aggExprs, exprTags, itemTags, keyTags, aggTags, winTags, onTags, condExprs}
-use Rattle.cpl.specs.Read.{Reader, _>>=_, refuse, pick, tag, give, below, any, counted}
+use Rattle.cpl.specs.Read.{Reader, _>>=_, refuse, pick, tag, give, index, below, any, counted}
 use Rattle.cpl.specs.ReadExpr.{readAlias, readBare, readItem, readKey, readCall, readAgg, readWin, readOn}
 use Rattle.cpl.specs.Bytes.{countedBytes, pairBytes, exprBytes, itemBytes, keyBytes, callNumber, callBytes, aggBytes, winBytes, onBytes, bytes, condBytes, columnsBytes, fetchNumber}
 use Rattle.cpl.specs.Writable.{FitItem, FitKey, FitCall, FitAgg, FitWin, FitOn, FitList, FitCond, FitFetch, FitColumns}
 use Rattle.cpl.specs.ReadPlan.{fetchOf, readCond, readColumns}
+use Rattle.cpl.proofs.Versions.{Sound}
 use Rattle.cpl.proofs.Codec.{Reads, reads-give, reads-then, reads-map, reads-here, reads-no, reads-as, only-give, only-refuse, only-then, only-map, only-here, only-pick, Codec, nought, codec-as}
 use Rattle.cpl.proofs.FieldTrip.{byte-codec, tag-codec, list-codec, index-codec, plain-codec}
 use Rattle.cpl.proofs.CodeTrip.{fn-number, flags-number, number-fn, number-flags}
@@ -111,10 +112,10 @@ win-codec =
       only =
           only-then _ pair-codec λ c h.
           only-then _ (byte-codec 5 (omega arith)) λ x l.
-          only-then _ (list-codec expr-codec maxKeys (omega arith)) λ ps i.
-          only-then _ (list-codec key-codec maxKeys (omega arith)) λ ks j.
+          only-then _ (list-codec expr-codec 1 maxKeys (omega arith)) λ ps i.
+          only-then _ (list-codec key-codec 1 maxKeys (omega arith)) λ ks j.
           only-map (λ (g : Call). win c g ps ks) (call-codec x l) λ g m.
-          ((h, m .0, i, j), ap (λ (y : ℕ). pairBytes c ++ y ∷ (countedBytes exprBytes ps ++ (countedBytes keyBytes ks ++ callBytes g))) (sym (m .1)), omega arith, refl);
+          ((h, m .0, i, j), ap (λ (y : ℕ). pairBytes c ++ y ∷ (countedBytes 1 exprBytes ps ++ (countedBytes 1 keyBytes ks ++ callBytes g))) (sym (m .1)), omega arith, refl);
     }
   where
     reads : (w : Win) → FitWin w → Reads readWin w (winBytes w) (winTags w) 0
@@ -122,8 +123,8 @@ win-codec =
         reads-as refl refl (omega arith) refl
         (reads-then _ (pair-codec .reads c (h .0))
         (reads-then _ (byte-codec 5 (omega arith) .reads (callNumber g) (call-small g))
-        (reads-then _ (list-codec expr-codec maxKeys (omega arith) .reads ps (h .2))
-        (reads-then _ (list-codec key-codec maxKeys (omega arith) .reads ks (h .3))
+        (reads-then _ (list-codec expr-codec 1 maxKeys (omega arith) .reads ps (h .2))
+        (reads-then _ (list-codec key-codec 1 maxKeys (omega arith) .reads ks (h .3))
         (reads-map (λ (x : Call). win c x ps ks) (call-codec (callNumber g) (call-small g) .reads g (h .1, refl)))))))
 
 pub on-codec : Codec FitOn onBytes onTags nought readOn
@@ -200,13 +201,17 @@ cond-codec = codec-as (λ c h. h) (λ c h. h) (λ c h. (refl, same c)) (if-codec
     same none = refl
     same (some e) = omega arith
 
-pub columns-codec : (n : ℕ) → n ≤ 256 → Codec (FitColumns n) columnsBytes nought nought (readColumns n)
+pub columns-codec : (v : Version) → Sound v → (n : ℕ) → n ≤ v .maxColumns → Codec (FitColumns v n) (columnsBytes v) nought nought (readColumns v n)
 unfolding FitColumns columnsBytes readColumns
-columns-codec n s =
-    codec-as {Good = IfGood list} (λ is. elim is [ none ↦ λ h. h | some xs ↦ λ h. h ]) (λ is. elim is [ none ↦ λ h. h | some xs ↦ λ h. h ]) (λ is h. (refl, same is)) (if-codec list)
+columns-codec v s n few =
+    codec-as {Good = IfGood list} (λ is. elim is [ none ↦ λ h. h | some xs ↦ λ h. h ]) (λ is. elim is [ none ↦ λ h. h | some xs ↦ λ h. h ]) (λ is h. (same-bytes is, same is)) (if-codec list)
   where
-    list : Codec (FitList (λ i. i < n) maxColumns) (countedBytes (bytes 1)) nought nought (counted any maxColumns (below n))
-    list = plain-codec (index-codec n s) maxColumns (omega arith)
+    list : Codec (FitList (λ i. i < n) (v .maxColumns)) (countedBytes (v .wide) (bytes (v .wide))) nought nought (counted (v .wide) any (v .maxColumns) (index (v .wide) n))
+    list = plain-codec (index-codec (v .wide) n (omega (arith, s .columns-fit))) (v .wide) (v .maxColumns) (s .columns-fit)
+
+    same-bytes : (is : Option (List ℕ)) → ifBytes list is ≡ columnsBytes v is
+    same-bytes none = refl
+    same-bytes (some is) = refl
 
     same : (is : Option (List ℕ)) → ifTags list is ≡ 0
     same none = refl

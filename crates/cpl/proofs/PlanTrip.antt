@@ -37,15 +37,15 @@ module _ (C : Catalogue) (tables : FitCatalogue C) where
   FitTo deep p = FitPlan C p × (depth p ≤ deep)
 
   -- inputs that are read as they are written make plans that are
-  module _ (deep : ℕ) (self : Reader Plan) (c : Codec (FitTo deep) planBytes planTags planNodes self) where
+  module _ (deep : ℕ) (self : Reader Plan) (c : Codec (FitTo deep) (planBytes (C .version)) planTags planNodes self) where
     inputs-reads : (p : Plan) → FitTo (suc deep) p →
-        (h : Head) × (bs : List ℕ) × (t n : ℕ) × FitHead C h × Reads (readInputs self h) p bs t n × (headBytes h ++ bs ≡ planBytes p) × (headTags h + t ≡ planTags p) × (suc n ≡ planNodes p)
+        (h : Head) × (bs : List ℕ) × (t n : ℕ) × FitHead C h × Reads (readInputs self h) p bs t n × (headBytes (C .version) h ++ bs ≡ planBytes (C .version) p) × (headTags h + t ≡ planTags p) × (suc n ≡ planNodes p)
     unfolding depth FitPlan planBytes planTags planNodes readInputs
-    inputs-reads (leaf h) g = (h0 h, [], 0, 0, g .0, reads-give, append-nil _, refl, refl)
-    inputs-reads (unary h p) g = (h1 h, planBytes p, planTags p, planNodes p, g .0 .0, reads-map (unary h) (c .reads p (g .0 .1, omega arith)), refl, refl, refl)
+    inputs-reads (leaf h) g = (h0 h, [], 0, 0, g .0, reads-give, append-nil _, omega arith, refl)
+    inputs-reads (unary h p) g = (h1 h, planBytes (C .version) p, planTags p, planNodes p, g .0 .0, reads-map (unary h) (c .reads p (g .0 .1, omega arith)), refl, refl, refl)
     inputs-reads (binary h p₁ p₂) g = (
       h2 h,
-      planBytes p₁ ++ planBytes p₂,
+      planBytes (C .version) p₁ ++ planBytes (C .version) p₂,
       planTags p₁ + planTags p₂,
       planNodes p₁ + planNodes p₂,
       g .0 .0,
@@ -56,13 +56,13 @@ module _ (C : Catalogue) (tables : FitCatalogue C) where
     )
 
     inputs-only : (S : Form Plan) (h : Head) → FitHead C h →
-        ((p : Plan) (bs : List ℕ) (t n : ℕ) → FitTo (suc deep) p → headBytes h ++ bs ≡ planBytes p → headTags h + t ≡ planTags p → suc n ≡ planNodes p → S p bs t n) → Only S (readInputs self h)
+        ((p : Plan) (bs : List ℕ) (t n : ℕ) → FitTo (suc deep) p → headBytes (C .version) h ++ bs ≡ planBytes (C .version) p → headTags h + t ≡ planTags p → suc n ≡ planNodes p → S p bs t n) → Only S (readInputs self h)
     unfolding depth FitPlan planBytes planTags planNodes readInputs
-    inputs-only S (h0 h) g f = only-give (f (leaf h) [] 0 0 (g, omega arith) (append-nil _) refl refl)
+    inputs-only S (h0 h) g f = only-give (f (leaf h) [] 0 0 (g, omega arith) (append-nil _) (omega arith) refl)
     inputs-only S (h1 h) g f = only-map (unary h) c λ p i. f (unary h p) _ _ _ ((g, i .0), omega arith) refl refl refl
     inputs-only S (h2 h) g f = only-then _ c λ p₁ i. only-map (binary h p₁) c λ p₂ j. f (binary h p₁ p₂) _ _ _ ((g, i .0, j .0), omega arith) refl refl refl
 
-  plan-to : (deep : ℕ) → Codec (FitTo deep) planBytes planTags planNodes (planTo C deep)
+  plan-to : (deep : ℕ) → Codec (FitTo deep) (planBytes (C .version)) planTags planNodes (planTo C deep)
   unfolding planTo
   plan-to zero = record { reads = λ p g. absurd (omega (arith, depth-some p)); only = only-here _ λ at. only-refuse }
   plan-to (suc deep) =
@@ -71,16 +71,16 @@ module _ (C : Catalogue) (tables : FitCatalogue C) where
             λ p g.
             reads-here _ λ at.
             let (h, bs, t, n, fit, inputs, same, tags, nodes) = inputs-reads deep (planTo C deep) (plan-to deep) p g in
-            let k = head-bytes h in
+            let k = head-bytes (C .version) h in
             reads-as refl (ap (λ (xs : List ℕ). xs ++ bs) (k .1) ∙ same) (omega arith) (omega arith)
-            (reads-then _ (node-tag-codec .reads (headTag h) (k .0)) (reads-then _ (head-codec C tables at (headTag h) .reads h (fit, refl)) inputs));
+            (reads-then _ (node-tag-codec .reads (headTag (C .version) h) (k .0)) (reads-then _ (head-codec C tables at (headTag (C .version) h) .reads h (fit, refl)) inputs));
         only =
             only-here _ λ at.
             only-then _ node-tag-codec λ x l.
             only-then _ (head-codec C tables at x) λ h g.
             inputs-only deep (planTo C deep) (plan-to deep) _ h (g .0) λ p bs t n fit same tags nodes.
-            (fit, ap (λ (y : ℕ). y ∷ (headRest h ++ bs)) (sym (g .1)) ∙ ap (λ (xs : List ℕ). xs ++ bs) (head-bytes h .1) ∙ same, omega arith, omega arith);
+            (fit, ap (λ (y : ℕ). y ∷ (headRest (C .version) h ++ bs)) (sym (g .1)) ∙ ap (λ (xs : List ℕ). xs ++ bs) (head-bytes (C .version) h .1) ∙ same, omega arith, omega arith);
       }
 
-  pub plan-codec : Codec (FitPlan C) planBytes planTags planNodes (planTo C (suc maxNodes))
+  pub plan-codec : Codec (FitPlan C) (planBytes (C .version)) planTags planNodes (planTo C (suc maxNodes))
   plan-codec = codec-deep (planTo C) depth (suc maxNodes) (λ p l m. omega (arith, depth-nodes p)) plan-to

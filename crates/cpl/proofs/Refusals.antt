@@ -8,12 +8,12 @@ use Prim.Native.Nat.{ℕ, zero, suc, _+_, _≤_}
 use native.Mathlib.Omega.{arith}
 use lib.Dec.{ltb, leb, eqb}
 use lib.ListN.{length, getD}
-use Rattle.cpl.specs.Limits.{maxTables, maxColumns, maxItems, maxKeys, maxNodes, maxTags, maxFields}
+use Rattle.cpl.specs.Limits.{Version, version1, version2, maxTables, maxKeys, maxNodes, maxTags}
 use Rattle.cpl.specs.Codes.{VALUE, MANY, CLASH, UNKNOWN, AMBIGUOUS, WIDTH, FIELDS, aliasTag}
-use Rattle.cpl.specs.Plan.{Pair, Plan, leaf, unary, binary, Catalogue, Source}
-use Rattle.cpl.specs.Read.{Res, ok, bad, Reader, andThen, _>>=_, give, refuse, pick, here, field, value, isNot, nonzero, below, count, any, tag, nodeTag, times, counted}
+use Rattle.cpl.specs.Plan.{Pair, Plan, leaf, unary, binary, TableKey, Catalogue, Source, namesOf, keyedTables}
+use Rattle.cpl.specs.Read.{Res, ok, bad, Reader, andThen, _>>=_, give, refuse, pick, here, field, value, isNot, nonzero, index, below, fresh, count, any, tag, nodeTag, times, counted, timesAfter, countedAfter}
 use Rattle.cpl.specs.ReadExpr.{readPair, readColumn, readLiteral, leafRest, exprRest, exprTo, readExpr, readAlias, readBare, readItem, readKey, readCall, readAgg, readWin, readOn}
-use Rattle.cpl.specs.ReadPlan.{Head, h0, h1, h2, readLimit, readAggregate, readCond, readJoin, readColumns, readScan, readEmpty, readHead, readInputs, planTo, starts, markBytes, readMark, readCatalogue, readEnd, readSource, readFile}
+use Rattle.cpl.specs.ReadPlan.{Head, h0, h1, h2, readLimit, readAggregate, readCond, readJoin, readColumns, readScan, readEmpty, readHead, readInputs, planTo, starts, markBytes, readMark, readTableKey, readCatalogue, readEnd, readSource, readFile}
 use Rattle.cpl.specs.Accept.{Test, Fault, fault, _then_, must, nodeFault, check}
 use Rattle.cpl.specs.Exprs.{known, definite}
 
@@ -79,13 +79,17 @@ nonzero-safe : (k : ℕ) → Safe (nonzero k)
 unfolding nonzero
 nonzero-safe k = value-safe k (isNot 0)
 
+index-safe : (k n : ℕ) → Safe (index k n)
+unfolding index
+index-safe k n = value-safe k _
+
 below-safe : (n : ℕ) → Safe (below n)
 unfolding below
-below-safe n = value-safe 1 _
+below-safe n = index-safe 1 n
 
-count-safe : (allowed : ℕ → Bool) (most : ℕ) → Safe (count allowed most)
+count-safe : (k : ℕ) (allowed : ℕ → Bool) (most : ℕ) → Safe (count k allowed most)
 unfolding count
-count-safe allowed most = bind here _ here-safe (λ p. bind (value 1 allowed) _ (value-safe 1 allowed) (λ n. choose (leb n most) _ _ (given n) (many-refused p)))
+count-safe k allowed most = bind here _ here-safe (λ p. bind (value k allowed) _ (value-safe k allowed) (λ n. choose (leb n most) _ _ (given n) (many-refused p)))
 
 tag-safe : Safe tag
 unfolding tag
@@ -100,9 +104,18 @@ unfolding times
 times-safe zero p h = given []
 times-safe (suc n) p h = bind p _ h (λ x. bind (times n p) _ (times-safe n p h) (λ xs. given (x ∷ xs)))
 
-pub counted-safe : {A : Type 0} (allowed : ℕ → Bool) (most : ℕ) (p : Reader A) → Safe p → Safe (counted allowed most p)
+pub counted-safe : {A : Type 0} (k : ℕ) (allowed : ℕ → Bool) (most : ℕ) (p : Reader A) → Safe p → Safe (counted k allowed most p)
 unfolding counted
-counted-safe allowed most p h = bind (count allowed most) _ (count-safe allowed most) (λ n. times-safe n p h)
+counted-safe k allowed most p h = bind (count k allowed most) _ (count-safe k allowed most) (λ n. times-safe n p h)
+
+timesAfter-safe : {A : Type 0} (n : ℕ) (p : List A → Reader A) → ((before : List A) → Safe (p before)) → (before : List A) → Safe (timesAfter n p before)
+unfolding timesAfter
+timesAfter-safe zero p h before = given []
+timesAfter-safe (suc n) p h before = bind (p before) _ (h before) (λ x. bind (timesAfter n p (x ∷ before)) _ (timesAfter-safe n p h (x ∷ before)) (λ xs. given (x ∷ xs)))
+
+countedAfter-safe : {A : Type 0} (k : ℕ) (allowed : ℕ → Bool) (most : ℕ) (p : List A → Reader A) → ((before : List A) → Safe (p before)) → Safe (countedAfter k allowed most p)
+unfolding countedAfter
+countedAfter-safe k allowed most p h = bind (count k allowed most) _ (count-safe k allowed most) (λ n. timesAfter-safe n p h [])
 
 -- ── expressions and the parts of nodes ──────────────────────────────────────────────────────
 
@@ -150,8 +163,8 @@ win-safe : Safe readWin
 unfolding readWin
 win-safe =
     bind readPair _ pair-safe (λ c. bind (below 5) _ (below-safe 5) (λ f.
-    bind (counted any maxKeys readExpr) _ (counted-safe any maxKeys readExpr expr-safe) (λ ps.
-    bind (counted any maxKeys readKey) _ (counted-safe any maxKeys readKey key-safe) (λ ks. bind (readCall f) _ (call-safe f) (λ g. given _)))))
+    bind (counted 1 any maxKeys readExpr) _ (counted-safe 1 any maxKeys readExpr expr-safe) (λ ps.
+    bind (counted 1 any maxKeys readKey) _ (counted-safe 1 any maxKeys readKey key-safe) (λ ks. bind (readCall f) _ (call-safe f) (λ g. given _)))))
 
 pub on-safe : Safe readOn
 unfolding readOn
@@ -159,43 +172,48 @@ on-safe = bind readExpr _ expr-safe (λ a. bind readExpr _ expr-safe (λ b. give
 
 -- ── nodes, plans, files ─────────────────────────────────────────────────────────────────────
 
-aggregate-safe : Safe readAggregate
+aggregate-safe : (v : Version) → Safe (readAggregate v)
 unfolding readAggregate
-aggregate-safe = bind (counted any maxItems readItem) _ (counted-safe any maxItems readItem item-safe) (λ gs. bind (counted _ maxItems readAgg) _ (counted-safe _ maxItems readAgg agg-safe) (λ vs. given _))
+aggregate-safe v =
+    bind (counted (v .wide) any (v .maxItems) readItem) _ (counted-safe (v .wide) any (v .maxItems) readItem item-safe)
+    (λ gs. bind (counted (v .wide) _ (v .maxItems) readAgg) _ (counted-safe (v .wide) _ (v .maxItems) readAgg agg-safe) (λ vs. given _))
 
 join-safe : Safe readJoin
 unfolding readJoin readCond
 join-safe =
-    bind (below 8) _ (below-safe 8) (λ t. bind (counted any maxKeys readOn) _ (counted-safe any maxKeys readOn on-safe) (λ os.
+    bind (below 8) _ (below-safe 8) (λ t. bind (counted 1 any maxKeys readOn) _ (counted-safe 1 any maxKeys readOn on-safe) (λ os.
     bind readCond _ (bind (below 2) _ (below-safe 2) (λ x. choose (eqb x 0) _ _ (given none) (bind readExpr _ expr-safe (λ e. given (some e))))) (λ c. given _)))
 
 scan-safe : (C : Catalogue) → Safe (readScan C)
 unfolding readScan readColumns
 scan-safe C =
-    bind (below (length C)) _ (below-safe (length C)) (λ t. bind (nonzero 2) _ (nonzero-safe 2) (λ q.
-    bind (readColumns (length (getD C t []))) _
-    (bind (below 2) _ (below-safe 2) (λ x. choose (eqb x 0) _ _ (given none) (bind (counted any maxColumns (below _)) _ (counted-safe any maxColumns (below _) (below-safe _)) (λ is. given (some is)))))
-    (λ is. given _)))
+    let v = C .version in
+    bind (below (length (C .tables))) _ (below-safe (length (C .tables))) (λ t. bind (nonzero 2) _ (nonzero-safe 2) (λ q.
+    bind (readColumns v (length (namesOf C t))) _
+    (bind (below 2) _ (below-safe 2) (λ x.
+    choose (eqb x 0) _ _ (given none) (bind (counted (v .wide) any (v .maxColumns) (index (v .wide) _)) _ (counted-safe (v .wide) any (v .maxColumns) (index (v .wide) _) (index-safe (v .wide) _)) (λ is. given (some is)))))
+    (λ is. bind (counted (v .late) any (v .maxFilters) readExpr) _ (counted-safe (v .late) any (v .maxFilters) readExpr expr-safe) (λ es. given _))))
 
-empty-safe : Safe readEmpty
+empty-safe : (v : Version) → Safe (readEmpty v)
 unfolding readEmpty
-empty-safe = bind (below 2) _ (below-safe 2) (λ x. bind (counted any maxItems readPair) _ (counted-safe any maxItems readPair pair-safe) (λ cs. given _))
+empty-safe v = bind (below 2) _ (below-safe 2) (λ x. bind (counted (v .wide) any (v .maxItems) readPair) _ (counted-safe (v .wide) any (v .maxItems) readPair pair-safe) (λ cs. given _))
 
 head-safe : (C : Catalogue) (p t : ℕ) → Safe (readHead C p t)
 unfolding readHead readLimit
 head-safe C p t =
-    choose (eqb t 1) _ _ (bind (counted any maxItems readItem) _ (counted-safe any maxItems readItem item-safe) (λ is. given _))
+    let v = C .version in
+    choose (eqb t 1) _ _ (bind (counted (v .wide) any (v .maxItems) readItem) _ (counted-safe (v .wide) any (v .maxItems) readItem item-safe) (λ is. given _))
     (choose (eqb t 2) _ _ (bind readExpr _ expr-safe (λ e. given _))
-    (choose (eqb t 3) _ _ (bind (counted (isNot 0) maxKeys readKey) _ (counted-safe (isNot 0) maxKeys readKey key-safe) (λ ks. given _))
+    (choose (eqb t 3) _ _ (bind (counted 1 (isNot 0) maxKeys readKey) _ (counted-safe 1 (isNot 0) maxKeys readKey key-safe) (λ ks. given _))
     (choose (eqb t 4) _ _ (bind readLimit _ (bind (field 4) _ (field-safe 4) (λ s. bind (field 4) _ (field-safe 4) (λ n. given _))) (λ h. given (h1 h)))
-    (choose (eqb t 5) _ _ (bind readAggregate _ aggregate-safe (λ h. given _))
-    (choose (eqb t 6) _ _ (bind (counted (isNot 0) maxItems readWin) _ (counted-safe (isNot 0) maxItems readWin win-safe) (λ ws. given _))
+    (choose (eqb t 5) _ _ (bind (readAggregate v) _ (aggregate-safe v) (λ h. given _))
+    (choose (eqb t 6) _ _ (bind (counted (v .wide) (isNot 0) (v .maxItems) readWin) _ (counted-safe (v .wide) (isNot 0) (v .maxItems) readWin win-safe) (λ ws. given _))
     (choose (eqb t 7) _ _ (bind (nonzero 2) _ (nonzero-safe 2) (λ q. given _))
     (choose (eqb t 8) _ _ (given _)
     (choose (eqb t 9) _ _ (given _)
     (choose (eqb t 10) _ _ (bind readJoin _ join-safe (λ h. given _))
     (choose (eqb t 11) _ _ (bind (readScan C) _ (scan-safe C) (λ h. given _))
-    (choose (eqb t 12) _ _ (bind readEmpty _ empty-safe (λ h. given _)) (value-refused p))))))))))))
+    (choose (eqb t 12) _ _ (bind (readEmpty v) _ (empty-safe v) (λ h. given _)) (value-refused p))))))))))))
 
 inputs-safe : (self : Reader Plan) → Safe self → (h : Head) → Safe (readInputs self h)
 unfolding readInputs
@@ -208,25 +226,35 @@ unfolding planTo
 plan-safe C zero = bind here _ here-safe (λ p. many-refused p)
 plan-safe C (suc deep) = bind here _ here-safe (λ p. bind nodeTag _ nodeTag-safe (λ t. bind (readHead C p t) _ (head-safe C p t) (λ h. inputs-safe _ (plan-safe C deep) h)))
 
+table-key-safe : (v : Version) (tables : List (List ℕ)) (before : List TableKey) → Safe (readTableKey v tables before)
+unfolding readTableKey
+table-key-safe v tables before =
+    bind (value 1 (fresh (length tables) (keyedTables before))) _ (value-safe 1 _) (λ t.
+    bind (countedAfter (v .wide) (isNot 0) (v .maxColumns) _) _ (countedAfter-safe (v .wide) (isNot 0) (v .maxColumns) _ (λ taken. value-safe (v .wide) (fresh (length (getD tables t [])) taken))) (λ is. given _))
+
+catalogue-safe : (v : Version) → Safe (readCatalogue v)
+unfolding readCatalogue
+catalogue-safe v =
+    bind (counted 1 any maxTables _) _ (counted-safe 1 any maxTables _ (counted-safe (v .wide) any (v .maxColumns) (nonzero 2) (nonzero-safe 2))) (λ ts.
+    bind (countedAfter (v .late) any (v .maxTableKeys) _) _ (countedAfter-safe (v .late) any (v .maxTableKeys) _ (table-key-safe v ts)) (λ ks. given _))
+
 pub end-safe : Safe readEnd
 unfolding readEnd
 end-safe = record { coded = λ file at tags nodes. coded-pick 3 (eqb at (length file)) _ _ tt (omega arith, omega arith) }
 
 -- what stands behind the mark
-abbrev readBody : Reader Source
-readBody = readCatalogue >>= λ C. planTo C (suc maxNodes) >>= λ p. readEnd >>= λ z. give (record { catalogue = C; plan = p })
+abbrev readBody : Version → Reader Source
+readBody v = readCatalogue v >>= λ C. planTo C (suc maxNodes) >>= λ p. readEnd >>= λ z. give (record { catalogue = C; plan = p })
 
-body-safe : Safe readBody
-unfolding readCatalogue
-body-safe =
-    bind readCatalogue _ (counted-safe any maxTables _ (counted-safe any maxColumns (nonzero 2) (nonzero-safe 2))) (λ C.
-    bind (planTo C (suc maxNodes)) _ (plan-safe C (suc maxNodes)) (λ p. bind readEnd _ end-safe (λ z. given _)))
+body-safe : (v : Version) → Safe (readBody v)
+body-safe v =
+    bind (readCatalogue v) _ (catalogue-safe v) (λ C. bind (planTo C (suc maxNodes)) _ (plan-safe C (suc maxNodes)) (λ p. bind readEnd _ end-safe (λ z. given _)))
 
 pub reading-coded : (file : List ℕ) → Coded (readFile file)
 unfolding readSource readMark
 reading-coded file =
-    coded-then 2 (readMark file 0 0 0) _ (coded-pick 2 (starts markBytes file) _ _ tt (omega arith, omega arith)) λ m at tags nodes.
-    coded-lower (readBody file at tags nodes) (body-safe .coded file at tags nodes)
+    coded-then 2 (readMark file 0 0 0) _ (coded-pick 2 (starts (markBytes version1) file) _ _ tt (coded-pick 2 (starts (markBytes version2) file) _ _ tt (omega arith, omega arith))) λ v at tags nodes.
+    coded-lower (readBody v file at tags nodes) (body-safe v .coded file at tags nodes)
 
 -- ── acceptance ──────────────────────────────────────────────────────────────────────────────
 
@@ -247,16 +275,16 @@ unfolding must
 faulty-must true code at h = tt
 faulty-must false code at h = h
 
-faulty-node : (at : ℕ) (k : Test → Bool) (e : Bool) (fs gs : List Pair) → Faulty (nodeFault at k e fs gs)
+faulty-node : (C : Catalogue) (at : ℕ) (k : Test → Bool) (e : Bool) (fs gs : List Pair) → Faulty (nodeFault C at k e fs gs)
 unfolding nodeFault
-faulty-node at k e fs gs =
+faulty-node C at k e fs gs =
     faulty-then (must (k known) UNKNOWN at) _ (faulty-must (k known) UNKNOWN at (inl (omega arith, omega arith)))
     (faulty-then (must (k definite) AMBIGUOUS at) _ (faulty-must (k definite) AMBIGUOUS at (inr refl))
     (faulty-then (must e WIDTH at) _ (faulty-must e WIDTH at (inl (omega arith, omega arith)))
-    (faulty-then (must (leb (length fs) maxFields) FIELDS at) _ (faulty-must _ FIELDS at (inl (omega arith, omega arith))) (faulty-must _ CLASH at (inl (omega arith, omega arith))))))
+    (faulty-then (must (leb (length fs) (C .version .maxFields)) FIELDS at) _ (faulty-must _ FIELDS at (inl (omega arith, omega arith))) (faulty-must _ CLASH at (inl (omega arith, omega arith))))))
 
 pub check-coded : (C : Catalogue) (p : Plan) (at : ℕ) → Faulty (check C p at)
 unfolding check
-check-coded C (leaf h) at = faulty-node at _ _ _ _
-check-coded C (unary h p) at = faulty-then (check C p (suc at)) _ (check-coded C p (suc at)) (faulty-node at _ _ _ _)
-check-coded C (binary h p₁ p₂) at = faulty-then (check C p₁ (suc at)) _ (check-coded C p₁ (suc at)) (faulty-then (check C p₂ _) _ (check-coded C p₂ _) (faulty-node at _ _ _ _))
+check-coded C (leaf h) at = faulty-node C at _ _ _ _
+check-coded C (unary h p) at = faulty-then (check C p (suc at)) _ (check-coded C p (suc at)) (faulty-node C at _ _ _ _)
+check-coded C (binary h p₁ p₂) at = faulty-then (check C p₁ (suc at)) _ (check-coded C p₁ (suc at)) (faulty-then (check C p₂ _) _ (check-coded C p₂ _) (faulty-node C at _ _ _ _))

@@ -8,7 +8,7 @@ use native.Mathlib.Nat.{zero-add}
 use lib.ListN.{length, length-append}
 use lib.Dec.{eqb, lit<}
 use borrow.Author.Tests.{eqb-true, eq-eqb}
-use Rattle.cpl.specs.Limits.{maxNodes}
+use Rattle.cpl.specs.Limits.{Version, version1, version2, IsVersion, is-1, is-2, maxNodes}
 use Rattle.cpl.specs.Lists.{a[], _a∷_}
 use Rattle.cpl.specs.AreBytes.{AreBytes}
 use Rattle.cpl.specs.Plan.{Plan, Catalogue, Source}
@@ -17,6 +17,7 @@ use Rattle.cpl.specs.Read.{ok, _>>=_, give}
 use Rattle.cpl.specs.ReadPlan.{markBytes, starts, readMark, readCatalogue, planTo, readEnd, readSource, readFile}
 use Rattle.cpl.specs.Bytes.{planBytes, catalogueBytes, bytesOf}
 use Rattle.cpl.specs.Writable.{FitPlan, FitCatalogue, Writable}
+use Rattle.cpl.proofs.Versions.{sound}
 use Rattle.cpl.proofs.Lists.{All-++}
 use Rattle.cpl.proofs.Stands.{Stands, stands-cons, stands-self, stands-first, stands-rest, stands-all}
 use Rattle.cpl.proofs.Codec.{same-ok, Holds, holds-then, holds-pick, holds-ok, Stood, stood-inside, stood-then, found-stood}
@@ -26,10 +27,17 @@ use Rattle.cpl.proofs.PlanTrip.{plan-codec}
 
 -- ── the mark ────────────────────────────────────────────────────────────────────────────────
 
-mark-bytes : AreBytes markBytes
-mark-bytes = lit< tt a∷ lit< tt a∷ lit< tt a∷ lit< tt a∷ lit< tt a∷ a[]
+mark-bytes : {v : Version} → IsVersion v → AreBytes (markBytes v)
+mark-bytes i = lit< tt a∷ lit< tt a∷ lit< tt a∷ sound i .number-fits a∷ lit< tt a∷ a[]
 
-starts-stands : (ms file : List ℕ) → starts ms file ≡ true → Stands file 0 ms
+-- the mark of a version is read as that version
+mark-read : {v : Version} → IsVersion v → (rest : List ℕ) → readMark (markBytes v ++ rest) 0 0 0 ≡ ok v 5 0 0
+unfolding readMark starts
+mark-read is-1 rest = refl
+mark-read is-2 rest = refl
+
+-- what a file starts with stands at its start
+pub starts-stands : (ms file : List ℕ) → starts ms file ≡ true → Stands file 0 ms
 unfolding starts
 starts-stands [] file e = omega arith
 starts-stands (m ∷ ms) [] e = absurd (true≢false (sym e))
@@ -40,24 +48,25 @@ starts-stands (m ∷ ms) (b ∷ file) e = (omega arith, sym (eqb-true m b (and-l
 pub bytes-are-bytes : (s : Source) → Writable s → AreBytes (bytesOf s)
 unfolding bytesOf
 bytes-are-bytes s w =
-    All-++ mark-bytes (All-++ (catalogue-codec .reads (s .catalogue) (w .tables) .are-bytes) (plan-codec (s .catalogue) (w .tables) .reads (s .plan) (w .nodes-fit) .are-bytes))
+    All-++ (mark-bytes (w .tables .version-is)) (All-++ (catalogue-codec (s .catalogue .version) (w .tables .version-is) .reads (s .catalogue) (w .tables, refl) .are-bytes) (plan-codec (s .catalogue) (w .tables) .reads (s .plan) (w .nodes-fit) .are-bytes))
 
 -- a mark, a catalogue, a plan and the end
-source-ok : (file : List ℕ) (C : Catalogue) (p : Plan) (at at′ tags nodes : ℕ) → readMark file 0 0 0 ≡ ok 0 5 0 0 → readCatalogue file 5 0 0 ≡ ok C at 0 0 →
+source-ok : (file : List ℕ) (v : Version) (C : Catalogue) (p : Plan) (at at′ tags nodes : ℕ) → readMark file 0 0 0 ≡ ok v 5 0 0 → readCatalogue v file 5 0 0 ≡ ok C at 0 0 →
     planTo C (suc maxNodes) file at 0 0 ≡ ok p at′ tags nodes → at′ ≡ length file → readFile file ≡ ok (record { catalogue = C; plan = p }) at′ tags nodes
 unfolding readSource readEnd
-source-ok file C p at at′ tags nodes e f g h = rw (e, f, g, eq-eqb at′ (length file) h)
+source-ok file v C p at at′ tags nodes e f g h = rw (e, f, g, eq-eqb at′ (length file) h)
 
 pub read-written : (s : Source) → Writable s → readFile (bytesOf s) ≡ ok s (length (bytesOf s)) (planTags (s .plan)) (planNodes (s .plan))
-unfolding bytesOf readMark starts
+unfolding bytesOf
 read-written s w =
     let C = s .catalogue in
+    let v = C .version in
     let file = bytesOf s in
     let cs = catalogueBytes C in
-    let ps = planBytes (s .plan) in
-    let body : Stands file 5 (cs ++ ps) = stands-rest file markBytes (cs ++ ps) 0 (stands-self file) in
-    source-ok file C (s .plan) (5 + length cs) (length file) (planTags (s .plan)) (planNodes (s .plan)) refl
-    (catalogue-codec .reads C (w .tables) .read file 5 0 0 (stands-first file cs ps 5 body) (omega arith) (omega arith))
+    let ps = planBytes v (s .plan) in
+    let body : Stands file 5 (cs ++ ps) = stands-rest file (markBytes v) (cs ++ ps) 0 (stands-self file) in
+    source-ok file v C (s .plan) (5 + length cs) (length file) (planTags (s .plan)) (planNodes (s .plan)) (mark-read (w .tables .version-is) (cs ++ ps))
+    (catalogue-codec v (w .tables .version-is) .reads C (w .tables, refl) .read file 5 0 0 (stands-first file cs ps 5 body) (omega arith) (omega arith))
     (plan-codec C (w .tables) .reads (s .plan) (w .nodes-fit) .read file (5 + length cs) 0 0 (stands-rest file cs ps 5 body) (omega (arith, w .few-tags)) (omega (arith, w .few-nodes))
     ∙ same-ok (s .plan) (omega (arith, length-append cs ps)) (omega arith) (omega arith))
     refl
@@ -95,18 +104,22 @@ ends file s at t n f =
 wrote : (file : List ℕ) → AreBytes file → Holds (Wrote file) (readFile file)
 unfolding readSource readMark bytesOf
 wrote file b =
-    holds-then Marked (Wrote file) (readMark file 0 0 0) _ (holds-pick Marked (starts markBytes file) (ok 0 5 0 0) _ marked (λ e. tt)) λ m at t n mark.
-    holds-then _ (Wrote file) (readCatalogue file at t n) _ (catalogue-codec .only .found file b at t n (stood-inside mark) (mark .few-tags) (mark .few-nodes)) λ C at′ t′ n′ c.
+    holds-then Marked (Wrote file) (readMark file 0 0 0) _
+    (holds-pick Marked (starts (markBytes version1) file) (ok version1 5 0 0) _ (λ e. (is-1, marked version1 e)) λ _.
+    holds-pick Marked (starts (markBytes version2) file) (ok version2 5 0 0) _ (λ e. (is-2, marked version2 e)) λ _. tt)
+    λ v at t n m.
+    let mark = m .1 in
+    holds-then _ (Wrote file) (readCatalogue v file at t n) _ (catalogue-codec v (m .0) .only .found file b at t n (stood-inside mark) (mark .few-tags) (mark .few-nodes)) λ C at′ t′ n′ c.
     let cs = found-stood c in
-    holds-then _ (Wrote file) (planTo C (suc maxNodes) file at′ t′ n′) _ (plan-codec C (c .is .0) .only .found file b at′ t′ n′ (stood-inside cs) (cs .few-tags) (cs .few-nodes)) λ p at″ t″ n″ q.
+    holds-then _ (Wrote file) (planTo C (suc maxNodes) file at′ t′ n′) _ (plan-codec C (c .is .0 .0) .only .found file b at′ t′ n′ (stood-inside cs) (cs .few-tags) (cs .few-nodes)) λ p at″ t″ n″ q.
     ends file (record { catalogue = C; plan = p }) at″ t″ n″
-    (whole file (record { catalogue = C; plan = p }) (c .is .0) (q .is .0) at″ t″ n″ (simp zero-add at (stood-then mark (stood-then cs (found-stood q)))))
+    (whole file (record { catalogue = C; plan = p }) (c .is .0 .0) (q .is .0) at″ t″ n″ (simp zero-add at (stood-then (rw (← c .is .0 .1) at mark) (stood-then cs (found-stood q)))))
   where
-    Marked : ℕ → ℕ → ℕ → ℕ → Type 0
-    Marked m at t n = Stood file 0 0 0 markBytes 0 0 at t n
+    Marked : Version → ℕ → ℕ → ℕ → Type 0
+    Marked v at t n = IsVersion v × Stood file 0 0 0 (markBytes v) 0 0 at t n
 
-    marked : starts markBytes file ≡ true → Stood file 0 0 0 markBytes 0 0 5 0 0
-    marked e = record { stands = starts-stands markBytes file e; next = refl; tags-read = refl; nodes-read = refl; few-tags = omega arith; few-nodes = omega arith }
+    marked : (v : Version) → starts (markBytes v) file ≡ true → Stood file 0 0 0 (markBytes v) 0 0 5 0 0
+    marked v e = record { stands = starts-stands (markBytes v) file e; next = refl; tags-read = refl; nodes-read = refl; few-tags = omega arith; few-nodes = omega arith }
 
 pub written-read : (file : List ℕ) → AreBytes file → (s : Source) (next tags nodes : ℕ) → readFile file ≡ ok s next tags nodes → Wrote file s next tags nodes
 written-read file b s next tags nodes e = holds-ok (Wrote file) e (wrote file b)

@@ -7,11 +7,10 @@ use Prim.Native.Nat.{ℕ, suc, _+_}
 use lib.Dec.{eqb, leb}
 use lib.ListN.{length}
 use Rattle.cpl.specs.Tests.{anyB, allB}
-use Rattle.cpl.specs.Limits.{maxFields}
 use Rattle.cpl.specs.Codes.{CLASH, UNKNOWN, AMBIGUOUS, WIDTH, FIELDS}
 use Rattle.cpl.specs.Plan.{Pair, pair, eqP, Expr, On, on, Binary, union, join, Plan, leaf, unary, binary, Catalogue}
-use Rattle.cpl.specs.Exprs.{known, definite, unaryExprs, condExprs, planNodes}
-use Rattle.cpl.specs.Fields.{leafFields, unaryFields, binaryFields, fieldsOf}
+use Rattle.cpl.specs.Exprs.{known, leafExprs, definite, unaryExprs, condExprs, planNodes}
+use Rattle.cpl.specs.Fields.{leafFields, leafInput, unaryFields, binaryFields, fieldsOf}
 
 -- ── the tests ───────────────────────────────────────────────────────────────────────────────
 
@@ -68,17 +67,17 @@ must true code at = none
 must false code at = some (fault code at)
 
 -- of node `at`: its references are known and definite, its inputs even, its own fields fs few, and gs without a clash
-unfoldable pub nodeFault : (at : ℕ) (all-pass : Test → Bool) (inputs-even : Bool) (fs gs : List Pair) → Option Fault
-nodeFault at all-pass inputs-even fs gs =
-    must (all-pass known) UNKNOWN at then must (all-pass definite) AMBIGUOUS at then must inputs-even WIDTH at then must (leb (length fs) maxFields) FIELDS at then must (not (clash gs)) CLASH at
+unfoldable pub nodeFault : Catalogue → (at : ℕ) (all-pass : Test → Bool) (inputs-even : Bool) (fs gs : List Pair) → Option Fault
+nodeFault C at all-pass inputs-even fs gs =
+    must (all-pass known) UNKNOWN at then must (all-pass definite) AMBIGUOUS at then must inputs-even WIDTH at then must (leb (length fs) (C .version .maxFields)) FIELDS at then must (not (clash gs)) CLASH at
 
 -- the first fault of a plan whose root is node `at`. "Nodes are numbered in prefix order from 0."
 unfoldable pub check : Catalogue → Plan → (at : ℕ) → Option Fault
-check C (leaf h) at = nodeFault at (λ test. true) true (leafFields C h) (leafFields C h)
+check C (leaf h) at = nodeFault C at (allPass (leafExprs h) (leafInput C h)) true (leafFields C h) (leafFields C h)
 check C (unary h p) at =
     let fs = fieldsOf C p in
-    check C p (suc at) then nodeFault at (allPass (unaryExprs h) fs) true (unaryFields h fs) (unaryFields h fs)
+    check C p (suc at) then nodeFault C at (allPass (unaryExprs h) fs) true (unaryFields h fs) (unaryFields h fs)
 check C (binary h p₁ p₂) at =
     let fl = fieldsOf C p₁ in
     let fr = fieldsOf C p₂ in
-    check C p₁ (suc at) then check C p₂ (suc (at + planNodes p₁)) then nodeFault at (binaryPasses h fl fr) (even h fl fr) (binaryFields h fl fr) (together h fl fr)
+    check C p₁ (suc at) then check C p₂ (suc (at + planNodes p₁)) then nodeFault C at (binaryPasses h fl fr) (even h fl fr) (binaryFields h fl fr) (together h fl fr)

@@ -4,9 +4,9 @@ use mathlib.Core.List.{List, [], _∷_, _++_}
 use mathlib.Core.Option.{Option, none, some}
 use lib.ListN.{length}
 use Rattle.cpl.specs.Tests.{concatMap}
-use Rattle.cpl.specs.Limits.{noFetch}
+use Rattle.cpl.specs.Limits.{Version, noFetch}
 use Rattle.cpl.specs.Codes.{op1Tag, op2Tag, aliasTag, unsigned, fnNumber, joinNumber, bit}
-use Rattle.cpl.specs.Plan.{Pair, pair, Expr, col, lit, miss, un, bin, Item, bare, named, Key, key, Call, rows, over, Agg, agg, Win, win, On, on, Leaf, scan, empty, Unary, projection, filter, sort, limit, aggregate, window, subqueryAlias, distinct, Binary, union, join, Plan, leaf, unary, binary, Catalogue, Source}
+use Rattle.cpl.specs.Plan.{Pair, pair, Expr, col, lit, miss, un, bin, Item, bare, named, Key, key, Call, rows, over, Agg, agg, Win, win, On, on, Leaf, scan, empty, Unary, projection, filter, sort, limit, aggregate, window, subqueryAlias, distinct, Binary, union, join, Plan, leaf, unary, binary, TableKey, Catalogue, Source}
 use Rattle.cpl.specs.ReadPlan.{markBytes}
 
 -- "Numbers are little-endian": the k bytes of x, the lowest first
@@ -14,9 +14,9 @@ unfoldable pub bytes : ℕ → ℕ → List ℕ
 bytes zero x = []
 bytes (suc k) x = x % 256 ∷ bytes k (x / 256)
 
--- a count byte, and the elements
-unfoldable pub countedBytes : {A : Type 0} → (A → List ℕ) → List A → List ℕ
-countedBytes w xs = length xs ∷ concatMap w xs
+-- a count of k bytes, and the elements
+unfoldable pub countedBytes : {A : Type 0} → ℕ → (A → List ℕ) → List A → List ℕ
+countedBytes k w xs = bytes k (length xs) ++ concatMap w xs
 
 unfoldable pub pairBytes : Pair → List ℕ
 pairBytes (pair q n) = bytes 2 q ++ bytes 2 n
@@ -48,7 +48,7 @@ unfoldable pub aggBytes : Agg → List ℕ
 aggBytes (agg c g) = pairBytes c ++ callNumber g ∷ callBytes g
 
 unfoldable pub winBytes : Win → List ℕ
-winBytes (win c g ps ks) = pairBytes c ++ callNumber g ∷ (countedBytes exprBytes ps ++ (countedBytes keyBytes ks ++ callBytes g))
+winBytes (win c g ps ks) = pairBytes c ++ callNumber g ∷ (countedBytes 1 exprBytes ps ++ (countedBytes 1 keyBytes ks ++ callBytes g))
 
 unfoldable pub onBytes : On → List ℕ
 onBytes (on a b) = exprBytes a ++ exprBytes b
@@ -57,9 +57,9 @@ unfoldable pub condBytes : Option Expr → List ℕ
 condBytes none = 0 ∷ []
 condBytes (some e) = 1 ∷ exprBytes e
 
-unfoldable pub columnsBytes : Option (List ℕ) → List ℕ
-columnsBytes none = 0 ∷ []
-columnsBytes (some is) = 1 ∷ countedBytes (bytes 1) is
+unfoldable pub columnsBytes : Version → Option (List ℕ) → List ℕ
+columnsBytes v none = 0 ∷ []
+columnsBytes v (some is) = 1 ∷ countedBytes (v .wide) (bytes (v .wide)) is
 
 unfoldable pub fetchNumber : Option ℕ → ℕ
 fetchNumber none = noFetch
@@ -67,33 +67,38 @@ fetchNumber (some n) = n
 
 -- ── nodes: the tag, then the node's own fields ──────────────────────────────────────────────
 
-unfoldable pub leafBytes : Leaf → List ℕ
-leafBytes (scan t q is) = 11 ∷ (bytes 1 t ++ (bytes 2 q ++ columnsBytes is))
-leafBytes (empty b cs) = 12 ∷ bit b ∷ countedBytes pairBytes cs
+unfoldable pub leafBytes : Version → Leaf → List ℕ
+leafBytes v (scan t q is es) = 11 ∷ (bytes 1 t ++ (bytes 2 q ++ (columnsBytes v is ++ countedBytes (v .late) exprBytes es)))
+leafBytes v (empty b cs) = 12 ∷ bit b ∷ countedBytes (v .wide) pairBytes cs
 
-unfoldable pub unaryBytes : Unary → List ℕ
-unaryBytes (projection is) = 1 ∷ countedBytes itemBytes is
-unaryBytes (filter e) = 2 ∷ exprBytes e
-unaryBytes (sort ks) = 3 ∷ countedBytes keyBytes ks
-unaryBytes (limit s n) = 4 ∷ (bytes 4 s ++ bytes 4 (fetchNumber n))
-unaryBytes (aggregate gs vs) = 5 ∷ (countedBytes itemBytes gs ++ countedBytes aggBytes vs)
-unaryBytes (window ws) = 6 ∷ countedBytes winBytes ws
-unaryBytes (subqueryAlias q) = 7 ∷ bytes 2 q
-unaryBytes distinct = 9 ∷ []
+unfoldable pub unaryBytes : Version → Unary → List ℕ
+unaryBytes v (projection is) = 1 ∷ countedBytes (v .wide) itemBytes is
+unaryBytes v (filter e) = 2 ∷ exprBytes e
+unaryBytes v (sort ks) = 3 ∷ countedBytes 1 keyBytes ks
+unaryBytes v (limit s n) = 4 ∷ (bytes 4 s ++ bytes 4 (fetchNumber n))
+unaryBytes v (aggregate gs vs) = 5 ∷ (countedBytes (v .wide) itemBytes gs ++ countedBytes (v .wide) aggBytes vs)
+unaryBytes v (window ws) = 6 ∷ countedBytes (v .wide) winBytes ws
+unaryBytes v (subqueryAlias q) = 7 ∷ bytes 2 q
+unaryBytes v distinct = 9 ∷ []
 
 unfoldable pub binaryBytes : Binary → List ℕ
 binaryBytes union = 8 ∷ []
-binaryBytes (join t os c) = 10 ∷ joinNumber t ∷ (countedBytes onBytes os ++ condBytes c)
+binaryBytes (join t os c) = 10 ∷ joinNumber t ∷ (countedBytes 1 onBytes os ++ condBytes c)
 
 -- ── plans and files ─────────────────────────────────────────────────────────────────────────
 
-unfoldable pub planBytes : Plan → List ℕ
-planBytes (leaf h) = leafBytes h
-planBytes (unary h p) = unaryBytes h ++ planBytes p
-planBytes (binary h p₁ p₂) = binaryBytes h ++ (planBytes p₁ ++ planBytes p₂)
+unfoldable pub planBytes : Version → Plan → List ℕ
+planBytes v (leaf h) = leafBytes v h
+planBytes v (unary h p) = unaryBytes v h ++ planBytes v p
+planBytes v (binary h p₁ p₂) = binaryBytes h ++ (planBytes v p₁ ++ planBytes v p₂)
+
+unfoldable pub tableKeyBytes : Version → TableKey → List ℕ
+tableKeyBytes v k = bytes 1 (k .table) ++ countedBytes (v .wide) (bytes (v .wide)) (k .columns)
 
 unfoldable pub catalogueBytes : Catalogue → List ℕ
-catalogueBytes C = countedBytes (countedBytes (bytes 2)) C
+catalogueBytes C =
+    let v = C .version in
+    countedBytes 1 (countedBytes (v .wide) (bytes 2)) (C .tables) ++ countedBytes (v .late) (tableKeyBytes v) (C .keys)
 
 unfoldable pub bytesOf : Source → List ℕ
-bytesOf s = markBytes ++ (catalogueBytes (s .catalogue) ++ planBytes (s .plan))
+bytesOf s = let v = s .catalogue .version in markBytes v ++ (catalogueBytes (s .catalogue) ++ planBytes v (s .plan))

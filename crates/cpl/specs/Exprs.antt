@@ -5,7 +5,7 @@ use mathlib.Core.Option.{Option, none, some}
 use Prim.Native.Nat.{ℕ, suc, _+_}
 use lib.Dec.{eqb, leb}
 use Rattle.cpl.specs.Tests.{concatMap, sumOf}
-use Rattle.cpl.specs.Plan.{Pair, pair, Expr, col, lit, miss, un, bin, Item, bare, named, Key, Call, rows, over, Agg, agg, Win, win, On, on, Unary, projection, filter, sort, limit, aggregate, window, subqueryAlias, distinct, Binary, union, join, Plan, leaf, unary, binary, itemExpr, keyExpr}
+use Rattle.cpl.specs.Plan.{Pair, pair, Expr, col, lit, miss, un, bin, Item, bare, named, Key, Call, rows, over, Agg, agg, Win, win, On, on, Leaf, scan, empty, Unary, projection, filter, sort, limit, aggregate, window, subqueryAlias, distinct, Binary, union, join, Plan, leaf, unary, binary, itemExpr, keyExpr}
 
 -- ── the expressions of a node ───────────────────────────────────────────────────────────────
 
@@ -22,6 +22,11 @@ winExprs (win c f ps ks) = callExprs f ++ (ps ++ map keyExpr ks)
 unfoldable pub condExprs : Option Expr → List Expr
 condExprs none = []
 condExprs (some e) = e ∷ []
+
+-- a scan's filters, over all columns of its table
+unfoldable pub leafExprs : Leaf → List Expr
+leafExprs (scan t q is es) = es
+leafExprs (empty b cs) = []
 
 -- over the input's fields; in file order, but that a window's E comes before its parts and keys
 unfoldable pub unaryExprs : Unary → List Expr
@@ -128,6 +133,10 @@ winTags (win c f ps ks) = sumOf exprTags ps + (sumOf keyTags ks + sumOf exprTags
 unfoldable pub onTags : On → ℕ
 onTags (on a b) = exprTags a + exprTags b
 
+unfoldable pub leafTags : Leaf → ℕ
+leafTags (scan t q is es) = sumOf exprTags es
+leafTags (empty b cs) = 0
+
 unfoldable pub unaryTags : Unary → ℕ
 unaryTags (projection is) = sumOf itemTags is
 unaryTags (filter e) = exprTags e
@@ -143,7 +152,7 @@ binaryTags union = 0
 binaryTags (join t os c) = sumOf onTags os + sumOf exprTags (condExprs c)
 
 unfoldable pub planTags : Plan → ℕ
-planTags (leaf h) = 0
+planTags (leaf h) = leafTags h
 planTags (unary h p) = unaryTags h + planTags p
 planTags (binary h p₁ p₂) = binaryTags h + (planTags p₁ + planTags p₂)
 

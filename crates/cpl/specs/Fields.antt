@@ -4,7 +4,7 @@ use mathlib.Core.Option.{Option, none, some}
 use Prim.Native.Nat.{ℕ}
 use lib.ListN.{length, getD}
 use Rattle.cpl.specs.Tests.{iota}
-use Rattle.cpl.specs.Plan.{Pair, pair, JoinType, j-inner, j-left, j-right, j-full, j-lsemi, j-lanti, j-rsemi, j-ranti, Leaf, scan, empty, Unary, projection, filter, sort, limit, aggregate, window, subqueryAlias, distinct, Binary, union, join, Plan, leaf, unary, binary, Catalogue, itemPair, aggPair, winPair}
+use Rattle.cpl.specs.Plan.{Pair, pair, JoinType, j-inner, j-left, j-right, j-full, j-lsemi, j-lanti, j-rsemi, j-ranti, Leaf, scan, empty, Unary, projection, filter, sort, limit, aggregate, window, subqueryAlias, distinct, Binary, union, join, Plan, leaf, unary, binary, Catalogue, namesOf, itemPair, aggPair, winPair}
 
 -- the columns of a scan: "the names at its projection, or all"
 unfoldable pub columnsOf : List ℕ → Option (List ℕ) → List ℕ
@@ -16,8 +16,17 @@ unfoldable pub scanField : (names : List ℕ) (qualifier column : ℕ) → Pair
 scanField names q i = pair q (getD names i 0)
 
 unfoldable pub leafFields : Catalogue → Leaf → List Pair
-leafFields C (scan t q is) = map (scanField (getD C t []) q) (columnsOf (getD C t []) is)
+leafFields C (scan t q is es) = map (scanField (namesOf C t) q) (columnsOf (namesOf C t) is)
 leafFields C (empty b cs) = cs
+
+-- "all its table's columns under the scan's qualifier"
+unfoldable pub tableFields : Catalogue → (table qualifier : ℕ) → List Pair
+tableFields C t q = map (pair q) (namesOf C t)
+
+-- what a leaf's own expressions, a scan's filters, are over
+unfoldable pub leafInput : Catalogue → Leaf → List Pair
+leafInput C (scan t q is es) = tableFields C t q
+leafInput C (empty b cs) = []
 
 -- "SubqueryAlias sets every qualifier."
 unfoldable pub requalify : ℕ → Pair → Pair

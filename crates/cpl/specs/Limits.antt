@@ -1,24 +1,49 @@
--- Every limit of document 01's version 1, in one place. A count above its limit is refused with MANY, a field list with FIELDS.
+-- Every limit of the format, in one place: those of its version, and those that all versions have. A count above its limit is refused with MANY, a
+-- field list with FIELDS.
 use Prim.Native.Nat.{ℕ}
 
--- "u8 table count (to 16); each table: u8 column count (to 64)"
+-- ── what a version decides ──────────────────────────────────────────────────────────────────
+
+pub record Version : Type 0 where
+  -- the number behind the mark
+  pub number : ℕ
+  -- the bytes of a count that `maxColumns` or `maxItems` limits, and of a column index
+  pub wide : ℕ
+  -- the columns of a table, of a scan's list and of a table's key
+  pub maxColumns : ℕ
+  -- the items of a Projection, the groups and the aggregates of an Aggregate, the windows of a Window, the pairs of an Empty
+  pub maxItems : ℕ
+  -- the fields of a node
+  pub maxFields : ℕ
+  -- the keys behind the tables and the filters behind a scan: the bytes of their counts, and their limits. A count of no bytes is 0.
+  pub late : ℕ
+  pub maxTableKeys : ℕ
+  pub maxFilters : ℕ
+
+-- Document 01: "u8 column count (to 64)", "Projection: u8 n (0 to 128)", "g and a to 128", "Window: u8 n (1 to 128)", "Empty: u8 n to 128", "Scan: u8 n
+-- to 64, n u8 column indices", "FIELDS: over 128 fields"; neither keys nor filters
+abbrev pub version1 : Version
+version1 = record { number = 1; wide = 1; maxColumns = 64; maxItems = 128; maxFields = 128; late = 0; maxTableKeys = 0; maxFilters = 0 }
+
+-- Document 02: "each count limited to 64 or 128 is u16 with limit 512, as is the field limit; column indices are u16"; "u8 key count (to 16)", "a scan
+-- ends in u8 n to 16 and n filter expressions"
+abbrev pub version2 : Version
+version2 = record { number = 2; wide = 2; maxColumns = 512; maxItems = 512; maxFields = 512; late = 1; maxTableKeys = 16; maxFilters = 16 }
+
+-- the versions that there are
+pub data IsVersion : Version → Type 0 where
+  is-1 : IsVersion version1
+  is-2 : IsVersion version2
+
+-- ── what all versions have ──────────────────────────────────────────────────────────────────
+
+-- "u8 table count (to 16)"
 abbrev pub maxTables : ℕ
 maxTables = 16
-
-abbrev pub maxColumns : ℕ
-maxColumns = 64
-
--- "Projection: u8 n (0 to 128)", "g and a to 128", "Window: u8 n (1 to 128)", "Empty: u8 n to 128"
-abbrev pub maxItems : ℕ
-maxItems = 128
 
 -- "Sort: u8 n (1 to 16)", "u8 p to 16", "u8 k to 16", "Join: u8 n to 16"
 abbrev pub maxKeys : ℕ
 maxKeys = 16
-
--- "FIELDS: over 128 fields"
-abbrev pub maxFields : ℕ
-maxFields = 128
 
 -- "At most 256 nodes and 4,096 expression tags in a file."
 abbrev pub maxNodes : ℕ

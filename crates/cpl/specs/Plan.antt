@@ -1,10 +1,12 @@
 -- The plan language: document 01's "The plan file" without its bytes. A node is a leaf (Scan, Empty), has one input or has two.
-use mathlib.Core.List.{List}
+use mathlib.Core.List.{List, [], map}
 use mathlib.Core.Bool.{Bool, _&&_}
 use mathlib.Core.Option.{Option}
 use Prim.Native.Nat.{ℕ}
 use lib.Dec.{eqb}
 use lib.IntN.{ℤ}
+use lib.ListN.{getD}
+use Rattle.cpl.specs.Limits.{Version, version1}
 
 -- "A pair is u16 qualifier (0 = none), u16 name (never 0)."
 pub data Pair : Type 0 where
@@ -68,9 +70,9 @@ pub data JoinType : Type 0 where
 pub data On : Type 0 where
   on : Expr → Expr → On
 
--- nodes with no input: 11 Scan (table, qualifier, column indices if given), 12 Empty
+-- nodes with no input: 11 Scan (table, qualifier, column indices if given, and its filters, which version 1 does not have), 12 Empty
 pub data Leaf : Type 0 where
-  scan : (table qualifier : ℕ) → Option (List ℕ) → Leaf
+  scan : (table qualifier : ℕ) → Option (List ℕ) → (filters : List Expr) → Leaf
   empty : (one-row : Bool) → List Pair → Leaf
 
 -- nodes with one input: 1 to 7 and 9. A Limit without a fetch has `none`.
@@ -94,9 +96,16 @@ pub data Plan : Type 0 where
   unary : Unary → Plan → Plan
   binary : Binary → Plan → Plan → Plan
 
--- the tables: of each the names of its columns
-abbrev pub Catalogue : Type 0
-Catalogue = List (List ℕ)
+-- "A table may now declare one key, a nonempty list of its columns." (A `Key` is one of Sort or Window.)
+pub record TableKey : Type 0 where
+  pub table : ℕ
+  pub columns : List ℕ
+
+-- what a plan stands on: the file's version, of each table the names of its columns, and the tables' keys, which version 1 does not have
+pub record Catalogue : Type 0 where
+  pub version : Version
+  pub tables : List (List ℕ)
+  pub keys : List TableKey
 
 -- what a plan file holds
 pub record Source : Type 0 where
@@ -104,6 +113,18 @@ pub record Source : Type 0 where
   pub plan : Plan
 
 -- ── parts ───────────────────────────────────────────────────────────────────────────────────
+
+-- the names of a table's columns; a table that is not there has none
+abbrev pub namesOf : Catalogue → (table : ℕ) → List ℕ
+namesOf C t = getD (C .tables) t []
+
+-- a catalogue of version 1, which has no keys
+abbrev pub keyless : List (List ℕ) → Catalogue
+keyless tables = record { version = version1; tables = tables; keys = [] }
+
+-- the tables that have these keys
+abbrev pub keyedTables : List TableKey → List ℕ
+keyedTables ks = map (λ k. k .table) ks
 
 unfoldable pub itemPair : Item → Pair
 itemPair (bare c) = c

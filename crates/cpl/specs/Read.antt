@@ -1,10 +1,11 @@
 -- Readers of a file of bytes, and how they are put together. A reader is given the file, the offset where it stands and how many expression
 -- tags and nodes were read before. It answers a value with the next offset and the new counts, or a refusal: a code and a place.
 use Prim.Native.Nat.{ℕ, zero, suc, _+_, _*_}
-use mathlib.Core.Bool.{Bool, true, false}
+use mathlib.Core.Bool.{Bool, true, false, not, _&&_}
 use mathlib.Core.List.{List, [], _∷_}
 use lib.ListN.{length, getD}
 use lib.Dec.{ltb, leb, eqb}
+use Rattle.cpl.specs.Tests.{anyB}
 use Rattle.cpl.specs.Limits.{maxNodes, maxTags}
 use Rattle.cpl.specs.Codes.{CUT, VALUE, MANY}
 
@@ -64,13 +65,21 @@ isNot y x = pick (eqb x y) false true
 unfoldable pub nonzero : ℕ → Reader ℕ
 nonzero k = value k (isNot 0)
 
+-- a field of k bytes that is below n
+unfoldable pub index : (k n : ℕ) → Reader ℕ
+index k n = value k (λ x. ltb x n)
+
 -- a byte below n
 unfoldable pub below : ℕ → Reader ℕ
-below n = value 1 (λ x. ltb x n)
+below n = index 1 n
 
--- a count byte. "MANY: a count above its limit"; "at one field 3, 4, 5"
-unfoldable pub count : (ℕ → Bool) → ℕ → Reader ℕ
-count allowed limit = here >>= λ p. value 1 allowed >>= λ n. pick (leb n limit) (give n) (refuse MANY p)
+-- below n, and none of those that were taken before
+unfoldable pub fresh : (n : ℕ) (taken : List ℕ) → ℕ → Bool
+fresh n taken x = ltb x n && not (anyB (eqb x) taken)
+
+-- a count of k bytes. "MANY: a count above its limit"; "at one field 3, 4, 5"
+unfoldable pub count : ℕ → (ℕ → Bool) → ℕ → Reader ℕ
+count k allowed limit = here >>= λ p. value k allowed >>= λ n. pick (leb n limit) (give n) (refuse MANY p)
 
 unfoldable pub any : ℕ → Bool
 any n = true
@@ -93,6 +102,17 @@ times (suc n) p = do
   xs ← (λ file at tags nodes. times n p file at tags nodes)
   give (x ∷ xs)
 
--- a count, and p that many times over
-unfoldable pub counted : {A : Type 0} → (ℕ → Bool) → ℕ → Reader A → Reader (List A)
-counted allowed limit p = count allowed limit >>= λ n. times n p
+-- a count of k bytes, and p that many times over
+unfoldable pub counted : {A : Type 0} → ℕ → (ℕ → Bool) → ℕ → Reader A → Reader (List A)
+counted k allowed limit p = count k allowed limit >>= λ n. times n p
+
+-- the same, where each element may be refused for those that were read before it (the last of them first)
+unfoldable pub timesAfter : {A : Type 0} → ℕ → (List A → Reader A) → (before : List A) → Reader (List A)
+timesAfter zero p before = give []
+timesAfter (suc n) p before = do
+  x ← p before
+  xs ← (λ file at tags nodes. timesAfter n p (x ∷ before) file at tags nodes)
+  give (x ∷ xs)
+
+unfoldable pub countedAfter : {A : Type 0} → ℕ → (ℕ → Bool) → ℕ → (List A → Reader A) → Reader (List A)
+countedAfter k allowed limit p = count k allowed limit >>= λ n. timesAfter n p []

@@ -91,8 +91,8 @@ unfoldable pub readWin : Reader Win
 readWin = do
   c ← readPair
   f ← below 5
-  ps ← counted any maxKeys readExpr
-  ks ← counted any maxKeys readKey
+  ps ← counted 1 any maxKeys readExpr
+  ks ← counted 1 any maxKeys readKey
   g ← readCall f
   give (win c g ps ks)
 

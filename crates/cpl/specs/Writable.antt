@@ -1,17 +1,24 @@
 -- What can be written in a plan file: each number fits its field, each count its limit, each name is one. Every plan that a file reads as is so.
 use Prim.Native.Nat.{ℕ, _+_, _^_, _<_, _≤_}
+use mathlib.Core.Path.{_≡_}
+use mathlib.Core.Bool.{true}
 use mathlib.Core.List.{List, []}
 use mathlib.Core.Option.{Option, none, some}
 use lib.ListN.{length, getD}
 use lib.Signed.{mag}
-use Rattle.cpl.specs.Limits.{maxTables, maxColumns, maxItems, maxKeys, maxNodes, maxTags, noFetch}
-use Rattle.cpl.specs.Lists.{All}
+use Rattle.cpl.specs.Limits.{Version, IsVersion, maxTables, maxKeys, maxNodes, maxTags, noFetch}
+use Rattle.cpl.specs.Lists.{All, AllAfter}
+use Rattle.cpl.specs.Read.{fresh}
 use Rattle.cpl.specs.Exprs.{planNodes, planTags}
-use Rattle.cpl.specs.Plan.{Pair, pair, Expr, col, lit, miss, un, bin, Item, bare, named, Key, key, Call, rows, over, Agg, agg, Win, win, On, on, Leaf, scan, empty, Unary, projection, filter, sort, limit, aggregate, window, subqueryAlias, distinct, Binary, union, join, Plan, leaf, unary, binary, Catalogue, Source}
+use Rattle.cpl.specs.Plan.{Pair, pair, Expr, col, lit, miss, un, bin, Item, bare, named, Key, key, Call, rows, over, Agg, agg, Win, win, On, on, Leaf, scan, empty, Unary, projection, filter, sort, limit, aggregate, window, subqueryAlias, distinct, Binary, union, join, Plan, leaf, unary, binary, TableKey, Catalogue, Source, namesOf, keyedTables}
 
 -- at most `most` of them, each one fit
 unfoldable pub FitList : {A : Type 0} → (A → Type 0) → (most : ℕ) → List A → Type 0
 FitList P most xs = (length xs ≤ most) × All P xs
+
+-- the same, where what is fit depends on the elements before
+unfoldable pub FitAfter : {A : Type 0} → (List A → A → Type 0) → (most : ℕ) → List A → Type 0
+FitAfter P most xs = (length xs ≤ most) × AllAfter P [] xs
 
 -- a name, or a qualifier that has to be there: a u16, not 0
 unfoldable pub FitName : ℕ → Type 0
@@ -56,23 +63,23 @@ FitFetch none = Unit {0}
 FitFetch (some n) = n < noFetch
 
 -- column indices of a table that has that many columns
-unfoldable pub FitColumns : (columns : ℕ) → Option (List ℕ) → Type 0
-FitColumns columns none = Unit {0}
-FitColumns columns (some is) = FitList (λ i. i < columns) maxColumns is
+unfoldable pub FitColumns : Version → (columns : ℕ) → Option (List ℕ) → Type 0
+FitColumns v columns none = Unit {0}
+FitColumns v columns (some is) = FitList (λ i. i < columns) (v .maxColumns) is
 
 unfoldable pub FitLeaf : Catalogue → Leaf → Type 0
-FitLeaf C (scan t q is) = (t < length C) × FitName q × FitColumns (length (getD C t [])) is
-FitLeaf C (empty b cs) = FitList FitPair maxItems cs
+FitLeaf C (scan t q is es) = (t < length (C .tables)) × FitName q × FitColumns (C .version) (length (namesOf C t)) is × FitList FitExpr (C .version .maxFilters) es
+FitLeaf C (empty b cs) = FitList FitPair (C .version .maxItems) cs
 
-unfoldable pub FitUnary : Unary → Type 0
-FitUnary (projection is) = FitList FitItem maxItems is
-FitUnary (filter e) = FitExpr e
-FitUnary (sort ks) = (0 < length ks) × FitList FitKey maxKeys ks
-FitUnary (limit s n) = (s < 2 ^ 32) × FitFetch n
-FitUnary (aggregate gs vs) = (0 < length gs + length vs) × FitList FitItem maxItems gs × FitList FitAgg maxItems vs
-FitUnary (window ws) = (0 < length ws) × FitList FitWin maxItems ws
-FitUnary (subqueryAlias q) = FitName q
-FitUnary distinct = Unit {0}
+unfoldable pub FitUnary : Version → Unary → Type 0
+FitUnary v (projection is) = FitList FitItem (v .maxItems) is
+FitUnary v (filter e) = FitExpr e
+FitUnary v (sort ks) = (0 < length ks) × FitList FitKey maxKeys ks
+FitUnary v (limit s n) = (s < 2 ^ 32) × FitFetch n
+FitUnary v (aggregate gs vs) = (0 < length gs + length vs) × FitList FitItem (v .maxItems) gs × FitList FitAgg (v .maxItems) vs
+FitUnary v (window ws) = (0 < length ws) × FitList FitWin (v .maxItems) ws
+FitUnary v (subqueryAlias q) = FitName q
+FitUnary v distinct = Unit {0}
 
 unfoldable pub FitBinary : Binary → Type 0
 FitBinary union = Unit {0}
@@ -80,11 +87,19 @@ FitBinary (join t os c) = FitList FitOn maxKeys os × FitCond c
 
 unfoldable pub FitPlan : Catalogue → Plan → Type 0
 FitPlan C (leaf h) = FitLeaf C h
-FitPlan C (unary h p) = FitUnary h × FitPlan C p
+FitPlan C (unary h p) = FitUnary (C .version) h × FitPlan C p
 FitPlan C (binary h p₁ p₂) = FitBinary h × FitPlan C p₁ × FitPlan C p₂
 
-unfoldable pub FitCatalogue : Catalogue → Type 0
-FitCatalogue C = FitList (FitList FitName maxColumns) maxTables C
+-- a key of one of these tables, behind these keys: of another table than theirs, and of some columns, none twice
+pub record FitTableKey (v : Version) (tables : List (List ℕ)) (before : List TableKey) (k : TableKey) : Type 0 where
+  pub table-fresh : fresh (length tables) (keyedTables before) (k .table) ≡ true
+  pub some-columns : 0 < length (k .columns)
+  pub columns-fresh : FitAfter (λ taken i. fresh (length (getD tables (k .table) [])) taken i ≡ true) (v .maxColumns) (k .columns)
+
+pub record FitCatalogue (C : Catalogue) : Type 0 where
+  pub version-is : IsVersion (C .version)
+  pub tables-fit : FitList (FitList FitName (C .version .maxColumns)) maxTables (C .tables)
+  pub keys-fit : FitAfter (FitTableKey (C .version) (C .tables)) (C .version .maxTableKeys) (C .keys)
 
 -- "At most 256 nodes and 4,096 expression tags in a file."
 pub record Writable (s : Source) : Type 0 where

@@ -14,6 +14,7 @@ use Rattle.rules.specs.Request.{faultFrom, maskOf, requestFault}
 use Rattle.required_indices.specs.Request.{Asks, flagOf}
 use Rattle.request.specs.Requests.{RequestIs}
 use Rattle.request.specs.declared.Requested.{Requested}
+use Rattle.versions.specs.declared.Version.{Version}
 use Rattle.intake.specs.Intake.{wanted, AskIs}
 use Rattle.intake.specs.declared.Intake.{Intake}
 
@@ -31,25 +32,25 @@ all-right width = from-all 0 0 width width (omega arith)
 
 -- ── the ways of `ask` ───────────────────────────────────────────────────────────────────────
 
-pub ask-all : (all : Bool) (request : List ℕ) (width start count : ℕ) (r : Intake) → all ≡ true → (r .code ≡ 0) × (r .start ≡ start) × (r .count ≡ count) → Asks (r .set) (maskOf width (iota 0 width)) × (flagOf (r .set) ≡ false)
-    → AskIs width (wanted all request width) start count r (requestFault width (wanted all request width))
+pub ask-all : (all : Bool) (request : List ℕ) (width : ℕ) (version : Version) (start count : ℕ) (r : Intake) → all ≡ true → (r .code ≡ 0) × (r .version ≡ version) × (r .start ≡ start) × (r .count ≡ count) → Asks (r .set) (maskOf width (iota 0 width)) × (flagOf (r .set) ≡ false)
+    → AskIs width (wanted all request width) version start count r (requestFault width (wanted all request width))
 unfolding wanted
-ask-all all request width start count r e h k = subst⁻¹ (λ b. AskIs width (wanted b request width) start count r (requestFault width (wanted b request width))) e
-    (subst⁻¹ (AskIs width (iota 0 width) start count r) (all-right width) (h .0, h .1, h .2, k .0, k .1))
+ask-all all request width version start count r e h k = subst⁻¹ (λ b. AskIs width (wanted b request width) version start count r (requestFault width (wanted b request width))) e
+    (subst⁻¹ (AskIs width (iota 0 width) version start count r) (all-right width) (h .0, h .1, h .2, h .3, k .0, k .1))
 
-some-asked : (width : ℕ) (is : List ℕ) (start count : ℕ) (r : Intake) (q : Requested) (f : Option ℕ) → RequestIs width is q f → q .refused ≡ false → (r .code ≡ 0) × (r .start ≡ start) × (r .count ≡ count) × (r .set ≡ q .set) → AskIs width is start count r f
-some-asked width is start count r q none a e h = (h .0, h .1, h .2, subst⁻¹ (λ s. Asks s (maskOf width is)) (h .3) (a .2), ap flagOf (h .3) ∙ a .3)
-some-asked width is start count r q (some p) a e h = absurd (true≢false (sym (a .0) ∙ e))
+some-asked : (width : ℕ) (is : List ℕ) (version : Version) (start count : ℕ) (r : Intake) (q : Requested) (f : Option ℕ) → RequestIs width is q f → q .refused ≡ false → (r .code ≡ 0) × (r .version ≡ version) × (r .start ≡ start) × (r .count ≡ count) × (r .set ≡ q .set) → AskIs width is version start count r f
+some-asked width is version start count r q none a e h = (h .0, h .1, h .2, h .3, subst⁻¹ (λ s. Asks s (maskOf width is)) (h .4) (a .2), ap flagOf (h .4) ∙ a .3)
+some-asked width is version start count r q (some p) a e h = absurd (true≢false (sym (a .0) ∙ e))
 
-none-asked : (width : ℕ) (is : List ℕ) (start count : ℕ) (r : Intake) (q : Requested) (f : Option ℕ) → RequestIs width is q f → q .refused ≡ true → (r .code ≡ REQUEST) × (r .place ≡ q .place) → AskIs width is start count r f
-none-asked width is start count r q none a e h = absurd (true≢false (sym e ∙ a .0))
-none-asked width is start count r q (some p) a e h = (h .0, h .1 ∙ a .1)
+none-asked : (width : ℕ) (is : List ℕ) (version : Version) (start count : ℕ) (r : Intake) (q : Requested) (f : Option ℕ) → RequestIs width is q f → q .refused ≡ true → (r .code ≡ REQUEST) × (r .place ≡ q .place) → AskIs width is version start count r f
+none-asked width is version start count r q none a e h = absurd (true≢false (sym e ∙ a .0))
+none-asked width is version start count r q (some p) a e h = (h .0, h .1 ∙ a .1)
 
-module _ (all : Bool) (request : List ℕ) (width start count : ℕ) (r : Intake) (q : Requested) (e : all ≡ false) (a : RequestIs width request q (requestFault width request)) where
-  pub ask-some : q .refused ≡ false → (r .code ≡ 0) × (r .start ≡ start) × (r .count ≡ count) × (r .set ≡ q .set) → AskIs width (wanted all request width) start count r (requestFault width (wanted all request width))
+module _ (all : Bool) (request : List ℕ) (width : ℕ) (version : Version) (start count : ℕ) (r : Intake) (q : Requested) (e : all ≡ false) (a : RequestIs width request q (requestFault width request)) where
+  pub ask-some : q .refused ≡ false → (r .code ≡ 0) × (r .version ≡ version) × (r .start ≡ start) × (r .count ≡ count) × (r .set ≡ q .set) → AskIs width (wanted all request width) version start count r (requestFault width (wanted all request width))
   unfolding wanted
-  ask-some n h = subst⁻¹ (λ b. AskIs width (wanted b request width) start count r (requestFault width (wanted b request width))) e (some-asked width request start count r q (requestFault width request) a n h)
+  ask-some n h = subst⁻¹ (λ b. AskIs width (wanted b request width) version start count r (requestFault width (wanted b request width))) e (some-asked width request version start count r q (requestFault width request) a n h)
 
-  pub ask-none : q .refused ≡ true → (r .code ≡ REQUEST) × (r .place ≡ q .place) → AskIs width (wanted all request width) start count r (requestFault width (wanted all request width))
+  pub ask-none : q .refused ≡ true → (r .code ≡ REQUEST) × (r .place ≡ q .place) → AskIs width (wanted all request width) version start count r (requestFault width (wanted all request width))
   unfolding wanted
-  ask-none n h = subst⁻¹ (λ b. AskIs width (wanted b request width) start count r (requestFault width (wanted b request width))) e (none-asked width request start count r q (requestFault width request) a n h)
+  ask-none n h = subst⁻¹ (λ b. AskIs width (wanted b request width) version start count r (requestFault width (wanted b request width))) e (none-asked width request version start count r q (requestFault width request) a n h)

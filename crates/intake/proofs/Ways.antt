@@ -12,6 +12,7 @@ use Rattle.rules.specs.Request.{maskOf, requestFault}
 use Rattle.rules.specs.Answer.{refused, passedOn, requested, judged}
 use Rattle.rules.specs.Check.{finding, checkFile}
 use Rattle.required_indices.specs.Request.{Asks}
+use Rattle.versions.specs.declared.Version.{Version}
 use Rattle.acceptance.specs.Readings.{PlanIn, ReadingIs, rootPlan}
 use Rattle.acceptance.specs.declared.Reading.{Reading}
 use Rattle.acceptance.proofs.Findings.{judged-by, refused-by}
@@ -40,7 +41,7 @@ module _ {file cells rows nodes fields widths : List ℕ} {a : Reading} (x : Rea
 
 -- ── the request ─────────────────────────────────────────────────────────────────────────────
 
-module _ {file cells rows nodes fields widths : List ℕ} {start count : ℕ} (p : PlanIn file cells rows nodes fields widths start count) (request : ℕ → List ℕ) where
+module _ {file cells rows nodes fields widths : List ℕ} {version : Version} {start count : ℕ} (p : PlanIn file cells rows nodes fields widths version start count) (request : ℕ → List ℕ) where
   asked : (width : ℕ) → width ≡ length (fieldsOf (p .C) (rootPlan cells rows nodes)) → (f : Option ℕ) → requestFault width (request width) ≡ f
       → (M : Merge) → judged M request (readFile file) ≡ requested M (p .C) (rootPlan cells rows nodes) (request (length (fieldsOf (p .C) (rootPlan cells rows nodes)))) f
   asked width w f h M =
@@ -48,13 +49,13 @@ module _ {file cells rows nodes fields widths : List ℕ} {start count : ℕ} (p
       ∙ ap (requested M (p .C) (rootPlan cells rows nodes) (request (length (fieldsOf (p .C) (rootPlan cells rows nodes))))) (subst (λ n. requestFault n (request n) ≡ f) w h))
 
   module _ (width : ℕ) (wide : width ≡ length (fieldsOf (p .C) (rootPlan cells rows nodes))) (r : Intake) where
-    ended : (f : Option ℕ) → requestFault width (request width) ≡ f → AskIs width (request width) start count r f → IntakeIs file request cells rows nodes fields widths r (r .code)
+    ended : (f : Option ℕ) → requestFault width (request width) ≡ f → AskIs width (request width) version start count r f → IntakeIs file request cells rows nodes fields widths r (r .code)
     unfolding requested
     ended none e a = subst⁻¹ (IntakeIs file request cells rows nodes fields widths r) (a .0)
         (record {
-          plan = renumbered p (a .1) (a .2);
-          asks = subst (λ n. Asks (r .set) (maskOf n (request n))) wide (a .3);
-          flag = a .4;
+          plan = renumbered p (a .1) (a .2) (a .3);
+          asks = subst (λ n. Asks (r .set) (maskOf n (request n))) wide (a .4);
+          flag = a .5;
           rest = asked width wide none e;
         })
     ended (some place) e a = subst⁻¹ (IntakeIs file request cells rows nodes fields widths r) (a .0)
@@ -62,6 +63,6 @@ module _ {file cells rows nodes fields widths : List ℕ} {start count : ℕ} (p
 
 pub requested-file : {file cells rows nodes fields widths : List ℕ} {a : Reading} → ReadingIs file cells rows nodes fields widths a → (request : ℕ → List ℕ) (r : Intake)
     → a .checked .code ≤ 0
-    → AskIs (a .checked .fields) (request (a .checked .fields)) (a .start) (a .checked .nodes) r (requestFault (a .checked .fields) (request (a .checked .fields)))
+    → AskIs (a .checked .fields) (request (a .checked .fields)) (a .version) (a .start) (a .checked .nodes) r (requestFault (a .checked .fields) (request (a .checked .fields)))
     → IntakeIs file request cells rows nodes fields widths r (r .code)
 requested-file {a} x request r z h = ended (plan-in x z) request (a .checked .fields) (width-is x z) r (requestFault (a .checked .fields) (request (a .checked .fields))) refl h

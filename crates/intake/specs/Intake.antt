@@ -16,6 +16,7 @@ use Rattle.rules.specs.Request.{maskOf}
 use Rattle.rules.specs.Rewrite.{rewrite}
 use Rattle.rules.specs.Answer.{refused, finish, judged}
 use Rattle.required_indices.specs.Request.{Asks, flagOf}
+use Rattle.versions.specs.declared.Version.{Version}
 use Rattle.acceptance.specs.Readings.{PlanIn, rootPlan}
 use Rattle.intake.specs.declared.Intake.{Intake}
 
@@ -29,13 +30,13 @@ abbrev pub askedOf : Catalogue → Plan → (request : ℕ → List ℕ) → Mas
 askedOf C p request = let width = length (fieldsOf C p) in maskOf width (request width)
 
 -- the request of a plan whose root has so many fields: "11 REQUEST"
-abbrev pub AskIs : (width : ℕ) (is : List ℕ) (start count : ℕ) → Intake → (fault : Option ℕ) → Type 0
-AskIs width is start count r none = (r .code ≡ 0) × (r .start ≡ start) × (r .count ≡ count) × Asks (r .set) (maskOf width is) × (flagOf (r .set) ≡ false)
-AskIs width is start count r (some place) = (r .code ≡ REQUEST) × (r .place ≡ place)
+abbrev pub AskIs : (width : ℕ) (is : List ℕ) (version : Version) (start count : ℕ) → Intake → (fault : Option ℕ) → Type 0
+AskIs width is version start count r none = (r .code ≡ 0) × (r .version ≡ version) × (r .start ≡ start) × (r .count ≡ count) × Asks (r .set) (maskOf width is) × (flagOf (r .set) ≡ false)
+AskIs width is version start count r (some place) = (r .code ≡ REQUEST) × (r .place ≡ place)
 
 -- the plan was read, is accepted and rightly requested: what is left is to rewrite it
 pub record Taken (file : List ℕ) (request : ℕ → List ℕ) (cells rows nodes fields widths : List ℕ) (r : Intake) : Type 0 where
-  pub plan : PlanIn file cells rows nodes fields widths (r .start) (r .count)
+  pub plan : PlanIn file cells rows nodes fields widths (r .version) (r .start) (r .count)
   pub asks : Asks (r .set) (askedOf (plan .C) (rootPlan cells rows nodes) request)
   pub flag : flagOf (r .set) ≡ false
   pub rest : (M : Merge) → judged M request (readFile file) ≡ finish (plan .C) (rewrite M (plan .C) (rootPlan cells rows nodes) (askedOf (plan .C) (rootPlan cells rows nodes) request))

@@ -2,16 +2,18 @@
 //! `acceptance` gives those up to 10.
 ghost use mathlib.Core.Path.{_≡_};
 ghost use Prim.Native.Nat.{_≤_};
-ghost use lib.ListN.{length};
 ghost use Rattle.rules.specs.Request.{requestFault};
+ghost use Rattle.acceptance.specs.Readings.{Room};
 ghost use Rattle.intake.specs.Intake.{wanted, AskIs, IntakeIs};
 use required_indices::RequiredIndices;
+use versions::Version;
 
-/// What came of a file and a request: a code and a place (0 and 0 where nothing is refused), the offset of the plan, its number of nodes and
-/// the set of fields asked for.
+/// What came of a file and a request: a code and a place (0 and 0 where nothing is refused), the file's version, the offset of the plan, its number of
+/// nodes and the set of fields asked for.
 pub struct Intake {
     pub code: u8,
     pub place: usize,
+    pub version: Version,
     pub start: usize,
     pub count: usize,
     pub set: RequiredIndices,
@@ -24,6 +26,7 @@ fn refuse(code: u8, place: usize) -> Intake
     Intake {
         code,
         place,
+        version: versions::version1(),
         start: 0,
         count: 0,
         set: RequiredIndices::new(),
@@ -31,14 +34,22 @@ fn refuse(code: u8, place: usize) -> Intake
 }
 
 // The request of an accepted plan whose root has `width` fields: all of them, or those of the list.
-fn ask(all: bool, request: &[u16], width: usize, start: usize, count: usize) -> Intake
-    requires { ⌜ width ≤ 128 ⌝ }
-    ensures { λ r. ⌜ AskIs width (wanted all (now (request .entry)) width) start count r (requestFault width (wanted all (now (request .entry)) width)) ⌝ }
+fn ask(
+    all: bool,
+    request: &[u16],
+    width: usize,
+    version: Version,
+    start: usize,
+    count: usize,
+) -> Intake
+    requires { ⌜ width ≤ 512 ⌝ }
+    ensures { λ r. ⌜ AskIs width (wanted all (now (request .entry)) width) version start count r (requestFault width (wanted all (now (request .entry)) width)) ⌝ }
 {
     if all {
         return Intake {
             code: 0,
             place: 0,
+            version,
             start,
             count,
             set: request::all_fields(width),
@@ -52,6 +63,7 @@ fn ask(all: bool, request: &[u16], width: usize, start: usize, count: usize) -> 
     Intake {
         code: 0,
         place: 0,
+        version,
         start,
         count,
         set,
@@ -59,7 +71,7 @@ fn ask(all: bool, request: &[u16], width: usize, start: usize, count: usize) -> 
 }
 
 /// A file's plan, read into the lent arrays and accepted, and the set of fields asked for (`all` of them, or those of the list); or a refusal.
-/// The arrays are long enough for every plan file: see `acceptance::read_and_check`.
+/// The arrays are long enough for every plan file of the file's version: see `acceptance::read_and_check`.
 pub fn take_in(
     file: &[u8],
     all: bool,
@@ -71,7 +83,7 @@ pub fn take_in(
     fields: &mut [u16],
     widths: &mut [u64],
 ) -> Intake
-    requires { ⌜ (12288 ≤ length (now cells)) × (409728 ≤ length (now rows)) × (1792 ≤ length (now nodes)) × (1040 ≤ length (now names)) × (65536 ≤ length (now fields)) × (256 ≤ length (now widths)) ⌝ }
+    requires { ⌜ Room (now file) (now cells) (now rows) (now nodes) (now names) (now fields) (now widths) ⌝ }
     ensures { λ r. ⌜ IntakeIs (now (file .entry)) (wanted all (now (request .entry))) (now (cells .exit)) (now (rows .exit)) (now (nodes .exit)) (now (fields .exit)) (now (widths .exit)) r (r .code) ⌝ }
 {
     let read = acceptance::read_and_check(file, cells, rows, nodes, names, fields, widths);
@@ -79,5 +91,12 @@ pub fn take_in(
     if checked.code > 0 {
         return refuse(checked.code, checked.place);
     }
-    ask(all, request, checked.fields, read.start, checked.nodes)
+    ask(
+        all,
+        request,
+        checked.fields,
+        read.version,
+        read.start,
+        checked.nodes,
+    )
 }

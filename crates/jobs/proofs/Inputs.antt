@@ -9,7 +9,6 @@ use lib.Bits.{bitOr}
 use lib.ListN.{length, length-append}
 use Rattle.cpl.specs.Exprs.{condExprs}
 use Rattle.cpl.specs.Fields.{binaryFields, joinFields}
-use Rattle.cpl.specs.Limits.{maxFields}
 use Rattle.cpl.specs.Lists.{Fit}
 use Rattle.cpl.specs.Plan.{Expr, On, Pair, join, onLeft, onRight, union}
 use Rattle.cpl.proofs.Lists.{Fit-length}
@@ -101,10 +100,10 @@ module _ (left : ℕ) (p q : RequiredIndices) where
   joined-right-anti = record { asks = λ K L e k l. l }
 
 module _ {left : ℕ} (fl fr : List Pair) {q : RequiredIndices} {Q : Mask} (e : left ≡ length fl) (a : Asks q Q) (l : length Q ≡ length fr) where
-  both-few : length (fl ++ fr) ≤ maxFields → setOf q * 2 ^ left < 2 ^ (wordsN * 64)
+  both-few : length (fl ++ fr) ≤ wordsN * 64 → setOf q * 2 ^ left < 2 ^ (wordsN * 64)
   both-few f = follow-fits left a (omega (arith, f, e, l, length-append fl fr))
 
-  joinable : (t : JoinType) → length (joinFields (joinIs t) fl fr) ≤ maxFields → Joinable t left q
+  joinable : (t : JoinType) → length (joinFields (joinIs t) fl fr) ≤ wordsN * 64 → Joinable t left q
   unfolding joinFields
   joinable Inner f = both-few f
   joinable Left f = both-few f
@@ -124,7 +123,7 @@ module _ (t : JoinType) (os : List On) (c : Option Expr) (fl fr : List Pair) {le
     unfolding binaryFields
     own-fit = p .fit
 
-    own-few : length (joinFields (joinIs t) fl fr) ≤ maxFields
+    own-few : length (joinFields (joinIs t) fl fr) ≤ wordsN * 64
     unfolding binaryFields
     own-few = p .few
 

@@ -1,12 +1,12 @@
 -- Scan and Empty. Assumes nothing.
 use mathlib.Core.Path.{_≡_, refl, ap, subst, _∙_}
 use mathlib.Core.Bool.{Bool, false}
-use mathlib.Core.List.{List, []}
+use mathlib.Core.List.{List}
 use mathlib.Core.Option.{Option}
 use Prim.Native.Nat.{ℕ, _-_, _^_, _<_}
-use lib.ListN.{getD, length, length-map}
+use lib.ListN.{length, length-map}
 use Rattle.cpl.specs.Fields.{columnsOf, leafFields, scanField}
-use Rattle.cpl.specs.Plan.{Pair, empty, scan}
+use Rattle.cpl.specs.Plan.{Expr, Pair, empty, namesOf, scan}
 use Rattle.cpl.proofs.Lists.{Fit-length}
 use Rattle.rules.specs.Rules.{leafKept, leafRule}
 use Rattle.required_indices.specs.Request.{Holds, setOf}
@@ -18,13 +18,13 @@ use Rattle.jobs.specs.declared.Todo.the-variants as todos
 use Rattle.jobs.specs.declared.Rest.the-variants as rests
 use Rattle.jobs.proofs.Plain.{asks-mask, job}
 
-pub scan-leaf : (none r : RequiredIndices) (t q : ℕ) (is : Option (List ℕ)) → LeafJob (scan t q is) r (job todos.Leaf rests.Own none none r r)
+pub scan-leaf : (none r : RequiredIndices) (t q : ℕ) (is : Option (List ℕ)) (es : List Expr) → LeafJob (scan t q is es) r (job todos.Leaf rests.Own none none r r)
 unfolding leafPart leafKept leafFields
-scan-leaf none r t q is = record {
+scan-leaf none r t q is es = record {
   todo-is = refl;
   is = λ C R f a. record {
-    part = ap (leafRule C (scan t q is)) (asks-mask a (Fit-length f));
-    set = subst (λ x. setOf r < 2 ^ x) (Fit-length f ∙ length-map (columnsOf (getD C t []) is) (scanField (getD C t []) q)) (a .within);
+    part = ap (leafRule C (scan t q is es)) (asks-mask a (Fit-length f));
+    set = subst (λ x. setOf r < 2 ^ x) (Fit-length f ∙ length-map (columnsOf (namesOf C t) is) (scanField (namesOf C t) q)) (a .within);
     kept = a;
   };
 }

@@ -2,17 +2,16 @@
 use mathlib.Core.Path.{_≡_, refl, sym, ap, subst, _∙_}
 use mathlib.Core.Bool.{Bool}
 use mathlib.Core.List.{List}
-use Prim.Native.Nat.{ℕ, _+_, _<_, _≤_}
+use Prim.Native.Nat.{ℕ, _+_, _*_, _<_, _≤_}
 use native.Mathlib.Omega.{arith}
 use lib.ListN.{length}
 use Rattle.cpl.specs.Fields.{binaryFields, fieldsOf, leafFields, unaryFields}
-use Rattle.cpl.specs.Limits.{maxFields}
 use Rattle.cpl.specs.Lists.{Fit}
 use Rattle.cpl.specs.Plan.{Binary, Catalogue, Leaf, Pair, Unary, empty}
 use Rattle.cpl.specs.ReadPlan.{h0, h1, h2}
 use Rattle.cpl.proofs.Accepted.{Accepted}
 use Rattle.rules.specs.Mask.{Mask}
-use Rattle.required_indices.specs.Request.{flagOf}
+use Rattle.required_indices.specs.Request.{flagOf, wordsN}
 use Rattle.required_indices.specs.declared.RequiredIndices.{RequiredIndices}
 use Rattle.arena.specs.Rows.{pairAt}
 use Rattle.tree.specs.Rows.{one, pairsAt}
@@ -21,11 +20,11 @@ use Rattle.tree.specs.Tree.{Arrays, PartsOk, headOf, lent, planAt, rightOf}
 use Rattle.tree.specs.declared.Node.{Node}
 use Rattle.tree.specs.declared.Node.the-variants.{Empty}
 use Rattle.tree.proofs.Plans.{taken}
-use Rattle.lookup.specs.Fields.{rowAt, widthAt}
+use Rattle.lookup.specs.Fields.{firstAt, rowAt, widthAt}
 use Rattle.lookup.proofs.Lists.{list-length}
-use Rattle.lookup.proofs.Standing.{fields-few, row-is}
+use Rattle.lookup.proofs.Standing.{row-is}
 use Rattle.requests.specs.Asked.{Below}
-use Rattle.requests.proofs.Rows.{row-below}
+use Rattle.requests.proofs.Rows.{row-below, set-fits}
 use Rattle.jobs.specs.Asked.{Asked}
 use Rattle.jobs.specs.Job.{AtNode, LeafJob, NoProjection, OneIs, OneJob, Posed, PosedTwo, TwoJob}
 use Rattle.jobs.specs.declared.Job.{Job}
@@ -77,8 +76,8 @@ module _ {cells rows fields widths : List ℕ} {node : Node} {k : ℕ} {r : Requ
     unfolding fieldsOf
     leaf-fields = ap (fieldsOf C) leaf-plan
 
-    pub leaf-few : length (leafFields C h) ≤ maxFields
-    leaf-few = subst (λ x. length x ≤ maxFields) leaf-fields (fields-few (q .standing) k (q .within))
+    pub leaf-few : length (leafFields C h) ≤ wordsN * 64
+    leaf-few = subst (λ x. length x ≤ wordsN * 64) leaf-fields (set-fits (q .standing) k (q .within))
 
     pub leaf-at : {j : Job} → LeafJob h r j → AtNode C arrays count k node (flagOf r) (q .R) j (j .todo)
     leaf-at {j} o =
@@ -89,7 +88,7 @@ module _ {cells rows fields widths : List ℕ} {node : Node} {k : ℕ} {r : Requ
     long : n ≡ length (pairsAt rows f n)
     long = sym (list-length (pairAt rows) one f n)
 
-    pub empty-few : n ≤ 128
+    pub empty-few : n ≤ 512
     unfolding leafFields
     empty-few = omega (arith, leaf-few {h = empty b (pairsAt rows f n)} e refl, long)
 
@@ -106,23 +105,23 @@ module _ {cells rows fields widths : List ℕ} {node : Node} {k : ℕ} {r : Requ
     unfolding fieldsOf
     one-fields = ap (fieldsOf C) (one-input .plan)
 
-    module _ {w : ℕ} (ew : w ≡ widthAt widths (k + 1)) where
-      pub one-below : Below fields (k + 1) w
-      one-below = row-below (q .standing) (k + 1) (one-input .below) ew
+    module _ {f w : ℕ} (ef : f ≡ firstAt widths (k + 1)) (ew : w ≡ widthAt widths (k + 1)) where
+      pub one-below : Below fields f w
+      one-below = row-below (q .standing) (k + 1) (one-input .below) ef ew
 
-      pub one-posed : Posed h (rowAt fields (k + 1) w) r (q .R)
+      pub one-posed : Posed h (rowAt fields f w) r (q .R)
       one-posed =
-          subst (λ fs. Posed h fs r (q .R)) (sym (row-is (q .standing) (k + 1) (one-input .below) ew))
+          subst (λ fs. Posed h fs r (q .R)) (sym (row-is (q .standing) (k + 1) (one-input .below) ef ew))
           (record {
-            few = subst (λ x. length x ≤ maxFields) one-fields (fields-few (q .standing) k (q .within));
+            few = subst (λ x. length x ≤ wordsN * 64) one-fields (set-fits (q .standing) k (q .within));
             fit = subst (λ x. Fit (q .R) x) one-fields (q .fit);
             asks = q .asks;
           })
 
-      pub one-at : {j : Job} → NoProjection h → OneJob h (rowAt fields (k + 1) w) r j → AtNode C arrays count k node (flagOf r) (q .R) j (j .todo)
+      pub one-at : {j : Job} → NoProjection h → OneJob h (rowAt fields f w) r j → AtNode C arrays count k node (flagOf r) (q .R) j (j .todo)
       one-at {j} o job =
           by-todo C arrays node (flagOf r) (q .R) j (ap (headOf arrays) e ∙ p) one-input o (j .todo)
-          (subst (λ fs. OneIs C h fs (flagOf r) (q .R) j (j .todo)) (row-is (q .standing) (k + 1) (one-input .below) ew) (job .is C (q .R) one-posed))
+          (subst (λ fs. OneIs C h fs (flagOf r) (q .R) j (j .todo)) (row-is (q .standing) (k + 1) (one-input .below) ef ew) (job .is C (q .R) one-posed))
 
   -- ── two inputs ────────────────────────────────────────────────────────────────────────────
 
@@ -146,27 +145,27 @@ module _ {cells rows fields widths : List ℕ} {node : Node} {k : ℕ} {r : Requ
         let o = subst (Accepted C) (two-inputs .plan) (q .standing .accepted k (q .within)) in
         record {
           as-wide = o .2 .as-wide;
-          few = o .2 .few;
+          few = subst (λ x. length x ≤ wordsN * 64) two-fields (set-fits (q .standing) k (q .within));
           fit = subst (λ x. Fit (q .R) x) two-fields (q .fit);
           asks = q .asks;
         }
 
-    module _ {w v : ℕ} (ew : w ≡ widthAt widths (k + 1)) (ev : v ≡ widthAt widths right) where
-      pub left-row : Below fields (k + 1) w
-      left-row = row-below (q .standing) (k + 1) left-below ew
+    module _ {f w g v : ℕ} (ef : f ≡ firstAt widths (k + 1)) (ew : w ≡ widthAt widths (k + 1)) (eg : g ≡ firstAt widths right) (ev : v ≡ widthAt widths right) where
+      pub left-row : Below fields f w
+      left-row = row-below (q .standing) (k + 1) left-below ef ew
 
-      pub right-row : Below fields right v
-      right-row = row-below (q .standing) right (two-inputs .below) ev
+      pub right-row : Below fields g v
+      right-row = row-below (q .standing) right (two-inputs .below) eg ev
 
-      pub two-posed : PosedTwo h (rowAt fields (k + 1) w) (rowAt fields right v) r (q .R)
-      two-posed = rw (row-is (q .standing) (k + 1) left-below ew, row-is (q .standing) right (two-inputs .below) ev) both
+      pub two-posed : PosedTwo h (rowAt fields f w) (rowAt fields g v) r (q .R)
+      two-posed = rw (row-is (q .standing) (k + 1) left-below ef ew, row-is (q .standing) right (two-inputs .below) eg ev) both
 
-      pub two-at : {j : Job} → TwoJob h (rowAt fields (k + 1) w) (rowAt fields right v) r right j → AtNode C arrays count k node (flagOf r) (q .R) j (j .todo)
+      pub two-at : {j : Job} → TwoJob h (rowAt fields f w) (rowAt fields g v) r right j → AtNode C arrays count k node (flagOf r) (q .R) j (j .todo)
       two-at {j} job =
           subst (λ t. AtNode C arrays count k node (flagOf r) (q .R) j t) (sym (job .todo-is))
           (record {
             h = h;
             head = ap (headOf arrays) e ∙ p;
             inputs = two-inputs;
-            job = rw (row-is (q .standing) (k + 1) left-below ew, row-is (q .standing) right (two-inputs .below) ev) at (job .is (q .R) two-posed);
+            job = rw (row-is (q .standing) (k + 1) left-below ef ew, row-is (q .standing) right (two-inputs .below) eg ev) at (job .is (q .R) two-posed);
           })

@@ -3,7 +3,7 @@ use mathlib.Core.Path.{_≡_, refl, sym, ap, ap₂, subst, _∙_}
 use mathlib.Core.Bool.{Bool, true, false}
 use mathlib.Core.List.{List, [], _∷_, map}
 use mathlib.Core.Option.{Option}
-use Prim.Native.Nat.{ℕ, _-_, _*_, _^_}
+use Prim.Native.Nat.{ℕ, _-_, _^_}
 use lib.ListN.{length}
 use Rattle.cpl.specs.Fields.{requalify, unaryFields}
 use Rattle.cpl.specs.Lists.{Fit}
@@ -40,8 +40,8 @@ asks-mask {q} {S} a e = subst (λ n. requestMask n q ≡ S) e (a .mask)
 
 -- ── as many as the numbers say ──────────────────────────────────────────────────────────────
 
-pub row-long : (s : List ℕ) (k width : ℕ) → width ≡ length (rowAt s k width)
-row-long s k width = sym (list-length (fieldAt s) one (k * 128) width)
+pub row-long : (s : List ℕ) (start width : ℕ) → width ≡ length (rowAt s start width)
+row-long s start width = sym (list-length (fieldAt s) one start width)
 
 pub items-long : (s cells : List ℕ) (f n : ℕ) → n ≡ length (itemsAt s cells f n)
 items-long s cells f n = sym (ap length (items-list s cells f n) ∙ list-length (itemAt s cells) one f n)

@@ -2,7 +2,7 @@
 use mathlib.Core.Path.{_≡_, refl, sym, ap, ap₂, subst, _∙_}
 use mathlib.Core.Bool.{Bool, true, false}
 use mathlib.Core.List.{List, [], _∷_, _++_, map}
-use Prim.Native.Nat.{ℕ, _/_, _%_, _^_, _<_, _≤_}
+use Prim.Native.Nat.{ℕ, _*_, _/_, _%_, _^_, _<_, _≤_}
 use native.Mathlib.Omega.{arith}
 use borrow.Author.Tests.{eqb-true, eqb-false}
 use lib.Dec.{eqb}
@@ -18,7 +18,7 @@ use Rattle.rules.specs.Rules as rules
 use Rattle.rules.specs.Rules.{plus, unaryJob, windowJob}
 use Rattle.rules.proofs.Asked.{plus-fit}
 use Rattle.rules.proofs.Masks.{length-select}
-use Rattle.required_indices.specs.Request.{Asks, Holds, flagOf, requestMask, setOf}
+use Rattle.required_indices.specs.Request.{Asks, Holds, flagOf, requestMask, setOf, wordsN}
 use Rattle.required_indices.specs.declared.RequiredIndices.{RequiredIndices}
 use Rattle.required_indices.proofs.Methods.{below-asks, empty-mask, rest-asks}
 use Rattle.requests.specs.Asked.{Adds}
@@ -52,7 +52,7 @@ module _ (ws : List Win) {width : ℕ} {fs : List Pair} {r below set : RequiredI
   unfolding unaryFields
   own-fit = p .fit
 
-  own-few : length (fs ++ map winPair ws) ≤ 128
+  own-few : length (fs ++ map winPair ws) ≤ wordsN * 64
   unfolding unaryFields
   own-few = p .few
 

@@ -7,7 +7,6 @@ use lib.Dec.{T}
 use lib.ListN.{length}
 use Rattle.cpl.specs.Accept.{even}
 use Rattle.cpl.specs.Fields.{leafFields, unaryFields, binaryFields, fieldsOf, joinFields}
-use Rattle.cpl.specs.Limits.{maxFields}
 use Rattle.cpl.specs.Lists.{Fit}
 use Rattle.cpl.specs.Plan.{Pair, Expr, Leaf, Unary, projection, filter, sort, limit, aggregate, window, subqueryAlias, distinct, Binary, Plan, leaf, unary, Catalogue}
 use Rattle.cpl.specs.ReadPlan.{h0, h1, h2}
@@ -37,7 +36,7 @@ use Rattle.jobs.specs.declared.Rest.the-variants as rests
 pub record ThenIs (fs : List Pair) (g : Mask → Mask) (j : Job) (width : ℕ) : Type 0 where
   pub S : Mask
   pub wide : width ≡ length fs
-  pub few : length fs + length S ≤ maxFields
+  pub few : length fs + length S ≤ wordsN * 64
   pub asks : Asks (j .set) S
   pub is : (K : Mask) → g K ≡ K ++ S
 
@@ -64,7 +63,7 @@ pub record KeptOf (j : Job) (input out : RequiredIndices) : Type 0 where
 -- ── a node with one input, over the input's fields fs ───────────────────────────────────────
 
 pub record Posed (h : Unary) (fs : List Pair) (r : RequiredIndices) (R : Mask) : Type 0 where
-  pub few : length (unaryFields h fs) ≤ maxFields
+  pub few : length (unaryFields h fs) ≤ wordsN * 64
   pub fit : Fit R (unaryFields h fs)
   pub asks : Asks r R
 
@@ -105,7 +104,7 @@ pub record Through (ask : RequiredIndices) (topped : Bool) (j : Job) : Type 0 wh
 
 pub record PosedTwo (h : Binary) (fl fr : List Pair) (r : RequiredIndices) (R : Mask) : Type 0 where
   pub as-wide : T (even h fl fr)
-  pub few : length (binaryFields h fl fr) ≤ maxFields
+  pub few : length (binaryFields h fl fr) ≤ wordsN * 64
   pub fit : Fit R (binaryFields h fl fr)
   pub asks : Asks r R
 

@@ -9,7 +9,7 @@ ghost use mathlib.Core.Option.{Option};
 ghost use mathlib.Core.Path.{_≡_};
 ghost use Prim.Native.Nat.{ℕ, _+_, _<_, _≤_};
 ghost use lib.ListN.{length};
-ghost use Rattle.cpl.specs.Plan.{Pair, aggregate, distinct, empty, filter, join, limit, scan, sort, subqueryAlias, union, window};
+ghost use Rattle.cpl.specs.Plan.{Expr, Pair, aggregate, distinct, empty, filter, join, limit, scan, sort, subqueryAlias, union, window};
 ghost use Rattle.rules.specs.Mask.{Mask};
 ghost use Rattle.rules.specs.Rules.{joinExprs};
 ghost use Rattle.arena.specs.Cells.{exprAt, Wf};
@@ -102,24 +102,24 @@ fn through(ask: RequiredIndices, topped: bool) -> Job
     }
 }
 
-/// A Filter's job. The input's fields are the first `width` of node `k`.
+/// A Filter's job. The input's fields are the `width` from field `start` on.
 fn filter_job(
     r: RequiredIndices,
     root: usize,
     cells: &[u64],
     fields: &[u16],
-    k: usize,
+    start: usize,
     width: usize,
 ) -> Job
     requires { ⌜ Wf (now cells) (root + 1) ⌝ }
-    requires { ⌜ Below (now fields) k width ⌝ }
-    ensures { λ j. ⌜ OneJob (filter (exprAt (now (cells .entry)) root)) (rowAt (now (fields .entry)) k width) r j ⌝ }
+    requires { ⌜ Below (now fields) start width ⌝ }
+    ensures { λ j. ⌜ OneJob (filter (exprAt (now (cells .entry)) root)) (rowAt (now (fields .entry)) start width) r j ⌝ }
 {
-    let ask = requests::add_expr(r, cells, root, fields, k, width);
+    let ask = requests::add_expr(r, cells, root, fields, start, width);
     through(ask.with_projection_beneficial(), true)
 }
 
-/// A Sort's job. Its n keys stand from row `first` on. The input's fields are the first `width` of node `k`.
+/// A Sort's job. Its n keys stand from row `first` on. The input's fields are the `width` from field `start` on.
 fn sort_job(
     r: RequiredIndices,
     first: usize,
@@ -127,14 +127,14 @@ fn sort_job(
     cells: &[u64],
     rows: &[u16],
     fields: &[u16],
-    k: usize,
+    start: usize,
     width: usize,
 ) -> Job
     requires { ⌜ EachOk (KeyOk (now rows) (now cells)) (now rows) first n ⌝ }
-    requires { ⌜ Below (now fields) k width ⌝ }
-    ensures { λ j. ⌜ OneJob (sort (keysAt (now (rows .entry)) (now (cells .entry)) first n)) (rowAt (now (fields .entry)) k width) r j ⌝ }
+    requires { ⌜ Below (now fields) start width ⌝ }
+    ensures { λ j. ⌜ OneJob (sort (keysAt (now (rows .entry)) (now (cells .entry)) first n)) (rowAt (now (fields .entry)) start width) r j ⌝ }
 {
-    let ask = requests::with_roots(r, rows, first, n, 3, cells, fields, k, width);
+    let ask = requests::with_roots(r, rows, first, n, 3, cells, fields, start, width);
     through(ask.with_projection_beneficial(), true)
 }
 
@@ -153,15 +153,15 @@ fn alias_job(r: RequiredIndices) -> Job
 }
 
 /// A Distinct's job. The input has `width` fields.
-fn distinct_job(r: RequiredIndices, fields: &[u16], k: usize, width: usize) -> Job
-    requires { ⌜ Below (now fields) k width ⌝ }
-    ensures { λ j. ⌜ OneJob distinct (rowAt (now (fields .entry)) k width) r j ⌝ }
+fn distinct_job(r: RequiredIndices, fields: &[u16], start: usize, width: usize) -> Job
+    requires { ⌜ Below (now fields) start width ⌝ }
+    ensures { λ j. ⌜ OneJob distinct (rowAt (now (fields .entry)) start width) r j ⌝ }
 {
     through(RequiredIndices::new_for_all_exprs(width), false)
 }
 
 /// An Aggregate's job. Its `groups` group rows stand from row `first` on, its `aggregates` after them. All groups stay; the aggregates are
-/// taken at the request. The input's fields are the first `width` of node `k`.
+/// taken at the request. The input's fields are the `width` from field `start` on.
 fn aggregate_job(
     r: RequiredIndices,
     first: usize,
@@ -170,14 +170,14 @@ fn aggregate_job(
     cells: &[u64],
     rows: &[u16],
     fields: &[u16],
-    k: usize,
+    start: usize,
     width: usize,
 ) -> Job
     requires { ⌜ RowsOk (now rows) (now cells) first groups ⌝ }
     requires { ⌜ EachOk (AggOk (now rows) (now cells)) (now rows) (first + groups) aggregates ⌝ }
-    requires { ⌜ Below (now fields) k width ⌝ }
-    requires { ⌜ ((R : Mask) × Posed (aggregate (itemsAt (now rows) (now cells) first groups) (aggsAt (now rows) (now cells) (first + groups) aggregates)) (rowAt (now fields) k width) r R) ⌝ }
-    ensures { λ j. ⌜ OneJob (aggregate (itemsAt (now (rows .entry)) (now (cells .entry)) first groups) (aggsAt (now (rows .entry)) (now (cells .entry)) (first + groups) aggregates)) (rowAt (now (fields .entry)) k width) r j ⌝ }
+    requires { ⌜ Below (now fields) start width ⌝ }
+    requires { ⌜ ((R : Mask) × Posed (aggregate (itemsAt (now rows) (now cells) first groups) (aggsAt (now rows) (now cells) (first + groups) aggregates)) (rowAt (now fields) start width) r R) ⌝ }
+    ensures { λ j. ⌜ OneJob (aggregate (itemsAt (now (rows .entry)) (now (cells .entry)) first groups) (aggsAt (now (rows .entry)) (now (cells .entry)) (first + groups) aggregates)) (rowAt (now (fields .entry)) start width) r j ⌝ }
 {
     let none = RequiredIndices::new();
     let split = r.split_off(groups);
@@ -194,9 +194,9 @@ fn aggregate_job(
             kept,
         };
     }
-    let by = requests::with_items(none, rows, first, groups, cells, all, fields, k, width);
+    let by = requests::with_items(none, rows, first, groups, cells, all, fields, start, width);
     let at = first + groups;
-    let ask = requests::with_aggregates(by, rows, at, aggregates, cells, set, fields, k, width);
+    let ask = requests::with_aggregates(by, rows, at, aggregates, cells, set, fields, start, width);
     Job {
         todo: Todo::One { topped: true },
         rest: Rest::Own,
@@ -207,7 +207,7 @@ fn aggregate_job(
     }
 }
 
-/// A Window's job. Its n windows stand from row `first` on. The input's fields are the first `width` of node `k`.
+/// A Window's job. Its n windows stand from row `first` on. The input's fields are the `width` from field `start` on.
 fn window_job(
     r: RequiredIndices,
     first: usize,
@@ -215,12 +215,12 @@ fn window_job(
     cells: &[u64],
     rows: &[u16],
     fields: &[u16],
-    k: usize,
+    start: usize,
     width: usize,
 ) -> Job
     requires { ⌜ AllAt (WinOk (now rows) (now cells)) (winSize (now rows)) first n ⌝ }
-    requires { ⌜ Below (now fields) k width ⌝ }
-    ensures { λ j. ⌜ OneJob (window (winsAt (now (rows .entry)) (now (cells .entry)) first n)) (rowAt (now (fields .entry)) k width) r j ⌝ }
+    requires { ⌜ Below (now fields) start width ⌝ }
+    ensures { λ j. ⌜ OneJob (window (winsAt (now (rows .entry)) (now (cells .entry)) first n)) (rowAt (now (fields .entry)) start width) r j ⌝ }
 {
     let none = RequiredIndices::new();
     let split = r.split_off(width);
@@ -236,7 +236,7 @@ fn window_job(
             kept: none,
         };
     }
-    let ask = requests::with_windows(below, rows, first, n, cells, set, fields, k, width);
+    let ask = requests::with_windows(below, rows, first, n, cells, set, fields, start, width);
     Job {
         todo: Todo::One { topped: true },
         rest: Rest::InputThen { width },
@@ -269,7 +269,7 @@ fn join_kept(
     }
 }
 
-/// What a join asks of one side, whose fields are the first `width` of node `k`: its part of the request, and the columns that the
+/// What a join asks of one side, whose fields are the `width` from field `start` on: its part of the request, and the columns that the
 /// references of both halves of the pairs and of the condition find there.
 fn side_ask(
     part: RequiredIndices,
@@ -277,50 +277,51 @@ fn side_ask(
     cells: &[u64],
     rows: &[u16],
     fields: &[u16],
-    k: usize,
+    start: usize,
     width: usize,
 ) -> RequiredIndices
     requires { ⌜ EachOk (OnOk (now rows) (now cells)) (now rows) (j .first) (j .n) ⌝ }
     requires { ⌜ (j .«has_filter» ≡ true → Wf (now cells) (j .filter + 1)) ⌝ }
-    requires { ⌜ Below (now fields) k width ⌝ }
-    ensures { λ out. ⌜ Sided (joinExprs (onsAt (now (rows .entry)) (now (cells .entry)) (j .first) (j .n)) (if? (j .«has_filter») (exprAt (now (cells .entry)) (j .filter)))) (rowAt (now (fields .entry)) k width) part out ⌝ }
+    requires { ⌜ Below (now fields) start width ⌝ }
+    ensures { λ out. ⌜ Sided (joinExprs (onsAt (now (rows .entry)) (now (cells .entry)) (j .first) (j .n)) (if? (j .«has_filter») (exprAt (now (cells .entry)) (j .filter)))) (rowAt (now (fields .entry)) start width) part out ⌝ }
 {
     let first = j.first;
     let n = j.n;
-    let lefts = requests::with_roots(part, rows, first, n, 2, cells, fields, k, width);
-    let halves = requests::with_roots(lefts, rows, first, n, 3, cells, fields, k, width);
+    let lefts = requests::with_roots(part, rows, first, n, 2, cells, fields, start, width);
+    let halves = requests::with_roots(lefts, rows, first, n, 3, cells, fields, start, width);
     let has = j.has_filter;
     if has {
         let filter = j.filter;
-        let all = requests::add_expr(halves, cells, filter, fields, k, width);
+        let all = requests::add_expr(halves, cells, filter, fields, start, width);
         return all.with_projection_beneficial();
     }
     halves.with_projection_beneficial()
 }
 
-/// A Join's job. Its left input is node `k`, with `width` fields, its right one has `rwidth`.
+/// A Join's job. Its left input's fields are the `width` from field `start` on, its right one's the `rwidth` from field `rstart` on.
 fn join_job(
     r: RequiredIndices,
     j: JoinNode,
     cells: &[u64],
     rows: &[u16],
     fields: &[u16],
-    k: usize,
+    start: usize,
     width: usize,
+    rstart: usize,
     rwidth: usize,
 ) -> Job
     requires { ⌜ EachOk (OnOk (now rows) (now cells)) (now rows) (j .first) (j .n) ⌝ }
     requires { ⌜ (j .«has_filter» ≡ true → Wf (now cells) (j .filter + 1)) ⌝ }
-    requires { ⌜ Below (now fields) k width ⌝ }
-    requires { ⌜ Below (now fields) (j .right) rwidth ⌝ }
-    requires { ⌜ ((R : Mask) × PosedTwo (join (joinIs (j .«join_type»)) (onsAt (now rows) (now cells) (j .first) (j .n)) (if? (j .«has_filter») (exprAt (now cells) (j .filter)))) (rowAt (now fields) k width) (rowAt (now fields) (j .right) rwidth) r R) ⌝ }
-    ensures { λ out. ⌜ TwoJob (join (joinIs (j .«join_type»)) (onsAt (now (rows .entry)) (now (cells .entry)) (j .first) (j .n)) (if? (j .«has_filter») (exprAt (now (cells .entry)) (j .filter)))) (rowAt (now (fields .entry)) k width) (rowAt (now (fields .entry)) (j .right) rwidth) r (j .right) out ⌝ }
+    requires { ⌜ Below (now fields) start width ⌝ }
+    requires { ⌜ Below (now fields) rstart rwidth ⌝ }
+    requires { ⌜ ((R : Mask) × PosedTwo (join (joinIs (j .«join_type»)) (onsAt (now rows) (now cells) (j .first) (j .n)) (if? (j .«has_filter») (exprAt (now cells) (j .filter)))) (rowAt (now fields) start width) (rowAt (now fields) rstart rwidth) r R) ⌝ }
+    ensures { λ out. ⌜ TwoJob (join (joinIs (j .«join_type»)) (onsAt (now (rows .entry)) (now (cells .entry)) (j .first) (j .n)) (if? (j .«has_filter») (exprAt (now (cells .entry)) (j .filter)))) (rowAt (now (fields .entry)) start width) (rowAt (now (fields .entry)) rstart rwidth) r (j .right) out ⌝ }
 {
     let join_type = j.join_type;
     let right = j.right;
     let split = requests::split_join_requirements(join_type, width, r);
-    let ask = side_ask(split.below, j, cells, rows, fields, k, width);
-    let second = side_ask(split.rest, j, cells, rows, fields, right, rwidth);
+    let ask = side_ask(split.below, j, cells, rows, fields, start, width);
+    let second = side_ask(split.rest, j, cells, rows, fields, rstart, rwidth);
     let kept = join_kept(join_type, width, ask, second);
     let set = RequiredIndices::new();
     Job {
@@ -349,9 +350,9 @@ fn union_job(r: RequiredIndices, right: usize) -> Job
     }
 }
 
-/// A scan's job: its columns at the request.
+/// A scan's job: its columns at the request. Its filters stay.
 fn scan_job(r: RequiredIndices) -> Job
-    ensures { λ j. ⌜ ((t q : ℕ) (is : Option (List ℕ)) → LeafJob (scan t q is) r j) ⌝ }
+    ensures { λ j. ⌜ ((t q : ℕ) (is : Option (List ℕ)) (es : List Expr) → LeafJob (scan t q is es) r j) ⌝ }
 {
     let none = RequiredIndices::new();
     Job {
@@ -366,7 +367,7 @@ fn scan_job(r: RequiredIndices) -> Job
 
 /// An Empty's job: unchanged, all of its n fields.
 fn empty_job(r: RequiredIndices, n: usize) -> Job
-    requires { ⌜ n ≤ 128 ⌝ }
+    requires { ⌜ n ≤ 512 ⌝ }
     ensures { λ j. ⌜ ((b : Bool) (cs : List Pair) → n ≡ length cs → LeafJob (empty b cs) r j) ⌝ }
 {
     let none = RequiredIndices::new();
@@ -395,29 +396,31 @@ pub fn job_at(
     ensures { λ j. ⌜ JobAt (now (cells .entry)) (now (rows .entry)) (now (fields .entry)) (now (widths .entry)) node k r j ⌝ }
 {
     let i = k + 1;
+    let s = lookup::first_at(widths, i);
     let w = lookup::width_at(widths, i);
     match node {
         Node::Projection { first: _, n: _ } => limit_job(r),
-        Node::Filter { root } => filter_job(r, root, cells, fields, i, w),
-        Node::Sort { first, n } => sort_job(r, first, n, cells, rows, fields, i, w),
+        Node::Filter { root } => filter_job(r, root, cells, fields, s, w),
+        Node::Sort { first, n } => sort_job(r, first, n, cells, rows, fields, s, w),
         Node::Limit { skip: _, fetch: _ } => limit_job(r),
         Node::Aggregate {
             first,
             groups,
             aggregates,
-        } => aggregate_job(r, first, groups, aggregates, cells, rows, fields, i, w),
-        Node::Window { first, n } => window_job(r, first, n, cells, rows, fields, i, w),
+        } => aggregate_job(r, first, groups, aggregates, cells, rows, fields, s, w),
+        Node::Window { first, n } => window_job(r, first, n, cells, rows, fields, s, w),
         Node::SubqueryAlias { qualifier: _ } => alias_job(r),
         Node::Union { right } => union_job(r, right),
-        Node::Distinct => distinct_job(r, fields, i, w),
+        Node::Distinct => distinct_job(r, fields, s, w),
         Node::Join(j) => join_job(
             r,
             j,
             cells,
             rows,
             fields,
-            i,
+            s,
             w,
+            lookup::first_at(widths, j.right),
             lookup::width_at(widths, j.right),
         ),
         Node::Scan(_) => scan_job(r),

@@ -185,6 +185,6 @@ module _ {C : Catalogue} {cells rows nodes fields widths : List ℕ} {count : �
       ∙ sym (lines-are C (lent cells rows nodes) count w e)
 
 -- the numbers of every node fit, and it has a width
-pub listable : {C : Catalogue} {cells rows nodes widths : List ℕ} {count : ℕ} → WfTree C (lent cells rows nodes) count → length widths ≡ 256
+pub listable : {C : Catalogue} {cells rows nodes widths : List ℕ} {count : ℕ} → WfTree C (lent cells rows nodes) count → length widths ≡ 512
     → Listable nodes widths count
 listable w e = record { each = λ k l. w .each k l .numbers; wide = omega (arith, w .few) }

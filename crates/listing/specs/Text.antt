@@ -38,7 +38,7 @@ newline = 10 ∷ []
 
 -- "kind in small letters": scan, empty
 unfoldable pub leafKind : Leaf → List ℕ
-leafKind (scan t q is) = 115 ∷ 99 ∷ 97 ∷ 110 ∷ []
+leafKind (scan t q is es) = 115 ∷ 99 ∷ 97 ∷ 110 ∷ []
 leafKind (empty b cs) = 101 ∷ 109 ∷ 112 ∷ 116 ∷ 121 ∷ []
 
 -- projection, filter, sort, limit, aggregate, window, subqueryalias, distinct

@@ -132,11 +132,11 @@ fn write_refused(out: &mut [u8], code: u8, place: usize) -> usize
 pub fn list_in(
     file: &[u8],
     cells: &mut [u64; 12288],
-    rows: &mut [u16; 409728],
+    rows: &mut [u16; 1065088],
     nodes: &mut [u64; 1792],
-    names: &mut [u16; 1040],
-    fields: &mut [u16; 65536],
-    widths: &mut [u64; 256],
+    names: &mut [u16; 8208],
+    fields: &mut [u16; 262144],
+    widths: &mut [u64; 512],
     text: &mut [u8; 16384],
 ) -> usize
     ensures { λ r. ⌜ Wrote (listText (now (file .entry))) (now (text .entry)) r (now (text .exit)) ⌝ }
@@ -157,11 +157,11 @@ pub fn list(file: &[u8], text: &mut [u8; 16384]) -> usize
     ensures { λ r. ⌜ Counts r (now (text .exit)) ⌝ }
 {
     let mut cells = [0u64; 12288];
-    let mut rows = [0u16; 409728];
+    let mut rows = [0u16; 1065088];
     let mut nodes = [0u64; 1792];
-    let mut names = [0u16; 1040];
-    let mut fields = [0u16; 65536];
-    let mut widths = [0u64; 256];
+    let mut names = [0u16; 8208];
+    let mut fields = [0u16; 262144];
+    let mut widths = [0u64; 512];
     list_in(
         file,
         &mut cells,

@@ -2,7 +2,7 @@
 use mathlib.Core.Path.{_≡_, refl, sym, ap, ap₂, _∙_}
 use mathlib.Core.Bool.{Bool, true, false, cond, not, _&&_, _||_}
 use mathlib.Core.List.{List, [], _∷_, _++_}
-use Prim.Native.Nat.{ℕ, zero, suc, _+_, _-_, _*_, _<_}
+use Prim.Native.Nat.{ℕ, zero, suc, _+_, _-_, _<_}
 use native.Mathlib.Omega.{arith}
 use lib.Dec.{eqb, eqb·zero-suc, eqb·suc-zero, eqb·suc-suc}
 use borrow.Author.Tests.{eqb-true, eq-eqb}
@@ -112,24 +112,24 @@ pub any-row-none : (p : Pair → Bool) (s : List ℕ) (k : ℕ) → false ≡ an
 unfolding anyB listAt
 any-row-none p s k = refl
 
-pub any-row-more : (p : Pair → Bool) (s : List ℕ) (k i : ℕ) → anyB p (rowAt s k i) || p (fieldAt s (k * 128 + i)) ≡ anyB p (rowAt s k (i + 1))
+pub any-row-more : (p : Pair → Bool) (s : List ℕ) (k i : ℕ) → anyB p (rowAt s k i) || p (fieldAt s (k + i)) ≡ anyB p (rowAt s k (i + 1))
 unfolding anyB
-any-row-more p s k i = sym (ap (anyB p) (row-more s k i) ∙ any-append p (rowAt s k i) _ ∙ ap (anyB p (rowAt s k i) ||_) (or-false (p (fieldAt s (k * 128 + i)))))
+any-row-more p s k i = sym (ap (anyB p) (row-more s k i) ∙ any-append p (rowAt s k i) _ ∙ ap (anyB p (rowAt s k i) ||_) (or-false (p (fieldAt s (k + i)))))
 
 module _ (s : List ℕ) (k w i : ℕ) where
-  one-more : (b : Bool) → b ≡ anyB (conflict (fieldAt s (k * 128 + i))) (rowAt s k i) → clash (rowAt s k i) ≡ false → clash (rowAt s k (i + 1)) ≡ b
+  one-more : (b : Bool) → b ≡ anyB (conflict (fieldAt s (k + i))) (rowAt s k i) → clash (rowAt s k i) ≡ false → clash (rowAt s k (i + 1)) ≡ b
   unfolding clash anyB across
   one-more b e h =
-      ap clash (row-more s k i) ∙ clash-append (rowAt s k i) _ ∙ ap (λ c. (c || false) || (anyB (conflict (fieldAt s (k * 128 + i))) (rowAt s k i) || false)) h ∙ or-false _ ∙ sym e
+      ap clash (row-more s k i) ∙ clash-append (rowAt s k i) _ ∙ ap (λ c. (c || false) || (anyB (conflict (fieldAt s (k + i))) (rowAt s k i) || false)) h ∙ or-false _ ∙ sym e
 
-  pub clear-more : false ≡ anyB (conflict (fieldAt s (k * 128 + i))) (rowAt s k i) → clash (rowAt s k i) ≡ false → clash (rowAt s k (i + 1)) ≡ false
+  pub clear-more : false ≡ anyB (conflict (fieldAt s (k + i))) (rowAt s k i) → clash (rowAt s k i) ≡ false → clash (rowAt s k (i + 1)) ≡ false
   clear-more e h = one-more false e h
 
-  pub clash-hit : true ≡ anyB (conflict (fieldAt s (k * 128 + i))) (rowAt s k i) → clash (rowAt s k i) ≡ false → i < w → true ≡ clash (rowAt s k w)
+  pub clash-hit : true ≡ anyB (conflict (fieldAt s (k + i))) (rowAt s k i) → clash (rowAt s k i) ≡ false → i < w → true ≡ clash (rowAt s k w)
   clash-hit e h l =
       let d : w ≡ i + 1 + (w - (i + 1)) = omega arith in
-      let left = listAt (fieldAt s) one (k * 128 + (i + 1)) (w - (i + 1)) in
-      sym (ap (λ n. clash (rowAt s k n)) d ∙ ap clash (list-append (fieldAt s) (k * 128) (i + 1) (w - (i + 1))) ∙ clash-append (rowAt s k (i + 1)) left
+      let left = listAt (fieldAt s) one (k + (i + 1)) (w - (i + 1)) in
+      sym (ap (λ n. clash (rowAt s k n)) d ∙ ap clash (list-append (fieldAt s) k (i + 1) (w - (i + 1))) ∙ clash-append (rowAt s k (i + 1)) left
       ∙ ap (λ c. (c || clash left) || across (rowAt s k (i + 1)) left) (one-more true e h))
 
 -- two lists, neither of which clashes

@@ -1,12 +1,12 @@
 -- The fields that fit a reference, place by place: the first of them, and how many. Assumes nothing.
 use mathlib.Core.Path.{_≡_, refl, sym, ap, ap₂, subst, subst⁻¹, _∙_}
-use mathlib.Core.Bool.{Bool, true, false, cond, not, _||_, true≢false}
+use mathlib.Core.Bool.{Bool, true, false, cond, not, _&&_, _||_, true≢false}
 use mathlib.Core.List.{List, _∷_}
 use mathlib.Core.Option.{Option, none, some, Option·some-injective}
-use Prim.Native.Nat.{ℕ, zero, suc, _+_, _-_, _*_, _<_, _≤_}
+use Prim.Native.Nat.{ℕ, zero, suc, _+_, _-_, _<_, _≤_}
 use native.Mathlib.Omega.{arith}
 use lib.Dec.{T, eqb, eqb→eq, leb}
-use borrow.Author.Tests.{leb-true, leb-false, le-leb, lt-leb, ltb-true, ltb-false}
+use borrow.Author.Tests.{eqb-true, leb-true, leb-false, le-leb, lt-leb, ltb-true, ltb-false}
 use Rattle.cpl.specs.Lists.{All, _a∷_}
 use Rattle.cpl.specs.Plan.{Pair, pair}
 use Rattle.cpl.specs.Exprs.{fits, next, find, present, fitting}
@@ -117,6 +117,11 @@ all-at read f zero i h l = absurd (omega (arith, l))
 all-at {P = P} read f (suc n) zero (h a∷ hs) l = let e : f ≡ f + 0 = omega arith in subst (λ x. P (read x)) e h
 all-at {P = P} read f (suc n) (suc i) (h a∷ hs) l = let e : f + 1 + i ≡ f + suc i = omega arith in subst (λ x. P (read x)) e (all-at read (f + 1) n i hs (omega arith))
 
+both : (a b : Bool) → a && b ≡ true → (a ≡ true) × (b ≡ true)
+both true true e = (refl, refl)
+both true false e = absurd (true≢false (sym e))
+both false b e = absurd (true≢false (sym e))
+
 -- what fits and has the reference's qualifier is its own pair
 own-pair : (q n r m : ℕ) → fits (pair q n) (pair r m) ≡ true → r ≡ q → pair r m ≡ pair q n
 own-pair q n r m t e = ap₂ pair e (sym (eqb→eq n m (halves (eqb n m) (eqb q 0 || eqb q r) (subst T (fits-is q n r m) (subst⁻¹ T t tt)) .0)))
@@ -168,19 +173,20 @@ module _ (c : Pair) (fs : List Pair) where
   unfolding Many
   more-fit e = many e
 
--- ── the fields of a node ────────────────────────────────────────────────────────────────────
+-- ── a row of fields ────────────────────────────────────────────────────────────────────
 
-module _ (s : List ℕ) (k width q n : ℕ) (o : RowClear s k width) {i : ℕ} (e : some i ≡ find (pair q n) (rowAt s k width)) where
-  -- its own pair: no second field fits
-  pub found-own : {r m : ℕ} → pair r m ≡ fieldAt s (k * 128 + i) → r ≡ q → Found i ≡ lookupOf (find (pair q n) (rowAt s k width)) (fitting (pair q n) (rowAt s k width))
+module _ (s : List ℕ) (k width q n : ℕ) {said : Bool} (o : RowClear s k width said) {i : ℕ} (e : some i ≡ find (pair q n) (rowAt s k width)) where
+  -- its own pair, among fields that do not clash: no second field fits
+  pub found-own : {r m : ℕ} → pair r m ≡ fieldAt s (k + i) → said && eqb r q ≡ true → Found i ≡ lookupOf (find (pair q n) (rowAt s k width)) (fitting (pair q n) (rowAt s k width))
   found-own {r} {m} f h =
-      let t = hit (pair q n) (fieldAt s) (k * 128) width i e in
-      let p = sym f ∙ own-pair q n r m (ap (fits (pair q n)) f ∙ t .fit) h in
+      let t = hit (pair q n) (fieldAt s) k width i e in
+      let b = both said (eqb r q) h in
+      let p = sym f ∙ own-pair q n r m (ap (fits (pair q n)) f ∙ t .fit) (eqb-true r q (b .1)) in
       answer-found (pair q n) (rowAt s k width) e
-      (subst (λ x. fitting x (rowAt s k width) ≡ 1) p (all-at (fieldAt s) (k * 128) width i (own-fits (clear (rowAt s k width) (subst⁻¹ (λ b. T (not b)) (o .clear) tt))) (t .below)))
+      (subst (λ x. fitting x (rowAt s k width) ≡ 1) p (all-at (fieldAt s) k width i (own-fits (clear (rowAt s k width) (subst⁻¹ (λ b. T (not b)) (o .clear (b .0)) tt))) (t .below)))
 
-  pub found-one : none ≡ find (pair q n) (rest (fieldAt s) (k * 128) width (i + 1)) → Found i ≡ lookupOf (find (pair q n) (rowAt s k width)) (fitting (pair q n) (rowAt s k width))
-  found-one z = answer-found (pair q n) (rowAt s k width) e (hit (pair q n) (fieldAt s) (k * 128) width i e .more ∙ ap suc (fitting-no (pair q n) (rest (fieldAt s) (k * 128) width (i + 1)) z))
+  pub found-one : none ≡ find (pair q n) (rest (fieldAt s) k width (i + 1)) → Found i ≡ lookupOf (find (pair q n) (rowAt s k width)) (fitting (pair q n) (rowAt s k width))
+  found-one z = answer-found (pair q n) (rowAt s k width) e (hit (pair q n) (fieldAt s) k width i e .more ∙ ap suc (fitting-no (pair q n) (rest (fieldAt s) k width (i + 1)) z))
 
-  pub found-more : {j : ℕ} → some j ≡ find (pair q n) (rest (fieldAt s) (k * 128) width (i + 1)) → Ambiguous ≡ lookupOf (find (pair q n) (rowAt s k width)) (fitting (pair q n) (rowAt s k width))
-  found-more z = answer-ambiguous (pair q n) (rowAt s k width) e (omega (arith, hit (pair q n) (fieldAt s) (k * 128) width i e .more, fitting-some (pair q n) (rest (fieldAt s) (k * 128) width (i + 1)) z))
+  pub found-more : {j : ℕ} → some j ≡ find (pair q n) (rest (fieldAt s) k width (i + 1)) → Ambiguous ≡ lookupOf (find (pair q n) (rowAt s k width)) (fitting (pair q n) (rowAt s k width))
+  found-more z = answer-ambiguous (pair q n) (rowAt s k width) e (omega (arith, hit (pair q n) (fieldAt s) k width i e .more, fitting-some (pair q n) (rest (fieldAt s) k width (i + 1)) z))

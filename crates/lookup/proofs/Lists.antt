@@ -1,11 +1,11 @@
 -- Laws of lists that stand in an array, thing by thing. Assumes nothing.
 use mathlib.Core.Path.{_≡_, refl, sym, ap, ap₂, _∙_}
-use mathlib.Core.Bool.{Bool, true, false, _&&_, _||_}
+use mathlib.Core.Bool.{Bool, true, false, _||_}
 use mathlib.Core.List.{List, [], _∷_, _++_, map}
 use Prim.Native.Nat.{ℕ, zero, suc, _+_, _-_, _<_, _≤_}
 use native.Mathlib.Omega.{arith}
 use lib.ListN.{length}
-use Rattle.cpl.specs.Tests.{allB, anyB}
+use Rattle.cpl.specs.Tests.{anyB}
 use Rattle.tree.specs.Rows.{listAt, one}
 
 module _ {A : Type 0} where
@@ -78,12 +78,9 @@ module _ {A B : Type 0} (F : List A → B) (read : ℕ → A) (f n : ℕ) where
 
 -- ── tests ───────────────────────────────────────────────────────────────────────────────────
 
--- none before thing i passes; all before it pass
+-- none before thing i passes
 abbrev pub Missed : {A : Type 0} → (A → Bool) → (read : ℕ → A) (f n i : ℕ) → Type 0
 Missed p read f n i = Left (anyB p) read f n i
-
-abbrev pub Asked : {A : Type 0} → (A → Bool) → (read : ℕ → A) (f n i : ℕ) → Type 0
-Asked p read f n i = Left (allB p) read f n i
 
 module _ {A : Type 0} (p : A → Bool) (read : ℕ → A) (f n i : ℕ) where
   pub missed-more : Missed p read f n i → i < n → false ≡ p (read (f + i)) → Missed p read f n (i + 1)
@@ -97,15 +94,3 @@ module _ {A : Type 0} (p : A → Bool) (read : ℕ → A) (f n i : ℕ) where
   pub missed-all : Missed p read f n i → n ≤ i → false ≡ anyB p (listAt read one f n)
   unfolding anyB
   missed-all l h = left-all (anyB p) read f n i l h
-
-  pub asked-more : Asked p read f n i → i < n → true ≡ p (read (f + i)) → Asked p read f n (i + 1)
-  unfolding allB
-  asked-more l h e = left-more (allB p) read f n i l h (ap (_&& allB p (rest read f n (i + 1))) e)
-
-  pub asked-no : Asked p read f n i → i < n → false ≡ p (read (f + i)) → false ≡ allB p (listAt read one f n)
-  unfolding allB
-  asked-no l h e = ap (_&& allB p (rest read f n (i + 1))) e ∙ left-at (allB p) read f n i l h
-
-  pub asked-all : Asked p read f n i → n ≤ i → true ≡ allB p (listAt read one f n)
-  unfolding allB
-  asked-all l h = left-all (allB p) read f n i l h

@@ -2,7 +2,7 @@
 use mathlib.Core.Path.{_≡_, refl, sym, ap, _∙_}
 use mathlib.Core.Bool.{Bool, true, false, _&&_, _||_}
 use mathlib.Core.List.{List}
-use Prim.Native.Nat.{ℕ, zero, suc, _+_, _*_, _%_, _≤_, _<_}
+use Prim.Native.Nat.{ℕ, zero, suc, _+_, _≤_, _<_}
 use native.Mathlib.Omega.{arith}
 use native.Mathlib.Numerals.{add-one}
 use lib.Dec.{eqb}
@@ -10,7 +10,7 @@ use lib.ListN.{length, getD, set, length-set}
 use lib.Seq.{getD-set-same, getD-set-other}
 use borrow.Author.Tests.{eqb-true, eqb-false, ne-eqb}
 use Rattle.cpl.specs.Accept.{conflict}
-use Rattle.cpl.specs.Plan.{Pair, pair}
+use Rattle.cpl.specs.Plan.{pair}
 use Rattle.cpl.specs.Tests.{anyB}
 use Rattle.lookup.specs.Fields.{fieldAt, rowAt}
 use Rattle.lookup.specs.Marks.{slots, slotOf, nameAt, Marked, Marks}
@@ -38,12 +38,12 @@ module _ (s : List ℕ) (k : ℕ) where
   pub marked-none : {seen : List ℕ} → length seen ≡ slots → Marked seen s k 0
   marked-none l = record { long = l; marks = λ j h. absurd (omega arith) }
 
-  pub marked-more : {seen seen′ : List ℕ} (i : ℕ) {q n : ℕ} → Marked seen s k i → pair q n ≡ fieldAt s (k * 128 + i) → Marks n seen seen′ → Marked seen′ s k (i + 1)
+  pub marked-more : {seen seen′ : List ℕ} (i : ℕ) {q n : ℕ} → Marked seen s k i → pair q n ≡ fieldAt s (k + i) → Marks n seen seen′ → Marked seen′ s k (i + 1)
   marked-more {seen} {seen′} i {q} {n} m e v = record { long = v .long ∙ m .long; marks = λ j h. by j h (eqb j i) refl }
     where
-      by : (j : ℕ) → j < i + 1 → (b : Bool) → eqb j i ≡ b → getD seen′ (slotOf (nameAt s (k * 128 + j))) 0 ≡ 1
+      by : (j : ℕ) → j < i + 1 → (b : Bool) → eqb j i ≡ b → getD seen′ (slotOf (nameAt s (k + j))) 0 ≡ 1
       by j h true t =
-          let d : nameAt s (k * 128 + j) ≡ n = ap (λ x. nameAt s (k * 128 + x)) (eqb-true j i t) ∙ sym (name-of e) in
+          let d : nameAt s (k + j) ≡ n = ap (λ x. nameAt s (k + x)) (eqb-true j i t) ∙ sym (name-of e) in
           rw d (v .here)
       by j h false t =
           let d = eqb-false j i t in
@@ -52,9 +52,9 @@ module _ (s : List ℕ) (k : ℕ) where
   pub unmarked : (seen : List ℕ) (w q n : ℕ) → Marked seen s k w → getD seen (slotOf n) 0 ≡ 0 → false ≡ anyB (conflict (pair q n)) (rowAt s k w)
   unmarked seen w q n m z = missed-all _ _ _ _ w (go w (omega arith)) (omega arith)
     where
-      other : (i : ℕ) → i < w → n ≡ nameAt s (k * 128 + i) → ⊥
+      other : (i : ℕ) → i < w → n ≡ nameAt s (k + i) → ⊥
       other i h e = omega (arith, m .marks i h, ap (λ x. getD seen (slotOf x) 0) e)
 
-      go : (i : ℕ) → i ≤ w → Missed (conflict (pair q n)) (fieldAt s) (k * 128) w i
+      go : (i : ℕ) → i ≤ w → Missed (conflict (pair q n)) (fieldAt s) k w i
       go zero h = left-none _ _ _ _
-      go (suc i) h = rw (add-one i) at (missed-more (conflict (pair q n)) (fieldAt s) (k * 128) w i (go i (omega arith)) (omega arith) (apart q n _ _ (other i (omega arith))))
+      go (suc i) h = rw (add-one i) at (missed-more (conflict (pair q n)) (fieldAt s) k w i (go i (omega arith)) (omega arith) (apart q n _ _ (other i (omega arith))))

@@ -15,10 +15,10 @@ slotOf name = name % slots
 abbrev pub nameAt : List ℕ → ℕ → ℕ
 nameAt s j = getD s (j * 2 + 1) 0
 
--- the slots of the names of the first `width` fields of node k are marked
-pub record Marked (seen fields : List ℕ) (k width : ℕ) : Type 0 where
+-- the slots of the names of `width` fields from field `first` on are marked
+pub record Marked (seen fields : List ℕ) (first width : ℕ) : Type 0 where
   pub long : length seen ≡ slots
-  pub marks : (j : ℕ) → j < width → getD seen (slotOf (nameAt fields (k * 128 + j))) 0 ≡ 1
+  pub marks : (j : ℕ) → j < width → getD seen (slotOf (nameAt fields (first + j))) 0 ≡ 1
 
 -- a table became another: the slot of a name was marked, and no mark was lost
 pub record Marks (name : ℕ) (seen seen′ : List ℕ) : Type 0 where

@@ -1,17 +1,15 @@
 -- What is known of an accepted plan in the lent arrays.
 use mathlib.Core.Path.{_≡_}
 use mathlib.Core.List.{List}
-use Prim.Native.Nat.{ℕ, _*_, _≤_, _<_}
-use lib.ListN.{length}
+use Prim.Native.Nat.{ℕ, _<_}
 use Rattle.cpl.specs.Fields.{fieldsOf}
-use Rattle.cpl.specs.Limits.{maxNodes}
 use Rattle.cpl.specs.Plan.{Catalogue}
 use Rattle.cpl.specs.Writable.{FitCatalogue}
 use Rattle.cpl.proofs.Accepted.{Accepted}
 use Rattle.tree.specs.Tree.{lent, planAt, WfTree}
-use Rattle.lookup.specs.Fields.{fieldsAt}
+use Rattle.lookup.specs.Fields.{RowIn, fieldsAt, firstAt, widthAt}
 
--- the plan can be walked, the fields of each node stand in theirs, and every node is accepted
+-- the plan can be walked, the fields of each node stand in its row, which lies in the array, and every node is accepted
 pub record Standing (cells rows nodes fields widths : List ℕ) : Type 0 where
   pub C : Catalogue
   pub count : ℕ
@@ -19,5 +17,4 @@ pub record Standing (cells rows nodes fields widths : List ℕ) : Type 0 where
   pub tree : WfTree C (lent cells rows nodes) count
   pub stand : (j : ℕ) → j < count → fieldsAt fields widths j ≡ fieldsOf C (planAt (lent cells rows nodes) j)
   pub accepted : (j : ℕ) → j < count → Accepted C (planAt (lent cells rows nodes) j)
-  pub fields-long : maxNodes * 256 ≤ length fields
-  pub widths-long : maxNodes ≤ length widths
+  pub inside : (j : ℕ) → j < count → RowIn fields (firstAt widths j) (widthAt widths j)

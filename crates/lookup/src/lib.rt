@@ -1,6 +1,7 @@
 //! The fields of nodes in lent arrays: how many there are, lookup, references resolved, clashes, and rows that are filled.
 //!
-//! Field j is two numbers of `fields`, its qualifier and its name, at 2 * j. Node k's fields are those from 128 * k on.
+//! Field j is two numbers of `fields`, its qualifier and its name, at 2 * j. A row of fields is named by the number of its first. Node k's row
+//! stands in `widths`: at k how many fields it has, at 256 + k the number of the first.
 ghost use mathlib.Core.Bool.{Bool, false};
 ghost use mathlib.Core.List.{_++_, map};
 ghost use mathlib.Core.Path.{_≡_};
@@ -14,7 +15,7 @@ ghost use Rattle.cpl.specs.Plan.{col, pair};
 ghost use Rattle.cpl.specs.Tests.{anyB};
 ghost use Rattle.lookup.specs.Answers.{lookupOf, placeOf, resolving, worse};
 ghost use Rattle.lookup.specs.Marks.{Marked, Marks, slotOf, slots};
-ghost use Rattle.lookup.specs.Fields.{fieldAt, Filled, Kept, leftRow, pairOf, rightRow, rowAt, RowClear, RowIn, SidesClear, SidesIn, widthAt};
+ghost use Rattle.lookup.specs.Fields.{fieldAt, Filled, firstAt, Kept, leftRow, pairOf, rightRow, rowAt, RowClear, RowIn, SidesClear, SidesIn, widthAt};
 ghost use Rattle.tree.specs.Rows.{listAt, one};
 use arena::View;
 
@@ -24,12 +25,14 @@ pub struct Field {
     pub name: u16,
 }
 
-/// Two sides: the first `lwidth` fields of node `left`, the first `rwidth` of node `right`. What has one input or none has width 0 there.
+/// Two sides: `lwidth` fields from field `left` on, `rwidth` from field `right` on. What has one input or none has width 0 there. And are the
+/// fields of each side by themselves known not to clash?
 pub struct Sides {
     pub left: usize,
     pub lwidth: usize,
     pub right: usize,
     pub rwidth: usize,
+    pub clear: bool,
 }
 
 /// The first field that fits a reference: its place, or there is none.
@@ -85,6 +88,16 @@ pub fn width_at(widths: &[u64], k: usize) -> usize
     0
 }
 
+/// The number of node `k`'s first field; 0 past the last node.
+pub fn first_at(widths: &[u64], k: usize) -> usize
+    ensures { λ r. ⌜ r ≡ firstAt (now (widths .entry)) k ⌝ }
+{
+    if k < widths.len() {
+        return width_at(widths, 256 + k);
+    }
+    0
+}
+
 /// The place of the first that fits a reference among `count` fields from field `first` on, which lie in the array. Without a qualifier a
 /// reference fits each field of its name; with one it fits that pair alone.
 pub fn first_fit(fields: &[u16], first: usize, count: usize, qualifier: u16, name: u16) -> Fit
@@ -102,18 +115,24 @@ pub fn first_fit(fields: &[u16], first: usize, count: usize, qualifier: u16, nam
     Fit::Nothing
 }
 
-/// What a reference finds among the first `width` fields of node `k`, which lie in the array and do not clash. So where its own pair is found,
-/// no second field fits.
-pub fn look_up(fields: &[u16], k: usize, width: usize, qualifier: u16, name: u16) -> Lookup
-    requires { ⌜ RowClear (now fields) k width ⌝ }
-    ensures { λ r. ⌜ r ≡ lookupOf (find (pair qualifier name) (rowAt (now (fields .entry)) k width)) (fitting (pair qualifier name) (rowAt (now (fields .entry)) k width)) ⌝ }
+/// What a reference finds among `width` fields from field `first` on, which lie in the array. Where `clear` is said they do not clash, so where
+/// the reference's own pair is found, no second field fits.
+pub fn look_up(
+    fields: &[u16],
+    first: usize,
+    width: usize,
+    clear: bool,
+    qualifier: u16,
+    name: u16,
+) -> Lookup
+    requires { ⌜ RowClear (now fields) first width clear ⌝ }
+    ensures { λ r. ⌜ r ≡ lookupOf (find (pair qualifier name) (rowAt (now (fields .entry)) first width)) (fitting (pair qualifier name) (rowAt (now (fields .entry)) first width)) ⌝ }
 {
-    let first = k * 128;
     let Fit::At(i) = first_fit(fields, first, width, qualifier, name) else {
         return Lookup::Absent;
     };
     let f = field_at(fields, first + i);
-    if f.qualifier == qualifier {
+    if clear & (f.qualifier == qualifier) {
         return Lookup::Found(i);
     }
     let next = i + 1;
@@ -123,13 +142,27 @@ pub fn look_up(fields: &[u16], k: usize, width: usize, qualifier: u16, name: u16
     Lookup::Found(i)
 }
 
-/// What a reference finds in two sides together. The sides lie in the array, and the fields of each by themselves do not clash.
+/// What a reference finds in two sides together, which lie in the array.
 fn resolve_column(fields: &[u16], sides: Sides, qualifier: u16, name: u16) -> Resolved
     requires { ⌜ SidesClear (now fields) sides ⌝ }
     ensures { λ r. ⌜ r ≡ resolving (λ test. test (leftRow (now (fields .entry)) sides ++ rightRow (now (fields .entry)) sides) (col (pair qualifier name))) ⌝ }
 {
-    let left = look_up(fields, sides.left, sides.lwidth, qualifier, name);
-    let right = look_up(fields, sides.right, sides.rwidth, qualifier, name);
+    let left = look_up(
+        fields,
+        sides.left,
+        sides.lwidth,
+        sides.clear,
+        qualifier,
+        name,
+    );
+    let right = look_up(
+        fields,
+        sides.right,
+        sides.rwidth,
+        sides.clear,
+        qualifier,
+        name,
+    );
     match left {
         Lookup::Found(_) => {
             match right {
@@ -166,8 +199,7 @@ pub fn both_resolved(a: Resolved, b: Resolved) -> Resolved
     }
 }
 
-/// What the references of node `i`'s expression find in two sides together. The nodes up to `i` are well formed. The sides lie in the array,
-/// and the fields of each by themselves do not clash.
+/// What the references of node `i`'s expression find in two sides together, which lie in the array. The nodes up to `i` are well formed.
 pub fn resolve_both(cells: &[u64], i: usize, fields: &[u16], sides: Sides) -> Resolved
     requires { ⌜ Wf (now cells) (i + 1) ⌝ }
     requires { ⌜ SidesClear (now fields) sides ⌝ }
@@ -187,18 +219,26 @@ pub fn resolve_both(cells: &[u64], i: usize, fields: &[u16], sides: Sides) -> Re
     }
 }
 
-/// What the references of node `i`'s expression find among the first `width` fields of node `k`, which lie in the array and do not clash. The
-/// nodes up to `i` are well formed.
-pub fn resolve_expr(cells: &[u64], i: usize, fields: &[u16], k: usize, width: usize) -> Resolved
+/// What the references of node `i`'s expression find among `width` fields from field `first` on, which lie in the array, and do not clash where
+/// `clear` is said. The nodes up to `i` are well formed.
+pub fn resolve_expr(
+    cells: &[u64],
+    i: usize,
+    fields: &[u16],
+    first: usize,
+    width: usize,
+    clear: bool,
+) -> Resolved
     requires { ⌜ Wf (now cells) (i + 1) ⌝ }
-    requires { ⌜ RowClear (now fields) k width ⌝ }
-    ensures { λ r. ⌜ r ≡ resolving (λ test. test (rowAt (now (fields .entry)) k width) (exprAt (now (cells .entry)) i)) ⌝ }
+    requires { ⌜ RowClear (now fields) first width clear ⌝ }
+    ensures { λ r. ⌜ r ≡ resolving (λ test. test (rowAt (now (fields .entry)) first width) (exprAt (now (cells .entry)) i)) ⌝ }
 {
     let one = Sides {
-        left: k,
+        left: first,
         lwidth: width,
-        right: k,
+        right: first,
         rwidth: 0,
+        clear,
     };
     resolve_both(cells, i, fields, one)
 }
@@ -210,15 +250,15 @@ fn in_conflict(f: Field, g: Field) -> bool
     (f.name == g.name) & ((f.qualifier == g.qualifier) | (f.qualifier == 0) | (g.qualifier == 0))
 }
 
-/// Is a field in conflict with one of the first `width` of node `k`, which lie in the array?
-fn conflicts(fields: &[u16], k: usize, width: usize, f: Field) -> bool
-    requires { ⌜ RowIn (now fields) k width ⌝ }
-    ensures { λ r. ⌜ r ≡ anyB (conflict (pairOf f)) (rowAt (now (fields .entry)) k width) ⌝ }
+/// Is a field in conflict with one of `width` fields from field `first` on, which lie in the array?
+fn conflicts(fields: &[u16], first: usize, width: usize, f: Field) -> bool
+    requires { ⌜ RowIn (now fields) first width ⌝ }
+    ensures { λ r. ⌜ r ≡ anyB (conflict (pairOf f)) (rowAt (now (fields .entry)) first width) ⌝ }
 {
     let mut hit = false;
     let mut i = 0;
     while i < width {
-        let g = field_at(fields, k * 128 + i);
+        let g = field_at(fields, first + i);
         hit = hit | in_conflict(f, g);
         i += 1;
     }
@@ -241,46 +281,46 @@ fn mark(seen: &mut [u8; 256], f: Field)
     seen[s] = 1;
 }
 
-/// The slots of the names of the first `width` fields of node `k`, which lie in the array, are marked.
-fn mark_row(seen: &mut [u8; 256], fields: &[u16], k: usize, width: usize)
-    requires { ⌜ (length (now seen) ≡ slots) × RowIn (now fields) k width ⌝ }
-    ensures { λ r. ⌜ Marked (now (seen .exit)) (now (fields .entry)) k width ⌝ }
+/// The slots of the names of `width` fields from field `first` on, which lie in the array, are marked.
+fn mark_row(seen: &mut [u8; 256], fields: &[u16], first: usize, width: usize)
+    requires { ⌜ (length (now seen) ≡ slots) × RowIn (now fields) first width ⌝ }
+    ensures { λ r. ⌜ Marked (now (seen .exit)) (now (fields .entry)) first width ⌝ }
 {
     let mut i = 0;
     while i < width {
-        let f = field_at(fields, k * 128 + i);
+        let f = field_at(fields, first + i);
         mark(seen, f);
         i += 1;
     }
 }
 
 /// `conflicts`, where the names of the fields are marked: a field whose name's slot is not marked is in conflict with none.
-fn conflicts_marked(seen: &[u8; 256], fields: &[u16], k: usize, width: usize, f: Field) -> bool
-    requires { ⌜ RowIn (now fields) k width × Marked (now seen) (now fields) k width ⌝ }
-    ensures { λ r. ⌜ r ≡ anyB (conflict (pairOf f)) (rowAt (now (fields .entry)) k width) ⌝ }
+fn conflicts_marked(seen: &[u8; 256], fields: &[u16], first: usize, width: usize, f: Field) -> bool
+    requires { ⌜ RowIn (now fields) first width × Marked (now seen) (now fields) first width ⌝ }
+    ensures { λ r. ⌜ r ≡ anyB (conflict (pairOf f)) (rowAt (now (fields .entry)) first width) ⌝ }
 {
     let s = slot(f);
     if seen[s] == 0 {
         return false;
     }
-    conflicts(fields, k, width, f)
+    conflicts(fields, first, width, f)
 }
 
-/// Do the first `width` fields of node `k`, which lie in the array, clash? The first `start` of them do not.
-pub fn clash_from(fields: &[u16], k: usize, start: usize, width: usize) -> bool
-    requires { ⌜ RowIn (now fields) k width ⌝ }
-    requires { ⌜ (start ≤ width) × (clash (rowAt (now fields) k start) ≡ false) ⌝ }
-    ensures { λ r. ⌜ r ≡ clash (rowAt (now (fields .entry)) k width) ⌝ }
+/// Do `width` fields from field `first` on, which lie in the array, clash? The first `start` of them do not.
+pub fn clash_from(fields: &[u16], first: usize, start: usize, width: usize) -> bool
+    requires { ⌜ RowIn (now fields) first width ⌝ }
+    requires { ⌜ (start ≤ width) × (clash (rowAt (now fields) first start) ≡ false) ⌝ }
+    ensures { λ r. ⌜ r ≡ clash (rowAt (now (fields .entry)) first width) ⌝ }
 {
     if start == width {
         return false;
     }
     let mut seen = [0u8; 256];
-    mark_row(&mut seen, fields, k, start);
+    mark_row(&mut seen, fields, first, start);
     let mut i = start;
     while i < width {
-        let f = field_at(fields, k * 128 + i);
-        if conflicts_marked(&seen, fields, k, i, f) {
+        let f = field_at(fields, first + i);
+        if conflicts_marked(&seen, fields, first, i, f) {
             return true;
         }
         mark(&mut seen, f);
@@ -303,7 +343,7 @@ pub fn sides_clash(fields: &[u16], sides: Sides) -> bool
     mark_row(&mut seen, fields, left, lwidth);
     let mut i = 0;
     while i < width {
-        let f = field_at(fields, right * 128 + i);
+        let f = field_at(fields, right + i);
         if conflicts_marked(&seen, fields, left, lwidth, f) {
             return true;
         }
@@ -312,33 +352,32 @@ pub fn sides_clash(fields: &[u16], sides: Sides) -> bool
     false
 }
 
-/// The first `width` fields of node `j` are put behind the first `at` of node `k`, an earlier node. Node `j`'s lie in the array, and node
-/// `k` has at most 128.
-pub fn copy_fields(fields: &mut [u16], k: usize, at: usize, j: usize, width: usize)
-    requires { ⌜ (k < j) × (at + width ≤ 128) × RowIn (now fields) j width ⌝ }
-    ensures { λ r. ⌜ Filled k (at + width) (rowAt (now (fields .entry)) k at ++ rowAt (now (fields .entry)) j width) (now (fields .entry)) (now (fields .exit)) ⌝ }
+/// `width` fields from field `from` on are put from field `to` on, behind them. All lie in the array.
+pub fn copy_fields(fields: &mut [u16], to: usize, from: usize, width: usize)
+    requires { ⌜ (from + width ≤ to) × RowIn (now fields) to width ⌝ }
+    ensures { λ r. ⌜ Filled to width (rowAt (now (fields .entry)) from width) (now (fields .entry)) (now (fields .exit)) ⌝ }
 {
     let mut i = 0;
     while i < width {
-        let f = field_at(fields, j * 128 + i);
-        put_field(fields, k * 128 + (at + i), f);
+        let f = field_at(fields, from + i);
+        put_field(fields, to + i, f);
         i += 1;
     }
 }
 
-/// Node `k` gets the first `width` fields of node `j`, a later node, under a qualifier. They lie in the array, and are at most 128.
-pub fn alias_fields(fields: &mut [u16], k: usize, j: usize, width: usize, qualifier: u16)
-    requires { ⌜ (k < j) × (width ≤ 128) × RowIn (now fields) j width ⌝ }
-    ensures { λ r. ⌜ Filled k width (map (requalify qualifier) (rowAt (now (fields .entry)) j width)) (now (fields .entry)) (now (fields .exit)) ⌝ }
+/// `width` fields from field `from` on are put from field `to` on, behind them, under a qualifier. All lie in the array.
+pub fn alias_fields(fields: &mut [u16], to: usize, from: usize, width: usize, qualifier: u16)
+    requires { ⌜ (from + width ≤ to) × RowIn (now fields) to width ⌝ }
+    ensures { λ r. ⌜ Filled to width (map (requalify qualifier) (rowAt (now (fields .entry)) from width)) (now (fields .entry)) (now (fields .exit)) ⌝ }
 {
     let mut i = 0;
     while i < width {
-        let f = field_at(fields, j * 128 + i);
+        let f = field_at(fields, from + i);
         let g = Field {
             qualifier,
             name: f.name,
         };
-        put_field(fields, k * 128 + i, g);
+        put_field(fields, to + i, g);
         i += 1;
     }
 }

@@ -5,19 +5,18 @@ use mathlib.Core.List.{List, [], _∷_, _++_}
 use mathlib.Core.Bool.{Bool, true, false, _||_}
 use Prim.Native.Nat.{ℕ}
 use lib.Dec.{T, eqb}
-use lib.ListN.{getD}
 use Rattle.cpl.specs.Tests.{anyB}
-use Rattle.cpl.specs.Plan.{Leaf, scan, empty, Plan, leaf, unary, binary, Catalogue}
+use Rattle.cpl.specs.Plan.{Leaf, scan, empty, Plan, leaf, unary, binary, Catalogue, namesOf}
 use Rattle.cpl.specs.Fields.{columnsOf}
 use Rattle.cpl.proofs.Bools.{halves, both-T}
 use Rattle.rules.specs.Mask.{Mask, LeM}
 use Rattle.rules.specs.Merge.{Merge}
 use Rattle.rules.specs.Rewrite.{rewrite}
 use Rattle.rules.specs.Scans.{leafScans, scans, Narrower, narrower}
-use Rattle.rules.proofs.Parts.{any-into, Part-any}
+use Rattle.rules.proofs.Parts.{any-into, Into-++, Part-refl, Part-any}
 use Rattle.rules.proofs.Larger.{larger-plans}
 use Rattle.meaning.specs.Value.{Log}
-use Rattle.meaning.specs.Reads.{leafReads, reads, Agree}
+use Rattle.meaning.specs.Reads.{filterColumns, leafReads, reads, Agree}
 
 any-++ : {A : Type 0} (p : A → Bool) (xs ys : List A) → anyB p (xs ++ ys) ≡ (anyB p xs || anyB p ys)
 unfolding anyB
@@ -32,7 +31,7 @@ module _ (C : Catalogue) (t i : ℕ) where
   -- what a plan reads, its scans read
   scans-read : (p : Plan) → anyB (λ h. leafReads C h t i) (scans p) ≡ reads C p t i
   unfolding anyB scans leafScans reads leafReads
-  scans-read (leaf (scan u q is)) = or-false (leafReads C (scan u q is) t i)
+  scans-read (leaf (scan u q is es)) = or-false (leafReads C (scan u q is es) t i)
     where
       or-false : (b : Bool) → (b || false) ≡ b
       or-false true = refl
@@ -43,9 +42,9 @@ module _ (C : Catalogue) (t i : ℕ) where
 
   narrower-reads : {h k : Leaf} → Narrower C h k → T (leafReads C h t i) → T (leafReads C k t i)
   unfolding leafReads
-  narrower-reads (narrower {t = u} {is = is} {js = js} s) r =
-      let b = halves (eqb t u) (anyB (eqb i) (columnsOf (getD C u []) is)) r in
-      both-T (eqb t u) (anyB (eqb i) (columnsOf (getD C u []) js)) (b .0) (Part-any (eqb i) s (b .1))
+  narrower-reads (narrower {t = u} {q = q} {is = is} {js = js} {es = es} s) r =
+      let b = halves (eqb t u) (anyB (eqb i) (columnsOf (namesOf C u) is ++ filterColumns C u q es)) r in
+      both-T (eqb t u) (anyB (eqb i) (columnsOf (namesOf C u) js ++ filterColumns C u q es)) (b .0) (Part-any (eqb i) (Into-++ s (Part-refl _)) (b .1))
 
   pub larger-reads : (M : Merge) (p : Plan) {R R′ : Mask} → LeM R R′ → T (reads C (rewrite M C p R .plan) t i) → T (reads C (rewrite M C p R′ .plan) t i)
   larger-reads M p {R} {R′} l r =

@@ -1,36 +1,85 @@
 -- Two logs that agree in the columns that a plan's scans name give the plan the same rows.
 use mathlib.Core.Path.{_≡_, refl, ap, ap₂}
-use mathlib.Core.List.{List, [], _∷_, map, head-eq-of-cons-eq, tail-eq-of-cons-eq}
+use mathlib.Core.List.{List, [], _∷_, _++_, map, head-eq-of-cons-eq, tail-eq-of-cons-eq}
+use mathlib.Core.Bool.{Bool, true, false, cond, _&&_}
+use mathlib.Core.Option.{Option, none, some}
 use Prim.Native.Nat.{ℕ}
 use native.Mathlib.Omega.{arith}
 use lib.Dec.{eqb, eqb-refl}
 use lib.ListN.{length, getD}
-use Rattle.cpl.specs.Tests.{anyB}
-use Rattle.cpl.specs.Lists.{All}
-use Rattle.cpl.specs.Plan.{Leaf, scan, empty, Plan, leaf, unary, binary, Catalogue}
-use Rattle.cpl.specs.Fields.{columnsOf, fieldsOf}
+use Rattle.cpl.specs.Tests.{anyB, allB, concatMap}
+use Rattle.cpl.specs.Lists.{All, _a∷_}
+use Rattle.cpl.specs.Plan.{Pair, Expr, col, lit, miss, un, bin, Leaf, scan, empty, Plan, leaf, unary, binary, Catalogue, namesOf}
+use Rattle.cpl.specs.Exprs.{find, found, places}
+use Rattle.cpl.specs.Fields.{columnsOf, tableFields, fieldsOf}
 use Rattle.cpl.proofs.Bools.{both-T, left-T, right-T}
-use Rattle.cpl.proofs.Lists.{All-map, map-congA, each-number}
-use Rattle.meaning.specs.Value.{missing, Row, Log}
+use Rattle.cpl.proofs.Lists.{each-number, All-map, All-left, All-right, map-congA}
+use Rattle.meaning.specs.Value.{missing, Row, Log, op1, op2, yes?}
+use Rattle.meaning.specs.Eval.{valueAt, lookup, eval}
+use Rattle.meaning.specs.Lists.{filterB}
 use Rattle.meaning.specs.Operators.{unaryRows}
 use Rattle.meaning.specs.Joins.{binaryRows}
-use Rattle.meaning.specs.Meaning.{tableRows, rowAt, leafRows, meaning}
-use Rattle.meaning.specs.Reads.{leafReads, reads, rowCount, column, Agree}
+use Rattle.meaning.specs.Meaning.{tableRows, rowAt, passes, scanRows, leafRows, meaning}
+use Rattle.meaning.specs.Reads.{filterColumns, leafReads, reads, rowCount, column, Agree}
 
--- equal columns, equal rows
-transpose : (is : List ℕ) (rs ss : List Row) → length rs ≡ length ss → All (λ i. map (λ r. getD r i missing) rs ≡ map (λ r. getD r i missing) ss) is → map (rowAt is) rs ≡ map (rowAt is) ss
-unfolding rowAt
-transpose is [] [] e h = refl
-transpose is [] (s ∷ ss) e h = absurd (omega arith)
-transpose is (r ∷ rs) [] e h = absurd (omega arith)
-transpose is (r ∷ rs) (s ∷ ss) e h = ap₂ _∷_ (map-congA (All-map (λ i k. head-eq-of-cons-eq k) h)) (transpose is rs ss (omega arith) (All-map (λ i k. tail-eq-of-cons-eq k) h))
+-- ── two rows that agree in the columns that expressions use ─────────────────────────────────
+
+module _ (r s : Row) where
+  -- the two rows have the same value at each of these places
+  abbrev Same : List ℕ → Type 0
+  Same is = All (λ i. getD r i missing ≡ getD s i missing) is
+
+  found-same : (o : Option ℕ) → Same (found o) → valueAt r o ≡ valueAt s o
+  unfolding valueAt found
+  found-same none h = refl
+  found-same (some i) (h a∷ hs) = h
+
+  module _ (fs : List Pair) where
+    eval-same : (e : Expr) → Same (places fs e) → eval fs r e ≡ eval fs s e
+    unfolding eval lookup places
+    eval-same (col c) h = found-same (find c fs) h
+    eval-same (lit z) h = refl
+    eval-same miss h = refl
+    eval-same (un o a) h = ap (op1 o) (eval-same a h)
+    eval-same (bin o a b) h = ap₂ (op2 o) (eval-same a (All-left (places fs a) (places fs b) h)) (eval-same b (All-right (places fs a) (places fs b) h))
+
+    passes-same : (es : List Expr) → Same (concatMap (places fs) es) → passes fs es r ≡ passes fs es s
+    unfolding passes allB concatMap
+    passes-same [] h = refl
+    passes-same (e ∷ es) h =
+        let later = concatMap (places fs) es in
+        ap₂ _&&_ (ap yes? (eval-same e (All-left (places fs e) later h))) (passes-same es (All-right (places fs e) later h))
+
+-- ── the rows of a table ─────────────────────────────────────────────────────────────────────
+
+-- the values of a column, row by row
+abbrev SameColumn : (rs ss : List Row) → ℕ → Type 0
+SameColumn rs ss i = map (λ r. getD r i missing) rs ≡ map (λ r. getD r i missing) ss
+
+-- equal columns, equal rows: those that pass a test, at some columns, where the test reads the columns js
+transpose : (is js : List ℕ) (p : Row → Bool) → ((r s : Row) → Same r s js → p r ≡ p s) → (rs ss : List Row) → length rs ≡ length ss → All (SameColumn rs ss) is → All (SameColumn rs ss) js
+    → map (rowAt is) (filterB p rs) ≡ map (rowAt is) (filterB p ss)
+unfolding rowAt filterB
+transpose is js p f [] [] e h k = refl
+transpose is js p f [] (s ∷ ss) e h k = absurd (omega arith)
+transpose is js p f (r ∷ rs) [] e h k = absurd (omega arith)
+transpose is js p f (r ∷ rs) (s ∷ ss) e h k =
+    let later = transpose is js p f rs ss (omega arith) (All-map (λ i x. tail-eq-of-cons-eq x) h) (All-map (λ i x. tail-eq-of-cons-eq x) k) in
+    let same = f r s (All-map (λ i x. head-eq-of-cons-eq x) k) in
+    rw same (go (p s) (filterB p rs) (filterB p ss) (map-congA (All-map (λ i x. head-eq-of-cons-eq x) h)) later)
+  where
+    go : (b : Bool) (rs ss : List Row) → rowAt is r ≡ rowAt is s → map (rowAt is) rs ≡ map (rowAt is) ss → map (rowAt is) (cond b (r ∷ rs) rs) ≡ map (rowAt is) (cond b (s ∷ ss) ss)
+    go true rs ss x y = ap₂ _∷_ x y
+    go false rs ss x y = y
 
 module _ (C : Catalogue) (D E : Log) where
   leaf-reads : (h : Leaf) → Agree C (leaf h) D E → leafRows C D h ≡ leafRows C E h
-  unfolding leafRows reads leafReads rowCount column
-  leaf-reads (scan u q is) a =
-      let cs = columnsOf (getD C u []) is in
-      transpose cs (tableRows D u) (tableRows E u) (a .counts u) (each-number _ cs (λ i t. a .columns u i (both-T (eqb u u) (anyB (eqb i) cs) (eqb-refl u) t)))
+  unfolding leafRows scanRows reads leafReads rowCount column filterColumns
+  leaf-reads (scan u q is es) a =
+      let cs = columnsOf (namesOf C u) is in
+      let js = filterColumns C u q es in
+      let all = each-number (SameColumn (tableRows D u) (tableRows E u)) (cs ++ js) (λ i t. a .columns u i (both-T (eqb u u) (anyB (eqb i) (cs ++ js)) (eqb-refl u) t)) in
+      transpose cs js (passes (tableFields C u q) es) (λ r s h. passes-same r s (tableFields C u q) es h) (tableRows D u) (tableRows E u) (a .counts u) (All-left cs js all) (All-right cs js all)
   leaf-reads (empty b cs) a = refl
 
   pub reads-only : (p : Plan) → Agree C p D E → meaning C D p ≡ meaning C E p

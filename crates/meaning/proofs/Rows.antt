@@ -5,7 +5,7 @@ use mathlib.Core.Bool.{Bool, true, false}
 use lib.ListN.{length, take, drop, getD}
 use Rattle.cpl.specs.Tests.{concatMap}
 use Rattle.cpl.specs.Lists.{a[], Fit}
-use Rattle.cpl.specs.Plan.{Pair, Item, Agg, Win, Leaf, scan, empty, Unary, projection, filter, sort, limit, aggregate, window, subqueryAlias, distinct, Plan, leaf, unary, Catalogue, itemPair, itemExpr, keyExpr, aggPair, winPair}
+use Rattle.cpl.specs.Plan.{Pair, Item, Agg, Win, Leaf, scan, empty, Unary, projection, filter, sort, limit, aggregate, window, subqueryAlias, distinct, Plan, leaf, unary, Catalogue, namesOf, itemPair, itemExpr, keyExpr, aggPair, winPair}
 use Rattle.cpl.specs.Exprs.{aggExprs, winExprs, unaryExprs}
 use Rattle.cpl.specs.Fields.{columnsOf, scanField, leafFields, requalify, unaryFields, fieldsOf}
 use Rattle.cpl.proofs.Lists.{All-mapped, map-cong, map-map, Fit-map, fit-self, Fit-trans, take-fit}
@@ -20,7 +20,7 @@ use Rattle.meaning.specs.Value.{missing, Row, Log, yes?, sameRow}
 use Rattle.meaning.specs.Lists.{firsts}
 use Rattle.meaning.specs.Operators.{projectionRows, members, aggValue, groupKeys, groupRow, aggregateRows, windowRows, unaryRows}
 use Rattle.meaning.specs.Joins.{missings}
-use Rattle.meaning.specs.Meaning.{tableRows, rowAt, emptyRows, leafRows, meaning}
+use Rattle.meaning.specs.Meaning.{scanRows, rowAt, emptyRows, leafRows, meaning}
 use Rattle.meaning.proofs.Commute.{filter-map, sort-map, page-map, eval-select, before-select}
 use Rattle.meaning.proofs.Wide.{WideRows, All-firsts, leaf-wide}
 use Rattle.meaning.proofs.Groups.{aggregate-select, window-select, window-none}
@@ -152,12 +152,12 @@ module _ (C : Catalogue) (D : Log) (fs : List Pair) (rs : List Row) where
 
 pub leaf-narrows : (C : Catalogue) (D : Log) (h : Leaf) {R : Mask} → Fit R (leafFields C h) → Narrowed C D (leafFields C h) (leafRows C D h) R (leafKept h R) (leaf (leafRule C h R))
 unfolding fieldsOf meaning leafFields leafRule leafKept leafRows rowAt columnsOf
-leaf-narrows C D (scan t q is) {R} f =
-    let names = getD C t [] in
+leaf-narrows C D (scan t q is es) {R} f =
+    let names = namesOf C t in
     let cs = columnsOf names is in
     record {
       keeps = LeM-refl R;
       fields = sym (select-map (scanField names q) R cs);
-      rows = sym (map-map (select R) (rowAt cs) (tableRows D t) ∙ map-cong (λ r. select-map (λ i. getD r i missing) R cs) (tableRows D t));
+      rows = sym (map-map (select R) (rowAt cs) (scanRows C D t q es) ∙ map-cong (λ r. select-map (λ i. getD r i missing) R cs) (scanRows C D t q es));
     }
 leaf-narrows C D (empty b cs) f = record { keeps = fit-ones f; fields = sym (select-ones (fit-self cs)); rows = sym (ones-rows (leaf-wide C D (empty b cs))) }

@@ -5,7 +5,8 @@ use mathlib.Core.Bool.{true, false}
 use mathlib.Core.Option.{none, some}
 use Prim.Native.Nat.{ℕ}
 use lib.IntN.{pos, negsuc}
-use Rattle.cpl.specs.Plan.{Pair, pair, o-not, o-missing, o-add, o-sub, o-mul, o-eq, o-lt, o-and, o-or, Expr, col, lit, miss, un, bin, bare, named, key, f-count, f-sum, f-min, f-max, rows, over, agg, win, JoinType, j-inner, j-left, j-right, j-full, j-lsemi, j-lanti, j-rsemi, j-ranti, on, scan, empty, projection, filter, sort, limit, aggregate, window, subqueryAlias, distinct, union, join, Plan, leaf, unary, binary, Catalogue}
+use Rattle.cpl.specs.Limits.{version2}
+use Rattle.cpl.specs.Plan.{Pair, pair, o-not, o-missing, o-add, o-sub, o-mul, o-eq, o-lt, o-and, o-or, Expr, col, lit, miss, un, bin, bare, named, key, f-count, f-sum, f-min, f-max, rows, over, agg, win, JoinType, j-inner, j-left, j-right, j-full, j-lsemi, j-lanti, j-rsemi, j-ranti, on, scan, empty, projection, filter, sort, limit, aggregate, window, subqueryAlias, distinct, union, join, Plan, leaf, unary, binary, Catalogue, keyless}
 use Rattle.rules.specs.Mask.{Mask}
 use Rattle.rules.specs.Merge.{mergeStep}
 use Rattle.rules.specs.Rewrite.{Walked, rewrite}
@@ -20,7 +21,11 @@ n k = num (pos k)
 
 -- table 0 has the names 1, 2, 3, table 1 the names 4, 5
 abbrev C : Catalogue
-C = (1 ∷ 2 ∷ 3 ∷ []) ∷ (4 ∷ 5 ∷ []) ∷ []
+C = keyless ((1 ∷ 2 ∷ 3 ∷ []) ∷ (4 ∷ 5 ∷ []) ∷ [])
+
+-- the same in version 2
+abbrev C₂ : Catalogue
+C₂ = record { version = version2; tables = C .tables; keys = [] }
 
 abbrev D : Log
 D =
@@ -45,15 +50,19 @@ abbrev z : Pair
 z = pair 0 9
 
 abbrev S : Plan
-S = leaf (scan 0 1 none)
+S = leaf (scan 0 1 none [])
 
 -- the first table's a and b
 abbrev AB : Plan
-AB = leaf (scan 0 1 (some (0 ∷ 1 ∷ [])))
+AB = leaf (scan 0 1 (some (0 ∷ 1 ∷ [])) [])
+
+-- b where a = 1, for which a is read too
+abbrev B : Plan
+B = leaf (scan 0 1 (some (1 ∷ [])) (bin o-eq (col a) (lit (pos 1)) ∷ []))
 
 -- joined by a = the second table's first column
 abbrev J : JoinType → Plan
-J t = binary (join t (on (col a) (col (pair 2 4)) ∷ []) none) AB (leaf (scan 1 2 none))
+J t = binary (join t (on (col a) (col (pair 2 4)) ∷ []) none) AB (leaf (scan 1 2 none []))
 
 -- ── each operator, function, node and join type ─────────────────────────────────────────────
 
@@ -80,7 +89,10 @@ record Rows : Type 0 where
   -- missing = missing, not missing, is-missing missing
   with-missing : evalAll [] [] (bin o-eq miss miss ∷ un o-not miss ∷ un o-missing miss ∷ []) ≡ missing ∷ missing ∷ n 1 ∷ []
   -- a scan's columns, in the order in which it names them
-  scanned : meaning C D (leaf (scan 1 2 (some (1 ∷ 0 ∷ [])))) ≡ (n 70 ∷ n 1 ∷ []) ∷ (n 80 ∷ n 9 ∷ []) ∷ (n 90 ∷ n 1 ∷ []) ∷ []
+  scanned : meaning C D (leaf (scan 1 2 (some (1 ∷ 0 ∷ [])) [])) ≡ (n 70 ∷ n 1 ∷ []) ∷ (n 80 ∷ n 9 ∷ []) ∷ (n 90 ∷ n 1 ∷ []) ∷ []
+  -- those of the rows on which each filter is yes, whose columns are read too
+  scan-filtered : meaning C₂ D B ≡ (n 30 ∷ []) ∷ (n 10 ∷ []) ∷ []
+  scan-reads : map (reads C₂ B 0) (0 ∷ 1 ∷ 2 ∷ []) ≡ true ∷ true ∷ false ∷ []
   -- an Empty with a row, and one without
   one-row : meaning C D (leaf (empty true (a ∷ b ∷ []))) ≡ (missing ∷ missing ∷ []) ∷ []
   no-row : meaning C D (leaf (empty false (a ∷ b ∷ []))) ≡ []
@@ -111,7 +123,7 @@ record Rows : Type 0 where
   spread : meaning C D (unary (window (win x (over f-count (col b)) (col a ∷ []) [] ∷ win y (over f-min (col b)) (col a ∷ []) [] ∷ win z (over f-max (col b)) (col a ∷ []) [] ∷ [])) AB)
       ≡ (n 1 ∷ n 30 ∷ n 2 ∷ n 10 ∷ n 30 ∷ []) ∷ (n 2 ∷ missing ∷ n 0 ∷ missing ∷ missing ∷ []) ∷ (n 1 ∷ n 10 ∷ n 2 ∷ n 10 ∷ n 30 ∷ []) ∷ (missing ∷ n 5 ∷ n 1 ∷ n 5 ∷ n 5 ∷ []) ∷ []
   -- the first input's rows, then the second's
-  appended : meaning C D (binary union (unary (limit 3 none) AB) (leaf (scan 1 2 none))) ≡ (missing ∷ n 5 ∷ []) ∷ (n 1 ∷ n 70 ∷ []) ∷ (n 9 ∷ n 80 ∷ []) ∷ (n 1 ∷ n 90 ∷ []) ∷ []
+  appended : meaning C D (binary union (unary (limit 3 none) AB) (leaf (scan 1 2 none []))) ≡ (missing ∷ n 5 ∷ []) ∷ (n 1 ∷ n 70 ∷ []) ∷ (n 9 ∷ n 80 ∷ []) ∷ (n 1 ∷ n 90 ∷ []) ∷ []
   unique : meaning C D (unary distinct (unary (projection (bare a ∷ [])) (binary union AB AB))) ≡ (n 1 ∷ []) ∷ (n 2 ∷ []) ∷ (missing ∷ []) ∷ []
   inner : meaning C D (J j-inner) ≡ (n 1 ∷ n 30 ∷ n 1 ∷ n 70 ∷ []) ∷ (n 1 ∷ n 30 ∷ n 1 ∷ n 90 ∷ []) ∷ (n 1 ∷ n 10 ∷ n 1 ∷ n 70 ∷ []) ∷ (n 1 ∷ n 10 ∷ n 1 ∷ n 90 ∷ []) ∷ []
   left : meaning C D (J j-left)
@@ -125,7 +137,7 @@ record Rows : Type 0 where
   right-semi : meaning C D (J j-rsemi) ≡ (n 1 ∷ n 70 ∷ []) ∷ (n 1 ∷ n 90 ∷ []) ∷ []
   right-anti : meaning C D (J j-ranti) ≡ (n 9 ∷ n 80 ∷ []) ∷ []
   -- with a condition on both sides and no pairs
-  conditioned : meaning C D (binary (join j-inner [] (some (bin o-lt (bin o-add (col b) (lit (pos 65))) (col (pair 2 5))))) AB (leaf (scan 1 2 none))) ≡ (n 1 ∷ n 10 ∷ n 9 ∷ n 80 ∷ []) ∷ (n 1 ∷ n 10 ∷ n 1 ∷ n 90 ∷ []) ∷ (missing ∷ n 5 ∷ n 9 ∷ n 80 ∷ []) ∷ (missing ∷ n 5 ∷ n 1 ∷ n 90 ∷ []) ∷ []
+  conditioned : meaning C D (binary (join j-inner [] (some (bin o-lt (bin o-add (col b) (lit (pos 65))) (col (pair 2 5))))) AB (leaf (scan 1 2 none []))) ≡ (n 1 ∷ n 10 ∷ n 9 ∷ n 80 ∷ []) ∷ (n 1 ∷ n 10 ∷ n 1 ∷ n 90 ∷ []) ∷ (missing ∷ n 5 ∷ n 9 ∷ n 80 ∷ []) ∷ (missing ∷ n 5 ∷ n 1 ∷ n 90 ∷ []) ∷ []
 
 all-rows : Rows
 unfolding meaning-computes
@@ -136,6 +148,8 @@ all-rows =
       three-valued = refl;
       with-missing = refl;
       scanned = refl;
+      scan-filtered = refl;
+      scan-reads = refl;
       one-row = refl;
       no-row = refl;
       projected = refl;

@@ -6,7 +6,7 @@ use Prim.Native.Nat.{ℕ, zero, suc}
 use lib.Dec.{T, eqb→eq}
 use lib.ListN.{length, take, drop, getD}
 use Rattle.cpl.specs.Lists.{All, a[], _a∷_, z[], Fit}
-use Rattle.cpl.specs.Plan.{Pair, Expr, Item, Agg, JoinType, j-inner, j-left, j-right, j-full, j-lsemi, j-lanti, j-rsemi, j-ranti, Leaf, scan, empty, Unary, projection, filter, sort, limit, aggregate, window, subqueryAlias, distinct, Binary, union, join, Plan, leaf, unary, binary, Catalogue, itemPair, itemExpr, aggPair, winPair}
+use Rattle.cpl.specs.Plan.{Pair, Expr, Item, Agg, JoinType, j-inner, j-left, j-right, j-full, j-lsemi, j-lanti, j-rsemi, j-ranti, Leaf, scan, empty, Unary, projection, filter, sort, limit, aggregate, window, subqueryAlias, distinct, Binary, union, join, Plan, leaf, unary, binary, Catalogue, namesOf, itemPair, itemExpr, aggPair, winPair}
 use Rattle.cpl.specs.Fields.{columnsOf, scanField, leafFields, requalify, unaryFields, joinFields, binaryFields, fieldsOf}
 use Rattle.cpl.specs.Accept.{even}
 use Rattle.cpl.proofs.Lists.{All-map, All-++, All-cond, always, All-mapped, All-concat, Fit-map, Fit-maps, Fit-trans, Fit-sym, Fit-++, length-Fit}
@@ -17,7 +17,7 @@ use Rattle.meaning.specs.Lists.{filterB, firsts, page, around, orElse}
 use Rattle.meaning.specs.Order.{insert, sortBy}
 use Rattle.meaning.specs.Operators.{projectionRows, groupKeys, members, aggValue, groupRow, aggregateRows, winValue, winRow, windowRows, unaryRows}
 use Rattle.meaning.specs.Joins.{matches, missings, leftMajor, rightMajor, joinRows, binaryRows}
-use Rattle.meaning.specs.Meaning.{tableRows, rowAt, emptyRows, leafRows, meaning}
+use Rattle.meaning.specs.Meaning.{rowAt, emptyRows, scanRows, leafRows, meaning}
 
 -- ── lists of anything: what holds of each element still does ────────────────────────────────
 
@@ -136,7 +136,7 @@ binary-wide (join t os c) fl fr e hl hr = join-wide (matches os c fl fr) hl hr t
 
 pub leaf-wide : (C : Catalogue) (D : Log) (h : Leaf) → WideRows (leafFields C h) (leafRows C D h)
 unfolding leafFields leafRows rowAt emptyRows
-leaf-wide C D (scan t q is) = All-any _ (tableRows D t) (λ r. Fit-maps (λ i. getD r i missing) (scanField (getD C t []) q) (columnsOf (getD C t []) is))
+leaf-wide C D (scan t q is es) = All-any _ (scanRows C D t q es) (λ r. Fit-maps (λ i. getD r i missing) (scanField (namesOf C t) q) (columnsOf (namesOf C t) is))
 leaf-wide C D (empty true cs) = missings-fit cs a∷ a[]
 leaf-wide C D (empty false cs) = a[]
 

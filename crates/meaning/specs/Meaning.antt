@@ -3,9 +3,12 @@ use mathlib.Core.List.{List, [], _∷_, map}
 use mathlib.Core.Bool.{Bool, true, false}
 use Prim.Native.Nat.{ℕ}
 use lib.ListN.{getD}
-use Rattle.cpl.specs.Plan.{Pair, Leaf, scan, empty, Plan, leaf, unary, binary, Catalogue}
-use Rattle.cpl.specs.Fields.{columnsOf, fieldsOf}
-use Rattle.meaning.specs.Value.{missing, Row, Log}
+use Rattle.cpl.specs.Tests.{allB}
+use Rattle.cpl.specs.Plan.{Pair, Expr, Leaf, scan, empty, Plan, leaf, unary, binary, Catalogue, namesOf}
+use Rattle.cpl.specs.Fields.{columnsOf, tableFields, fieldsOf}
+use Rattle.meaning.specs.Value.{missing, Row, Log, yes?}
+use Rattle.meaning.specs.Eval.{eval}
+use Rattle.meaning.specs.Lists.{filterB}
 use Rattle.meaning.specs.Operators.{unaryRows}
 use Rattle.meaning.specs.Joins.{missings, binaryRows}
 
@@ -22,9 +25,17 @@ unfoldable pub emptyRows : (one-row : Bool) → List Pair → List Row
 emptyRows true cs = missings cs ∷ []
 emptyRows false cs = []
 
--- a scan gives its table's rows at its columns: "the names at its projection, or all"
+-- is the value of each filter yes?
+unfoldable pub passes : List Pair → (filters : List Expr) → Row → Bool
+passes fs es r = allB (λ e. yes? (eval fs r e)) es
+
+-- a scan's filters are over all of its table's columns, and "rows on which one is not yes are left out"
+unfoldable pub scanRows : Catalogue → Log → (table qualifier : ℕ) (filters : List Expr) → List Row
+scanRows C D t q es = filterB (passes (tableFields C t q) es) (tableRows D t)
+
+-- a scan gives those rows at its columns: "the names at its projection, or all"
 unfoldable pub leafRows : Catalogue → Log → Leaf → List Row
-leafRows C D (scan t q is) = map (rowAt (columnsOf (getD C t []) is)) (tableRows D t)
+leafRows C D (scan t q is es) = map (rowAt (columnsOf (namesOf C t) is)) (scanRows C D t q es)
 leafRows C D (empty b cs) = emptyRows b cs
 
 unfoldable pub meaning : Catalogue → Log → Plan → List Row

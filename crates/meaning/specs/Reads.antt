@@ -1,18 +1,24 @@
 -- Which columns the scans of a plan name, and when two logs agree in them.
 use mathlib.Core.Path.{_≡_}
-use mathlib.Core.List.{List, [], map}
+use mathlib.Core.List.{List, map, _++_}
 use mathlib.Core.Bool.{Bool, false, _&&_, _||_}
 use Prim.Native.Nat.{ℕ}
 use lib.Dec.{T, eqb}
 use lib.ListN.{length, getD}
-use Rattle.cpl.specs.Tests.{anyB}
-use Rattle.cpl.specs.Plan.{Leaf, scan, empty, Plan, leaf, unary, binary, Catalogue}
-use Rattle.cpl.specs.Fields.{columnsOf}
+use Rattle.cpl.specs.Tests.{anyB, concatMap}
+use Rattle.cpl.specs.Plan.{Expr, Leaf, scan, empty, Plan, leaf, unary, binary, Catalogue, namesOf}
+use Rattle.cpl.specs.Exprs.{places}
+use Rattle.cpl.specs.Fields.{columnsOf, tableFields}
 use Rattle.meaning.specs.Value.{Val, missing, Log}
 use Rattle.meaning.specs.Meaning.{tableRows}
 
+-- the columns of its table that the references of a scan's filters find
+unfoldable pub filterColumns : Catalogue → (table qualifier : ℕ) (filters : List Expr) → List ℕ
+filterColumns C t q es = concatMap (places (tableFields C t q)) es
+
+-- those of its list and those of its filters: "demand 3 counts their columns as named by the scan"
 unfoldable pub leafReads : Catalogue → Leaf → (table column : ℕ) → Bool
-leafReads C (scan u q is) t i = eqb t u && anyB (eqb i) (columnsOf (getD C u []) is)
+leafReads C (scan u q is es) t i = eqb t u && anyB (eqb i) (columnsOf (namesOf C u) is ++ filterColumns C u q es)
 leafReads C (empty b cs) t i = false
 
 -- does some scan of the plan name this column of this table?

@@ -119,7 +119,7 @@ module _ {ks : List Item} {rows cells rows′ cells′ : List ℕ} where
   pub over-nodes : maxTags * 3 ≤ length cells → ListRefused ks 0 rows cells 0 rows′ cells′ → maxTags < sumOf itemTags ks
   over-nodes l o = omega (arith, o .tight, nodes-within ks)
 
-  pub listed-small : {n more : ℕ} → length cells ≤ 196608 → n ≤ 128 → Listing ks 0 n rows cells 0 more rows′ cells′ → sumOf itemTags (itemsAt rows′ cells′ 0 n) < 4294967296
+  pub listed-small : {n more : ℕ} → length cells ≤ 196608 → n ≤ 512 → Listing ks 0 n rows cells 0 more rows′ cells′ → sumOf itemTags (itemsAt rows′ cells′ 0 n) < 4294967296
   listed-small {n} {more} l h o =
       rw (o .means) (omega (arith, tags-within ks, o .grown, ap length (o .means), items-length rows′ cells′ 0 n, fits))
     where

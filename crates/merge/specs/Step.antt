@@ -30,7 +30,7 @@ pub record Reads (js is : List Item) : Type 0 where
 
 -- rows for the list, and nodes for all that a list may have; a row names a node in 16 bits
 pub record Room (rows cells : List ℕ) (size : ℕ) : Type 0 where
-  pub few : size ≤ 128
+  pub few : size ≤ 512
   pub rows-long : size * 4 ≤ length rows
   pub cells-long : maxTags * 3 ≤ length cells
   pub cells-short : length cells ≤ 196608

@@ -26,7 +26,7 @@ use Rattle.arena.proofs.Kept.{kept-refl}
 use Rattle.arena.proofs.Same.{items-length}
 use Rattle.arena_build.specs.Lists.{nodesOf}
 use Rattle.tree.specs.Tree.{Arrays, lent, planAt}
-use Rattle.lookup.specs.Fields.{rowAt, widthAt}
+use Rattle.lookup.specs.Fields.{firstAt, rowAt, widthAt}
 use Rattle.lookup.specs.Standing.{Standing}
 use Rattle.lookup.proofs.Standing.{row-in, row-is, row-long}
 use Rattle.result.specs.Result.{Results}
@@ -48,12 +48,13 @@ use Rattle.optimize_projections.specs.Walk.{After, Before, BeforeList, E
 use Rattle.optimize_projections.specs.declared.Settings.{Settings}
 use Rattle.optimize_projections.proofs.Ends.{based, child-nodes, child-tags, grown-refl, more-refl, over-walk}
 use Rattle.optimize_projections.proofs.Inputs.{narrowed, node-good, node-kept}
+use Rattle.optimize_projections.proofs.Merges.{items-few}
 
 -- ── a request of some fields of a node ──────────────────────────────────────────────────────
 
 module _ {cells rows nodes fields widths : List ℕ} (z : Standing cells rows nodes fields widths) (j : ℕ) (l : j < z .count) where
-  pub fields-in : {r : RequiredIndices} {R : Mask} → Asks r R → length R ≡ length (fieldsOf (z .C) (planAt (lent cells rows nodes) j)) → FieldsIn fields j (widthAt widths j) r
-  fields-in {r} x e = record { inside = row-in z j l refl; within = subst (λ (n : ℕ). setOf r < 2 ^ n) (e ∙ sym (row-long z j l refl)) (x .within) }
+  pub fields-in : {r : RequiredIndices} {R : Mask} → Asks r R → length R ≡ length (fieldsOf (z .C) (planAt (lent cells rows nodes) j)) → FieldsIn fields (firstAt widths j) (widthAt widths j) r
+  fields-in {r} x e = record { inside = row-in z j l refl refl; within = subst (λ (n : ℕ). setOf r < 2 ^ n) (e ∙ sym (row-long z j l refl refl)) (x .within) }
 
 -- ── a request of items of the list ──────────────────────────────────────────────────────────
 
@@ -63,7 +64,7 @@ module _ {cells rows nodes fields widths arows acells : List ℕ} {r : Results} 
   request-within =
       subst (λ (n : ℕ). setOf request < 2 ^ n) (Fit-length (b .fit) ∙ items-length (side (l .scratch) arows rows) (side (l .scratch) acells cells) (l .first) (l .n)) (b .asks .within)
 
-  pub top-fields : FieldsIn fields (l .top) (widthAt widths (l .top)) request
+  pub top-fields : FieldsIn fields (firstAt widths (l .top)) (widthAt widths (l .top)) request
   top-fields = fields-in (b .standing) (l .top) (b .top) (b .asks) (Fit-length (b .fit) ∙ sym (length-map (pendingItems l rows cells arows acells) itemPair) ∙ ap length (b .pairs))
 
 -- ── kept items ──────────────────────────────────────────────────────────────────────────────
@@ -140,7 +141,7 @@ shift v u o n n′ t t′ e f g x = ⊎-elim (λ d. inl d) (λ y. ⊎-elim (λ d
 -- ── the list over node k ────────────────────────────────────────────────────────────────────
 
 module _ {cells rows nodes fields widths arows acells sr items icells : List ℕ} {k : ℕ} {l : Pending} {request : RequiredIndices} {u : Used} (c : Chosen) (items₁ icells₁ : List ℕ)
-    (q : Picked (keptPending l request rows cells arows acells) (rowAt fields k (widthAt widths k)) u items icells items₁ icells₁ c) where
+    (q : Picked (keptPending l request rows cells arows acells) (rowAt fields (firstAt widths k) (widthAt widths k)) u items icells items₁ icells₁ c) where
   module _ (b : BeforeList cells rows nodes fields widths arows acells (results sr items icells) k l request u) where
     abbrev C : Catalogue
     C = b .standing .C
@@ -166,8 +167,8 @@ module _ {cells rows nodes fields widths arows acells sr items icells : List ℕ
 
     pub asks-q : Asks (c .ask) Q
     asks-q =
-        subst (λ (gs : List Pair). Asks (c .ask) (used (map itemExpr (select (b .R) (pendingItems l rows cells arows acells))) gs)) (row-is (b .standing) k (b .within) refl)
-        (subst (λ (ks : List Item). Asks (c .ask) (used (map itemExpr ks) (rowAt fields k (widthAt widths k)))) kept-is (q .asks))
+        subst (λ (gs : List Pair). Asks (c .ask) (used (map itemExpr (select (b .R) (pendingItems l rows cells arows acells))) gs)) (row-is (b .standing) k (b .within) refl refl)
+        (subst (λ (ks : List Item). Asks (c .ask) (used (map itemExpr ks) (rowAt fields (firstAt widths k) (widthAt widths k)))) kept-is (q .asks))
 
     module _ (fine : c .large ≡ false) where
       pub chosen : SelectionIs (select (b .R) (pendingItems l rows cells arows acells)) u items icells items₁ icells₁ (c .used) (c .list)
@@ -233,10 +234,10 @@ module _ {cells rows nodes fields widths arows acells sr items icells : List ℕ
       node-fit : (b : BeforeList cells rows nodes fields widths arows acells (results sr items icells) k l request u) → Fit (nodeWalk b .kept) (fieldsOf (b .standing .C) (planAt (lent cells rows nodes) k))
       node-fit b = node-kept (b .standing) s k (b .within) false (used-fit (map itemExpr (select (b .R) (pendingItems l rows cells arows acells))) (fieldsOf (b .standing .C) (planAt (lent cells rows nodes) k)))
 
-      pub list-fields : BeforeList cells rows nodes fields widths arows acells (results sr items icells) k l request u → FieldsFor fields k (widthAt widths k) w (w .end)
+      pub list-fields : BeforeList cells rows nodes fields widths arows acells (results sr items icells) k l request u → FieldsFor fields (firstAt widths k) (widthAt widths k) w (w .end)
       list-fields b = by (w .end) (node-end b)
         where
-          by : (e : End) → EndIs (b .standing .C) (lent cells rows nodes) (b .standing .count) (results sr items₁ icells₁) (results sr₂ items₂ icells₂) (c .used) (nodeWalk b) (w .kept) e → FieldsFor fields k (widthAt widths k) w e
+          by : (e : End) → EndIs (b .standing .C) (lent cells rows nodes) (b .standing .count) (results sr items₁ icells₁) (results sr₂ items₂ icells₂) (c .used) (nodeWalk b) (w .kept) e → FieldsFor fields (firstAt widths k) (widthAt widths k) w e
           by (Done rec n) y = fields-in (b .standing) k (b .within) (y .1) (Fit-length (node-fit b))
           by Large y = tt
 
@@ -244,10 +245,10 @@ module _ {cells rows nodes fields widths arows acells sr items icells : List ℕ
       list-is : (b : BeforeList cells rows nodes fields widths arows acells (results sr items icells) k l request u) (rec : ℕ) (n : Used)
           → Stands (b .standing .C) (lent cells rows nodes) (b .standing .count) (results sr items₁ icells₁) (results sr₂ items₂ icells₂) (c .used) (nodeWalk b .plan) rec n
           → (t : Selection) → SelectionIs (select (b .R) (pendingItems l rows cells arows acells)) u items icells items₁ icells₁ (c .used) t
-          → ListIs (b .standing .C) (lent cells rows nodes) (b .standing .count) (results sr₂ items₂ icells₂) (n .rows) (n .cells) fields (l .top) (widthAt widths (l .top)) k (widthAt widths k)
+          → ListIs (b .standing .C) (lent cells rows nodes) (b .standing .count) (results sr₂ items₂ icells₂) (n .rows) (n .cells) fields (l .top) (firstAt widths (l .top)) (widthAt widths (l .top)) k (firstAt widths k) (widthAt widths k)
           (pendingItems l rows cells arows acells) (select (b .R) (pendingItems l rows cells arows acells)) t
       list-is b rec n y selection.Columns d =
-          record { bare = d .0; node = b .top; fields-are = b .pairs; row = row-is (b .standing) (l .top) (b .top) refl; input-row = row-is (b .standing) k (b .within) refl }
+          record { bare = d .0; node = b .top; fields-are = b .pairs; row = row-is (b .standing) (l .top) (b .top) refl refl; input-row = row-is (b .standing) k (b .within) refl refl }
       list-is b rec n y (selection.Items row m) d =
           let ks : List Item = select (b .R) (pendingItems l rows cells arows acells) in
           let long : length (pendingItems l rows cells arows acells) ≡ l .n = items-length (side (l .scratch) arows rows) (side (l .scratch) acells cells) (l .first) (l .n) in
@@ -257,13 +258,13 @@ module _ {cells rows nodes fields widths arows acells sr items icells : List ℕ
             held =
                 held-more
                 (held-grown
-                (subst⁻¹ (λ (x : ℕ). Held (results sr items₁ icells₁) x (c .used .cells) row m ks) e
-                (copies-held sr (d .3) (omega (arith, select-short (b .R) (pendingItems l rows cells arows acells), b .list .few)) (omega (arith, select-sum itemTags (b .R) (pendingItems l rows cells arows acells), b .list .tags))))
+                (subst⁻¹ (λ (x : ℕ). Held (b .standing .C .version) (results sr items₁ icells₁) x (c .used .cells) row m ks) e
+                (copies-held (b .standing .C .version) sr (d .3) (omega (arith, select-short (b .R) (pendingItems l rows cells arows acells), items-few (b .items))) (omega (arith, select-sum itemTags (b .R) (pendingItems l rows cells arows acells), b .list .tags))))
                 (y .grown))
                 (n .rows) (n .cells) (y .more .rows) (y .more .cells);
           }
 
-      pub put-after : {sr₃ : List ℕ} (v : Walked) → ListPut sr₂ sr₃ (c .list) fields (l .top) (widthAt widths (l .top)) request k (widthAt widths k) w v (w .end)
+      pub put-after : {sr₃ : List ℕ} (v : Walked) → ListPut sr₂ sr₃ (c .list) fields (l .top) (firstAt widths (l .top)) (widthAt widths (l .top)) request (firstAt widths k) (widthAt widths k) w v (w .end)
           → PutAfter s cells rows nodes fields widths arows acells (results sr items icells) (results sr₃ items₂ icells₂) k l request u v
       put-after {sr₃} v d = record {
         is = λ b. subst⁻¹ (λ (p : rules.Walked). WalkIs (b .standing .C) (lent cells rows nodes) (b .standing .count) (results sr items icells) (results sr₃ items₂ icells₂) u p v) (list-walk b) (by b (w .end) (node-end b) d);
@@ -271,7 +272,7 @@ module _ {cells rows nodes fields widths arows acells sr items icells : List ℕ
         where
           by : (b : BeforeList cells rows nodes fields widths arows acells (results sr items icells) k l request u) (e : End)
               → EndIs (b .standing .C) (lent cells rows nodes) (b .standing .count) (results sr items₁ icells₁) (results sr₂ items₂ icells₂) (c .used) (nodeWalk b) (w .kept) e
-              → ListPut sr₂ sr₃ (c .list) fields (l .top) (widthAt widths (l .top)) request k (widthAt widths k) w v e
+              → ListPut sr₂ sr₃ (c .list) fields (l .top) (firstAt widths (l .top)) (widthAt widths (l .top)) request (firstAt widths k) (widthAt widths k) w v e
               → WalkIs (b .standing .C) (lent cells rows nodes) (b .standing .count) (results sr items icells) (results sr₃ items₂ icells₂) u
               (record { plan = overChild (b .standing .C) (select (b .R) (pendingItems l rows cells arows acells)) (nodeWalk b .plan); kept = b .R; overlong = nodeWalk b .overlong }) v
           by b (Done rec n) y p =
@@ -280,7 +281,7 @@ module _ {cells rows nodes fields widths arows acells sr items icells : List ℕ
               over-walk (based (taken-more (b .ready) ks items₁ icells₁ (c .used) (c .list) (chosen b fine)) (taken-records (b .ready) ks items₁ icells₁ (c .used) (c .list) (chosen b fine))
               (taken-grown (b .ready) ks items₁ icells₁ (c .used) (c .list) (chosen b fine)) (y .0)) sr₃ (overChild (b .standing .C) ks) (p .t) v
               (omega (arith, y .0 .tags, taken-cells (b .ready) ks items₁ icells₁ (c .used) (c .list) (chosen b fine) (b .standing .C) (nodeWalk b .plan))) (b .asks) (y .2)
-              (p .on-top .covers (b .standing .C) (lent cells rows nodes) (b .standing .count) items₂ icells₂ (n .rows) (n .cells) (nodeWalk b .kept) (b .R) (pendingItems l rows cells arows acells)
+              (p .on-top .covers (b .standing .C) (lent cells rows nodes) (b .standing .count) items₂ icells₂ (n .rows) (n .cells) k (nodeWalk b .kept) (b .R) (pendingItems l rows cells arows acells)
               (narrowed (nodeWalk b) (y .0) (b .within) (node-fit b) (g .kept .fields)) (y .1) (b .asks) (b .fit) (list-is b rec n (y .0) (c .list) (chosen b fine))) (p .over)
           by b Large y p =
               let ks : List Item = select (b .R) (pendingItems l rows cells arows acells) in

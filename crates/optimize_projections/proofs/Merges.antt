@@ -11,7 +11,7 @@ use lib.ListN.{length, length-map}
 use Rattle.cpl.specs.Accept.{allPass}
 use Rattle.cpl.specs.Exprs.{itemTags, planTags, unaryExprs, unaryTags}
 use Rattle.cpl.specs.Fields.{fieldsOf, unaryFields}
-use Rattle.cpl.specs.Limits.{maxItems, maxTags}
+use Rattle.cpl.specs.Limits.{Version, maxTags}
 use Rattle.cpl.specs.Lists.{Fit}
 use Rattle.cpl.specs.Plan.{Catalogue, Item, Pair, Plan, Unary, projection, filter, sort, limit, aggregate, window, subqueryAlias, distinct, itemExpr, itemPair, unary}
 use Rattle.cpl.specs.ReadPlan.{Head, h0, h1, h2}
@@ -19,6 +19,7 @@ use Rattle.cpl.specs.Tests.{sumOf}
 use Rattle.cpl.specs.Writable.{FitList, FitPlan, FitUnary}
 use Rattle.cpl.proofs.Accepted.{Accepted, Resolved}
 use Rattle.cpl.proofs.Lists.{Fit-length, length-Fit}
+use Rattle.versions.proofs.Small.{small}
 use Rattle.rules.specs.Mask.{Mask}
 use Rattle.rules.specs.Merge.{Merge, mergeStep}
 use Rattle.rules.specs.Rewrite as rules
@@ -48,6 +49,11 @@ use Rattle.walk_steps.specs.declared.Used.{Used}
 use Rattle.walk_steps.specs.declared.Walked.{Walked}
 use Rattle.optimize_projections.specs.Walk.{After, Before, BeforeList, ListAfter, PutAfter, WalkIs, mergeBy}
 use Rattle.optimize_projections.specs.declared.Settings.{Settings}
+
+-- a list that can be put is no longer than its version allows
+pub items-few : {v : Version} {fs : List Pair} {js : List Item} → Items v fs js → length js ≤ v .maxItems
+unfolding FitList
+items-few i = i .fit .0
 
 -- ── node k is a projection ──────────────────────────────────────────────────────────────────
 
@@ -84,22 +90,21 @@ module _ {cells rows nodes fields widths : List ℕ} (z : Standing cells rows no
   lower-accepted : Accepted (z .C) (unary (projection lower) (planAt a (k + 1)))
   lower-accepted = subst (Accepted (z .C)) lower-plan (z .accepted k l)
 
-  pub lower-items : Items (fieldsOf (z .C) (planAt a (k + 1))) (itemsAt rows cells first n)
+  pub lower-items : Items (z .C .version) (fieldsOf (z .C) (planAt a (k + 1))) (itemsAt rows cells first n)
   unfolding Accepted FitPlan FitUnary unaryExprs
   lower-items =
       record {
         resolved = lower-accepted .1 .resolved;
-        own = subst⁻¹ Fields lower-pairs (plan-fields (z .C) (z .tables) (planAt a k) (z .accepted k l) (z .tree .each k l .fit));
+        own = subst⁻¹ (Fields (z .C .version)) lower-pairs (plan-fields (z .C) (z .tables) (planAt a k) (z .accepted k l) (z .tree .each k l .fit));
         fit = lower-fit .0;
       }
 
   -- a list over node k reads its items
-  pub lower-reads : {js : List Item} → Items (fieldsOf (z .C) (planAt a k)) js → merge.Reads js (itemsAt rows cells first n)
+  pub lower-reads : {js : List Item} → Items (z .C .version) (fieldsOf (z .C) (planAt a k)) js → merge.Reads js (itemsAt rows cells first n)
   lower-reads {js} i = record { clear = lower-items .own .distinct; resolved = subst⁻¹ (λ (fs : List Pair). Resolved (allPass (map itemExpr js) fs)) lower-pairs (i .resolved) }
 
-  pub lower-few : n ≤ maxItems
-  unfolding FitList
-  lower-few = omega (arith, lower-items .fit .0, items-length rows cells first n)
+  pub lower-few : n ≤ 512
+  lower-few = omega (arith, items-few lower-items, items-length rows cells first n, small (z .tables .version-is) .items-small)
 
 -- ── from a projection with nothing pending ──────────────────────────────────────────────────
 
@@ -251,7 +256,7 @@ module _ (s : Settings) {cells rows nodes fields widths arows acells : List ℕ}
             within = lower-below (b .standing) k (b .within) first n e;
             ready = b .ready;
             list = ok;
-            items = merged-items (subst⁻¹ (λ (fs : List Pair). Items fs (pendingItems l rows cells arows acells)) (lower-pairs (b .standing) k (b .within) first n e) (b .items)) (lower-items (b .standing) k (b .within) first n e) i;
+            items = merged-items (subst⁻¹ (λ (fs : List Pair). Items (b .standing .C .version) fs (pendingItems l rows cells arows acells)) (lower-pairs (b .standing) k (b .within) first n e) (b .items)) (lower-items (b .standing) k (b .within) first n e) i;
             top = subst⁻¹ (λ (t : ℕ). t < b .standing .count) top (b .top);
             pairs = step-pairs i ∙ b .pairs ∙ ap (λ (t : ℕ). fieldsOf (b .standing .C) (planAt (lent cells rows nodes) t)) (sym top);
             R = b .R;

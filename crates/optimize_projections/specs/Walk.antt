@@ -115,7 +115,7 @@ pub record BeforeList (cells rows nodes fields widths arows acells : List ℕ) (
   pub within : k < standing .count
   pub ready : Ready (standing .C) (lent cells rows nodes) (standing .count) r u
   pub list : ListOk l rows cells arows acells
-  pub items : Items (fieldsOf (standing .C) (planAt (lent cells rows nodes) k)) (pendingItems l rows cells arows acells)
+  pub items : Items (standing .C .version) (fieldsOf (standing .C) (planAt (lent cells rows nodes) k)) (pendingItems l rows cells arows acells)
   pub top : l .top < standing .count
   pub pairs : map itemPair (pendingItems l rows cells arows acells) ≡ fieldsOf (standing .C) (planAt (lent cells rows nodes) (l .top))
   pub R : Mask

@@ -491,6 +491,7 @@ pub fn rewrite_projection_given_requirements(
     requires { ⌜ Scratch (now brows) (now bcells) ⌝ }
     ensures { λ w. ⌜ PutAfter settings (now (cells .entry)) (now (rows .entry)) (now (nodes .entry)) (now (fields .entry)) (now (widths .entry)) (now (arows .entry)) (now (acells .entry)) (results (now (records .entry)) (now (items .entry)) (now (icells .entry))) (results (now (records .exit)) (now (items .exit)) (now (icells .exit))) k list request used w ⌝ }
 {
+    let start = lookup::first_at(widths, k);
     let width = lookup::width_at(widths, k);
     let c = walk_steps::get_at_indices(
         list,
@@ -500,7 +501,7 @@ pub fn rewrite_projection_given_requirements(
         acells,
         request,
         fields,
-        k,
+        start,
         width,
         items,
         icells,
@@ -534,6 +535,18 @@ pub fn rewrite_projection_given_requirements(
         more,
     );
     let top = list.top;
+    let upper = lookup::first_at(widths, top);
     let wide = lookup::width_at(widths, top);
-    walk_steps::put_list(records, selection, fields, top, wide, request, k, width, w)
+    walk_steps::put_list(
+        records,
+        selection,
+        fields,
+        top,
+        upper,
+        wide,
+        request,
+        start,
+        width,
+        w,
+    )
 }

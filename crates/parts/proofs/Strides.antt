@@ -1,7 +1,7 @@
 -- Things that take several rows each, one after the other. Assumes nothing.
 use mathlib.Core.Path.{_≡_, sym, ap, ap₂, _∙_, subst}
 use mathlib.Core.List.{List, [], _∷_, _++_}
-use Prim.Native.Nat.{ℕ, suc, _+_, _-_, _*_, _<_, _≤_}
+use Prim.Native.Nat.{ℕ, suc, _+_, _-_, _<_, _≤_}
 use native.Mathlib.Omega.{arith}
 use Rattle.cpl.specs.Plan.{Pair}
 use Rattle.tree.specs.Rows.{AllAt, listAt}
@@ -58,37 +58,35 @@ module _ {A : Type 0} (F : Tests A) (read : ℕ → A) (size : ℕ → ℕ) (f n
     pub told-all : n ≤ i → x ≡ all-seen F (listAt read size f n)
     told-all h = sym (ap (worse x) (ap (all-seen F) (list-end read size r n i h) ∙ seen-none F) ∙ worse-fine x) ∙ t .same
 
--- node k's fields from `at` on are filled, up to thing i
-pub record Strode (Ok : ℕ → Type 0) (read : ℕ → Pair) (size : ℕ → ℕ) (n k at r i : ℕ) (fs : List Pair) (s s′ : List ℕ) : Type 0 where
+-- the fields from field `to` on are filled, up to thing i
+pub record Strode (Ok : ℕ → Type 0) (read : ℕ → Pair) (size : ℕ → ℕ) (n to r i : ℕ) (fs : List Pair) (s s′ : List ℕ) : Type 0 where
   pub upto : i ≤ n
   pub ok : AllAt Ok size r (n - i)
-  pub filling : Filling k (at + i) (listAt read size r (n - i)) fs s s′
+  pub filling : Filling to i (listAt read size r (n - i)) fs s s′
 
-module _ (Ok : ℕ → Type 0) (read : ℕ → Pair) (size : ℕ → ℕ) (n k at : ℕ) where
-  pub strode-none : (f : ℕ) (s : List ℕ) → AllAt Ok size f n → Strode Ok read size n k at f 0 (rowAt s k at ++ listAt read size f n) s s
+module _ (Ok : ℕ → Type 0) (read : ℕ → Pair) (size : ℕ → ℕ) (n to : ℕ) where
+  pub strode-none : (f : ℕ) (s : List ℕ) → AllAt Ok size f n → Strode Ok read size n to f 0 (listAt read size f n) s s
   strode-none f s o =
       let e : n ≡ n - 0 = omega arith in
-      let g : at ≡ at + 0 = omega arith in
       record {
         upto = omega arith;
         ok = all-whole Ok size f n o;
-        filling = record { row = ap₂ (λ x y. rowAt s k x ++ listAt read size f y) (sym g) (sym e); kept = fill-none k at [] s .kept };
+        filling = subst (λ x. Filling to 0 (listAt read size f x) (listAt read size f n) s s) e (fill-none to (listAt read size f n) s);
       }
 
-  pub strode-more : (r i : ℕ) {next : ℕ} {fs : List Pair} {s s₁ s₂ : List ℕ} → Strode Ok read size n k at r i fs s s₁ → i < n → at + n ≤ 128 → fieldAt s₂ (k * 128 + (at + i)) ≡ read r
-      → Kept fieldAt (k * 128 + (at + i)) (k * 128 + (at + i) + 1) s₁ s₂ → next ≡ r + size r → Strode Ok read size n k at next (i + 1) fs s s₂
-  strode-more r i {next} {fs} {s} {s₁} {s₂} p h m e q d =
-      let g : at + i + 1 ≡ at + (i + 1) = omega arith in
-      let now : Filling k (at + i) (read r ∷ listAt read size (r + size r) (n - (i + 1))) fs s s₁ =
-      record { row = ap (rowAt s₁ k (at + i) ++_) (sym (list-here read size r n i h)) ∙ p .filling .row; kept = p .filling .kept } in
-      let then = fill-more now (omega arith) e q in
+  pub strode-more : (r i : ℕ) {next : ℕ} {fs : List Pair} {s s₁ s₂ : List ℕ} → Strode Ok read size n to r i fs s s₁ → i < n → fieldAt s₂ (to + i) ≡ read r → Kept fieldAt (to + i) (to + i + 1) s₁ s₂
+      → next ≡ r + size r → Strode Ok read size n to next (i + 1) fs s s₂
+  strode-more r i {next} {fs} {s} {s₁} {s₂} p h e q d =
+      let now : Filling to i (read r ∷ listAt read size (r + size r) (n - (i + 1))) fs s s₁ =
+      record { row = ap (rowAt s₁ to i ++_) (sym (list-here read size r n i h)) ∙ p .filling .row; kept = p .filling .kept } in
       record {
         upto = omega arith;
         ok = all-next Ok size r n i (p .ok) h d;
-        filling = record { row = ap₂ (λ x y. rowAt s₂ k x ++ listAt read size y (n - (i + 1))) (sym g) d ∙ then .row; kept = then .kept };
+        filling = subst (λ x. Filling to (i + 1) (listAt read size x (n - (i + 1))) fs s s₂) (sym d) (fill-more now e q);
       }
 
-  pub strode-all : (r i : ℕ) {fs : List Pair} {s s′ : List ℕ} → Strode Ok read size n k at r i fs s s′ → n ≤ i → Filled k (at + n) fs s s′
+  pub strode-all : (r i : ℕ) {fs : List Pair} {s s′ : List ℕ} → Strode Ok read size n to r i fs s s′ → n ≤ i → Filled to n fs s s′
   strode-all r i {fs} {s} {s′} p h =
-      let e : i ≡ n = omega arith in
-      fill-all (record { row = ap₂ (λ x xs. rowAt s′ k (at + x) ++ xs) (sym e) (sym (list-end read size r n i h)) ∙ p .filling .row; kept = p .filling .kept })
+      let e : i ≡ n = omega (arith, p .upto) in
+      let d : Filling to i [] fs s s′ = record { row = ap (rowAt s′ to i ++_) (sym (list-end read size r n i h)) ∙ p .filling .row; kept = p .filling .kept } in
+      fill-all (subst (λ x. Filling to x [] fs s s′) e d)

@@ -1,5 +1,5 @@
 -- The tables in their array. Assumes nothing.
-use mathlib.Core.Path.{_≡_, refl, sym, ap, _∙_}
+use mathlib.Core.Path.{_≡_, refl, sym, ap, ap₂, _∙_}
 use mathlib.Core.List.{List, [], _∷_, map}
 use Prim.Native.Nat.{ℕ, zero, suc, _+_, _*_, _<_, _≤_}
 use native.Mathlib.Omega.{arith}
@@ -14,14 +14,14 @@ use Rattle.parts.specs.Catalogue.{catalogueAt, columnCount, tableAt, Tab
 
 pub table-length : (s : List ℕ) (t : ℕ) → TableIn s t → columnCount s t ≡ length (tableAt s t)
 unfolding tableAt
-table-length s t i = sym (length-take-le (columnCount s t) (drop (t * 65 + 1) s) (simp length-drop (omega (arith, i .inside, i .few))))
+table-length s t i = sym (length-take-le (columnCount s t) (drop (t * 513 + 1) s) (simp length-drop (omega (arith, i .inside, i .few))))
 
-pub table-few : (s : List ℕ) (t : ℕ) → TableIn s t → length (tableAt s t) ≤ 64
+pub table-few : (s : List ℕ) (t : ℕ) → TableIn s t → length (tableAt s t) ≤ 512
 table-few s t i = omega (arith, table-length s t i, i .few)
 
-pub table-name : (s : List ℕ) (t i : ℕ) → TableIn s t → i < length (tableAt s t) → getD s (t * 65 + 1 + i) 0 ≡ getD (tableAt s t) i 0
+pub table-name : (s : List ℕ) (t i : ℕ) → TableIn s t → i < length (tableAt s t) → getD s (t * 513 + 1 + i) 0 ≡ getD (tableAt s t) i 0
 unfolding tableAt
-table-name s t i o h = sym (getD-take (columnCount s t) (drop (t * 65 + 1) s) i 0 (omega (arith, table-length s t o)) ∙ getD-drop (t * 65 + 1) s i 0)
+table-name s t i o h = sym (getD-take (columnCount s t) (drop (t * 513 + 1) s) i 0 (omega (arith, table-length s t o)) ∙ getD-drop (t * 513 + 1) s i 0)
 
 -- table t of the catalogue
 pub catalogue-length : (s : List ℕ) (n : ℕ) → length (catalogueAt s n) ≡ n
@@ -51,3 +51,16 @@ scan-first T q i h = let e : i ≡ 0 + i = omega arith in ap (pair q) (h ∙ ap 
 pub scan-read : (T : List ℕ) (q : ℕ) {x c j : ℕ} → x ≡ getD T c 0 → c ≡ j → pair q x ≡ scanField T q j
 unfolding scanField
 scan-read T q h e = ap (pair q) (h ∙ ap (λ j. getD T j 0) e)
+
+-- all columns of a table, name by name
+names-from : (g : ℕ → ℕ) (T : List ℕ) (f : ℕ) → ((i : ℕ) → i < length T → g (f + i) ≡ getD T i 0) → (q : ℕ) → map (λ i. pair q (g i)) (iota f (length T)) ≡ map (pair q) T
+unfolding iota
+names-from g [] f h q = refl
+names-from g (x ∷ T) f h q =
+    let e : f + 0 ≡ f = omega arith in
+    let d = ap g (sym e) ∙ h 0 (omega arith) in
+    ap₂ _∷_ (ap (pair q) d) (names-from g T (suc f) (λ i l. (let b : suc f + i ≡ f + suc i = omega arith in ap g b) ∙ h (suc i) (omega arith)) q)
+
+pub scan-table : (T : List ℕ) (q : ℕ) → map (scanField T q) (iota 0 (length T)) ≡ map (pair q) T
+unfolding scanField
+scan-table T q = names-from (λ i. getD T i 0) T 0 (λ i l. let e : 0 + i ≡ i = omega arith in ap (λ j. getD T j 0) e) q

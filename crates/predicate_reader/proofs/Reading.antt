@@ -169,11 +169,11 @@ module _ (bytes : List ℕ) (made : ℕ) (cells cells′ rows rows′ : List ℕ
         wf = subst (Wf cells′) top (v .0 .wf);
       }
 
-  keys-listed : (r : Parsed) → RightAt (listStore onStore) (counted any 255 readOn) bytes (spot 0 0 made 0) 0 cells cells′ rows rows′ r → ListedAs bytes made cells cells′ rows′ (allOf (length bytes) r)
+  keys-listed : (r : Parsed) → RightAt (listStore onStore) (counted 1 any 255 readOn) bytes (spot 0 0 made 0) 0 cells cells′ rows rows′ r → ListedAs bytes made cells cells′ rows′ (allOf (length bytes) r)
   keys-listed r h =
-      keys-took (allOf (length bytes) r) (whole-right (listStore onStore) (counted any 255 readOn) bytes (spot 0 0 made 0) cells cells′ rows rows′ r (h 0))
+      keys-took (allOf (length bytes) r) (whole-right (listStore onStore) (counted 1 any 255 readOn) bytes (spot 0 0 made 0) cells cells′ rows rows′ r (h 0))
 
-  module _ (list : Parsed) {r : Parsed} (h : RightAt (listStore onStore) (counted any 255 readOn) bytes (spot 0 0 made 0) 0 cells cells′ rows rows′ list) (e : r ≡ allOf (length bytes) list) where
+  module _ (list : Parsed) {r : Parsed} (h : RightAt (listStore onStore) (counted 1 any 255 readOn) bytes (spot 0 0 made 0) 0 cells cells′ rows rows′ list) (e : r ≡ allOf (length bytes) list) where
     pub keys-bad : {code place : ℕ} → r ≡ Bad code place → readKeys bytes ≡ bad code place
     keys-bad d = rw (sym e ∙ d) at (keys-listed list h)
 

@@ -55,7 +55,7 @@ pub fn read_keys(
         made,
         row: 0,
     };
-    let list = reader_parts::read_list(bytes, from, Kind::On, 0, 255, cells, rows);
+    let list = reader_parts::read_list(bytes, from, Kind::On, 1, 0, 255, cells, rows);
     let read = all_of(bytes, list);
     let Parsed::Done(s) = read else {
         return read;

@@ -3,7 +3,7 @@ use mathlib.Core.Path.{_≡_, refl, sym, ap, _∙_}
 use mathlib.Core.Bool.{true}
 use mathlib.Core.List.{List, _++_}
 use mathlib.Core.Option.{none, some}
-use Prim.Native.Nat.{ℕ, _+_, _*_, _-_, _<_, _≤_}
+use Prim.Native.Nat.{ℕ, _+_, _*_, _-_, _≤_}
 use native.Mathlib.Omega.{arith}
 use lib.ListN.{drop, length, length-append, take}
 use Rattle.cpl.specs.Bytes.{bytes, condBytes, exprBytes, onBytes, pairBytes}
@@ -15,10 +15,10 @@ use Rattle.rules.specs.Answer.{written}
 use Rattle.arena.specs.Cells.{Wf}
 use Rattle.tree.specs.Rows.{onAt}
 use Rattle.writer_parts.specs.Wrote.{Countable, Laid, Wrote, over}
-use Rattle.writer_parts.specs.Lists.{PartsOk, countedList, listTags, takenCount}
+use Rattle.writer_parts.specs.Lists.{PartsOk, countedList, listTags}
 use Rattle.writer_parts.specs.declared.Part.the-variants as part
 use Rattle.writer_parts.specs.declared.Which.{Which}
-use Rattle.writer_parts.proofs.Lists.{after-byte, all-row-tags, counted-all-rows}
+use Rattle.writer_parts.proofs.Lists.{after-count, all-row-tags, counted-all-rows}
 use Rattle.writer_parts.proofs.Exprs.{byte}
 use Rattle.writer_parts.proofs.Over.{length-bytes, so, start, then}
 use Rattle.join_keys.specs.Entries.{keysBytes}
@@ -57,20 +57,17 @@ narrow {pairs = pairs} l o = record {
 }
 
 module _ {n : ℕ} {rows pairs : List ℕ} (cells : List ℕ) (w : Which) (a : w .all ≡ true) (s : SameKeys n rows pairs) where
-  pub rows-bytes : keysBytes (keysAt cells pairs 0 n) ≡ countedList part.On rows cells 0 n w
-  rows-bytes = ap keysBytes (sym (same-list cells s)) ∙ counted-all-rows w onBytes onTags (onAt rows cells) 0 n a
+  pub rows-bytes : keysBytes (keysAt cells pairs 0 n) ≡ countedList 1 part.On rows cells 0 n w
+  rows-bytes = ap keysBytes (sym (same-list cells s)) ∙ counted-all-rows 1 w onBytes onTags (onAt rows cells) 0 n a
 
   pub rows-tags : sumOf onTags (keysAt cells pairs 0 n) ≡ listTags part.On rows cells 0 n w
   rows-tags = ap (sumOf onTags) (sym (same-list cells s)) ∙ all-row-tags w onBytes onTags (onAt rows cells) 0 n a
 
-  pub rows-countable : Countable (length (keysBytes (keysAt cells pairs 0 n))) (sumOf onTags (keysAt cells pairs 0 n)) → Countable (length (countedList part.On rows cells 0 n w)) (listTags part.On rows cells 0 n w)
+  pub rows-countable : Countable (length (keysBytes (keysAt cells pairs 0 n))) (sumOf onTags (keysAt cells pairs 0 n)) → Countable (length (countedList 1 part.On rows cells 0 n w)) (listTags part.On rows cells 0 n w)
   rows-countable c = record { bytes-fit = omega (arith, c .bytes-fit, ap length rows-bytes); tags-fit = omega (arith, c .tags-fit, rows-tags) }
 
   pub rows-fine : n ≤ 64 → n * 4 ≤ length rows → KeysOk cells pairs 0 n → PartsOk part.On rows cells 0 n
   rows-fine l h o = let e = rows-ok cells s h o in record { fits = omega arith; each = λ k b. e .each (0 + k) (omega arith) (omega arith) }
-
-  pub few-taken : n ≤ 64 → takenCount w n < 256
-  few-taken l = rw a (omega arith)
 
 -- ── what is left ────────────────────────────────────────────────────────────────────────────
 
@@ -89,4 +86,4 @@ something-length e h = omega arith
 pub something-written : (e : Expr) {xs o ys : List ℕ} {a m : ℕ} → Laid 0 (bytes 1 1) 1 xs a o → Wrote (exprBytes e) (take (length o - a) (drop a o)) m ys
     → Wrote (condBytes (some e)) xs (a + m) (take a o ++ (ys ++ drop (length o - a) (drop a o)))
 unfolding condBytes
-something-written e l w = after-byte refl (omega arith) l w
+something-written e l w = so (after-count refl l w) (ap (_++ exprBytes e) (byte 1 (omega arith))) refl

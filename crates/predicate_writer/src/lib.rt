@@ -29,12 +29,12 @@ pub fn write_keys(
 {
     key_rows::rows_of(pairs, n, rows);
     let all = writer_parts::everything();
-    let size = writer_parts::counted_size(Part::On, rows, cells, 0, n, all);
+    let size = writer_parts::counted_size(1, Part::On, rows, cells, 0, n, all);
     let needed = size.bytes;
     if needed > out.len() {
         return answers::refuse(13, needed);
     }
-    let length = writer_parts::write_counted(Part::On, rows, cells, 0, n, all, out);
+    let length = writer_parts::write_counted(1, Part::On, rows, cells, 0, n, all, out);
     Answer {
         code: 0,
         length,

@@ -2,7 +2,7 @@
 use mathlib.Core.Path.{_≡_, sym, ap, ap₂, _∙_}
 use mathlib.Core.Bool.{Bool, true, false, _&&_}
 use mathlib.Core.List.{List}
-use Prim.Native.Nat.{ℕ, _+_, _*_, _^_, _<_, _≤_}
+use Prim.Native.Nat.{ℕ, _+_, _^_, _<_, _≤_}
 use native.Mathlib.Omega.{arith}
 use lib.Dec.{eqb}
 use Rattle.cpl.specs.Plan.{Item, Pair, eqP, pair}
@@ -50,43 +50,43 @@ module _ (items : List ℕ) (first count : ℕ) (kept : RequiredIndices) (h : se
 
 -- ── the same fields? ────────────────────────────────────────────────────────────────────────
 
-pub record Alike (s : List ℕ) (top width : ℕ) (kept : RequiredIndices) (k below : ℕ) (input : RequiredIndices) (from at : ℕ) : Type 0 where
+pub record Alike (s : List ℕ) (start width : ℕ) (kept : RequiredIndices) (lower below : ℕ) (input : RequiredIndices) (from at : ℕ) : Type 0 where
   pub upto : from ≤ width
-  pub same : sameB (chosen (fieldAt s) (top * 128) from (requestMask width kept)) (chosen (fieldAt s) (k * 128) at (requestMask below input))
-      ≡ sameB (keptFields s top width kept) (keptFields s k below input)
+  pub same : sameB (chosen (fieldAt s) start from (requestMask width kept)) (chosen (fieldAt s) lower at (requestMask below input))
+      ≡ sameB (keptFields s start width kept) (keptFields s lower below input)
 
-module _ (s : List ℕ) (top width : ℕ) (kept : RequiredIndices) (h : FieldsIn s top width kept) (k below : ℕ) (input : RequiredIndices) (l : FieldsIn s k below input) where
+module _ (s : List ℕ) (start width : ℕ) (kept : RequiredIndices) (h : FieldsIn s start width kept) (lower below : ℕ) (input : RequiredIndices) (l : FieldsIn s lower below input) where
   abbrev whole : Bool
-  whole = sameB (keptFields s top width kept) (keptFields s k below input)
+  whole = sameB (keptFields s start width kept) (keptFields s lower below input)
 
-  pub alike-none : Alike s top width kept k below input 0 0
-  alike-none = record { upto = omega arith; same = ap₂ sameB (chosen-none (fieldAt s) (top * 128) width kept (h .within)) (chosen-none (fieldAt s) (k * 128) below input (l .within)) }
+  pub alike-none : Alike s start width kept lower below input 0 0
+  alike-none = record { upto = omega arith; same = ap₂ sameB (chosen-none (fieldAt s) start width kept (h .within)) (chosen-none (fieldAt s) lower below input (l .within)) }
 
-  module _ (from at : ℕ) (p : Alike s top width kept k below input from at) (out : Next) (g : IsNext (setOf kept) from out) (out₂ : Next) (g₂ : IsNext (setOf input) at out₂) where
+  module _ (from at : ℕ) (p : Alike s start width kept lower below input from at) (out : Next) (g : IsNext (setOf kept) from out) (out₂ : Next) (g₂ : IsNext (setOf input) at out₂) where
     pub both-end : out ≡ Nothing → out₂ ≡ Nothing → true ≡ whole
     unfolding sameB
-    both-end e e₂ = sym (ap₂ sameB (chosen-end (fieldAt s) (top * 128) width kept (h .within) from out g e) (chosen-end (fieldAt s) (k * 128) below input (l .within) at out₂ g₂ e₂)) ∙ p .same
+    both-end e e₂ = sym (ap₂ sameB (chosen-end (fieldAt s) start width kept (h .within) from out g e) (chosen-end (fieldAt s) lower below input (l .within) at out₂ g₂ e₂)) ∙ p .same
 
     pub first-ends : out ≡ Nothing → (j : ℕ) → out₂ ≡ At j → false ≡ whole
     unfolding sameB
-    first-ends e j e₂ = sym (ap₂ sameB (chosen-end (fieldAt s) (top * 128) width kept (h .within) from out g e) (chosen-next (fieldAt s) (k * 128) below input (l .within) at out₂ g₂ j e₂)) ∙ p .same
+    first-ends e j e₂ = sym (ap₂ sameB (chosen-end (fieldAt s) start width kept (h .within) from out g e) (chosen-next (fieldAt s) lower below input (l .within) at out₂ g₂ j e₂)) ∙ p .same
 
     module _ (i : ℕ) (e : out ≡ At i) where
       pub second-ends : out₂ ≡ Nothing → false ≡ whole
       unfolding sameB
-      second-ends e₂ = sym (ap₂ sameB (chosen-next (fieldAt s) (top * 128) width kept (h .within) from out g i e) (chosen-end (fieldAt s) (k * 128) below input (l .within) at out₂ g₂ e₂)) ∙ p .same
+      second-ends e₂ = sym (ap₂ sameB (chosen-next (fieldAt s) start width kept (h .within) from out g i e) (chosen-end (fieldAt s) lower below input (l .within) at out₂ g₂ e₂)) ∙ p .same
 
-      module _ (j : ℕ) (e₂ : out₂ ≡ At j) {q n r m : ℕ} (v : pair q n ≡ fieldAt s (top * 128 + i)) (u : pair r m ≡ fieldAt s (k * 128 + j)) where
+      module _ (j : ℕ) (e₂ : out₂ ≡ At j) {q n r m : ℕ} (v : pair q n ≡ fieldAt s (start + i)) (u : pair r m ≡ fieldAt s (lower + j)) where
         rest : Bool
-        rest = sameB (chosen (fieldAt s) (top * 128) (i + 1) (requestMask width kept)) (chosen (fieldAt s) (k * 128) (j + 1) (requestMask below input))
+        rest = sameB (chosen (fieldAt s) start (i + 1) (requestMask width kept)) (chosen (fieldAt s) lower (j + 1) (requestMask below input))
 
         both : (eqb q r && eqb n m) && rest ≡ whole
         unfolding sameB rest eqP
         both = ap₂ (λ (x y : Pair). eqP x y && rest) v u
-            ∙ sym (ap₂ sameB (chosen-next (fieldAt s) (top * 128) width kept (h .within) from out g i e) (chosen-next (fieldAt s) (k * 128) below input (l .within) at out₂ g₂ j e₂))
+            ∙ sym (ap₂ sameB (chosen-next (fieldAt s) start width kept (h .within) from out g i e) (chosen-next (fieldAt s) lower below input (l .within) at out₂ g₂ j e₂))
             ∙ p .same
 
-        pub alike-more : eqb q r && eqb n m ≡ true → Alike s top width kept k below input (i + 1) (j + 1)
+        pub alike-more : eqb q r && eqb n m ≡ true → Alike s start width kept lower below input (i + 1) (j + 1)
         unfolding rest
         alike-more t = record { upto = omega (arith, found width (setOf kept) (h .within) from out g i e); same = sym (ap (_&& rest) t) ∙ both }
 

@@ -9,7 +9,7 @@ use lib.Count.{ones}
 use lib.ListN.{length}
 use Rattle.cpl.specs.Exprs.{itemTags, planNodes}
 use Rattle.cpl.specs.Fields.{fieldsOf}
-use Rattle.cpl.specs.Limits.{maxItems, maxNodes, maxTags}
+use Rattle.cpl.specs.Limits.{Version, maxNodes, maxTags}
 use Rattle.cpl.specs.Lists.{Fit}
 use Rattle.cpl.specs.Plan.{Catalogue, Item, Pair, Plan, bare, eqP, itemPair, named, projection, unary}
 use Rattle.cpl.specs.Tests.{allB, sumOf}
@@ -157,10 +157,10 @@ module _ {s : List ℕ} {used rec k : ℕ} {asked kept : RequiredIndices} where
 pub items-kept : (s cells : List ℕ) (first count : ℕ) {r : RequiredIndices} {R : Mask} → Asks r R → Fit R (itemsAt s cells first count) → keptItems s cells first count r ≡ select R (itemsAt s cells first count)
 items-kept s cells first count a f = ap (λ (M : Mask). select M (itemsAt s cells first count)) (asked-mask count (sym (items-length s cells first count) ∙ sym (Fit-length f)) a)
 
-pub fields-kept : (s : List ℕ) (k width : ℕ) {r : RequiredIndices} {R : Mask} {fs : List Pair} → rowAt s k width ≡ fs → Asks r R → Fit R fs → keptFields s k width r ≡ select R fs
-fields-kept s k width e a f = ap₂ select (asked-mask width (sym (list-length (fieldAt s) one (k * 128) width) ∙ ap length e ∙ sym (Fit-length f)) a) e
+pub fields-kept : (s : List ℕ) (start width : ℕ) {r : RequiredIndices} {R : Mask} {fs : List Pair} → rowAt s start width ≡ fs → Asks r R → Fit R fs → keptFields s start width r ≡ select R fs
+fields-kept s start width e a f = ap₂ select (asked-mask width (sym (list-length (fieldAt s) one start width) ∙ ap length e ∙ sym (Fit-length f)) a) e
 
-module _ {C : Catalogue} {a : Arrays} {count : ℕ} {fields : List ℕ} {top width k below : ℕ} {is : List Item} {R : Mask} (x : AsColumns C a count fields top width k below is (select R is)) (f : Fit R is) where
+module _ {C : Catalogue} {a : Arrays} {count : ℕ} {fields : List ℕ} {top start width k lower below : ℕ} {is : List Item} {R : Mask} (x : AsColumns C a count fields top start width k lower below is (select R is)) (f : Fit R is) where
   fit-top : Fit R (fieldsOf C (planAt a top))
   fit-top = subst (Fit R) (x .fields-are) (Fit-trans f (Fit-sym (Fit-map itemPair is)))
 
@@ -168,23 +168,23 @@ module _ {C : Catalogue} {a : Arrays} {count : ℕ} {fields : List ℕ} {top wid
   pairs-are = sym (select-map itemPair R is) ∙ ap (select R) (x .fields-are)
 
   same-test : {r : Results} {used m n rec : ℕ} {K : Mask} {kept input : RequiredIndices} → Narrowed C a count r used m n rec k K → Asks input K → Asks kept R
-      → sameColumns (select R is) (fieldsOf C (resultAt C a r rec)) ≡ sameB (keptFields fields top width kept) (keptFields fields k below input)
+      → sameColumns (select R is) (fieldsOf C (resultAt C a r rec)) ≡ sameB (keptFields fields start width kept) (keptFields fields lower below input)
   same-test w b c =
       bare-same (select R is) _ (x .bare)
-      ∙ ap₂ sameB (pairs-are ∙ sym (fields-kept fields top width (x .row) c fit-top)) (w .fields ∙ sym (fields-kept fields k below (x .input-row) b (w .fits)))
+      ∙ ap₂ sameB (pairs-are ∙ sym (fields-kept fields start width (x .row) c fit-top)) (w .fields ∙ sym (fields-kept fields lower below (x .input-row) b (w .fits)))
 
-module _ {s : List ℕ} {used rec : ℕ} {fields : List ℕ} {top width : ℕ} {kept : RequiredIndices} {k below : ℕ} {input : RequiredIndices} where
-  pub columns-stay : true ≡ sameB (keptFields fields top width kept) (keptFields fields k below input) → ProjectionPut s s used rec selection.Columns fields top width kept k below input (Done rec used)
+module _ {s : List ℕ} {used rec : ℕ} {fields : List ℕ} {top start width : ℕ} {kept : RequiredIndices} {lower below : ℕ} {input : RequiredIndices} where
+  pub columns-stay : true ≡ sameB (keptFields fields start width kept) (keptFields fields lower below input) → ProjectionPut s s used rec selection.Columns fields top start width kept lower below input (Done rec used)
   columns-stay e = record {
-    covers = λ C a count items cells m n K R is w b c f x. stays (w .wf) (w .below) (over-no C _ (select R is) (same-test x f w b c ∙ sym e));
+    covers = λ C a count items cells m n k K R is w b c f x. stays (w .wf) (w .below) (over-no C _ (select R is) (same-test x f w b c ∙ sym e));
   }
 
   module _ {s′ : List ℕ} (t : Topped) (room : maxNodes * recordN ≤ length s) where
-    pub columns-put : false ≡ sameB (keptFields fields top width kept) (keptFields fields k below input) → PutIs s s′ used (Columns top rec) (setOf kept) t
-        → ProjectionPut s s′ used rec selection.Columns fields top width kept k below input t
+    pub columns-put : false ≡ sameB (keptFields fields start width kept) (keptFields fields lower below input) → PutIs s s′ used (Columns top rec) (setOf kept) t
+        → ProjectionPut s s′ used rec selection.Columns fields top start width kept lower below input t
     unfolding planNodes
     columns-put e d = record {
-      covers = λ C a count items cells m n K R is w b c f x.
+      covers = λ C a count items cells m n k K R is w b c f x.
           let p : Plan = resultAt C a (results s items cells) rec in
           let o = over-yes C p (select R is) (same-test x f w b c ∙ sym e) in
           let g = bare-list (select R is) (x .bare) ∙ ap (map bare) (pairs-are x f) in
@@ -192,10 +192,10 @@ module _ {s : List ℕ} {used rec : ℕ} {fields : List ℕ} {top width : ℕ} {
           (columns-are _ p c (fit-top x f) ∙ ap (λ (js : List Item). unary (projection js) p) (sym g) ∙ sym o) (ap planNodes o) t d;
     }
 
-    pub items-put : {row size : ℕ} (set : ℕ) → PutIs s s′ used (Items row size rec) set t → ProjectionPut s s′ used rec (selection.Items row size) fields top width kept k below input t
+    pub items-put : {row size : ℕ} (set : ℕ) → PutIs s s′ used (Items row size rec) set t → ProjectionPut s s′ used rec (selection.Items row size) fields top start width kept lower below input t
     unfolding planNodes
     items-put {row} {size} set d = record {
-      covers = λ C a count items cells m n K R is w b c f x.
+      covers = λ C a count items cells m n k K R is w b c f x.
           let p : Plan = resultAt C a (results s items cells) rec in
           let y = x .held in
           let o = over-yes C p (select R is) (named-differ (select R is) _ (x .named)) in
@@ -215,13 +215,13 @@ select-sum g (true ∷ R) (x ∷ xs) = omega (arith, select-sum g R xs)
 select-sum g (false ∷ R) (x ∷ xs) = omega (arith, select-sum g R xs)
 
 -- kept items that were copied
-pub copies-held : {js : List Item} {row n : ℕ} {rows cells : List ℕ} {used more : ℕ} {rows′ cells′ : List ℕ} (s : List ℕ) → Copies js row n rows cells used more rows′ cells′
-    → length js ≤ maxItems → sumOf itemTags js ≤ maxTags → Held (results s rows′ cells′) (row + n) more row n js
-copies-held s d f t = record { means = d .listing .means; rows = d .listing .ok; used = omega arith; roots = d .listing .below; few = omega (arith, d .long, f); tags = t }
+pub copies-held : (v : Version) {js : List Item} {row n : ℕ} {rows cells : List ℕ} {used more : ℕ} {rows′ cells′ : List ℕ} (s : List ℕ) → Copies js row n rows cells used more rows′ cells′
+    → length js ≤ v .maxItems → sumOf itemTags js ≤ maxTags → Held v (results s rows′ cells′) (row + n) more row n js
+copies-held v s d f t = record { means = d .listing .means; rows = d .listing .ok; used = omega arith; roots = d .listing .below; few = omega (arith, d .long, f); tags = t }
 
-module _ {r : Results} {m n row count : ℕ} {js : List Item} (y : Held r m n row count js) where
+module _ {v : Version} {r : Results} {m n row count : ℕ} {js : List Item} (y : Held v r m n row count js) where
   -- what is appended leaves them
-  pub held-grown : {used : ℕ} {r′ : Results} → Grown used m n r r′ → Held r′ m n row count js
+  pub held-grown : {used : ℕ} {r′ : Results} → Grown used m n r r′ → Held v r′ m n row count js
   held-grown g = record {
     means = kept-items m n (g .items) (g .cells) row count (y .used) (y .roots) ∙ y .means;
     rows = kept-rows m n (g .items) (g .cells) row count (y .used) (y .roots) (y .rows);
@@ -232,5 +232,5 @@ module _ {r : Results} {m n row count : ℕ} {js : List Item} (y : Held r m n ro
   }
 
   -- more rows and nodes in use
-  pub held-more : (m′ n′ : ℕ) → m ≤ m′ → n ≤ n′ → Held r m′ n′ row count js
+  pub held-more : (m′ n′ : ℕ) → m ≤ m′ → n ≤ n′ → Held v r m′ n′ row count js
   held-more m′ n′ p q = record { means = y .means; rows = y .rows; used = omega (arith, y .used); roots = λ j b d. omega (arith, y .roots j b d); few = y .few; tags = y .tags }

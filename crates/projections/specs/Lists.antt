@@ -29,20 +29,20 @@ sameB [] (g ∷ gs) = false
 sameB (f ∷ fs) [] = false
 sameB (f ∷ fs) (g ∷ gs) = eqP f g && sameB fs gs
 
--- the kept items of a list, and the kept fields of node k
+-- the kept items of a list, and the kept fields of a row
 abbrev pub keptItems : (items cells : List ℕ) (first count : ℕ) → RequiredIndices → List Item
 keptItems s cells f n r = select (requestMask n r) (itemsAt s cells f n)
 
-abbrev pub keptFields : (fields : List ℕ) (k width : ℕ) → RequiredIndices → List Pair
-keptFields s k w r = select (requestMask w r) (rowAt s k w)
+abbrev pub keptFields : (fields : List ℕ) (start width : ℕ) → RequiredIndices → List Pair
+keptFields s f w r = select (requestMask w r) (rowAt s f w)
 
 -- whatever cells the rows belong to
 pub record AllBare (items : List ℕ) (first count : ℕ) (kept : RequiredIndices) (r : Bool) : Type 0 where
   pub is : (cells : List ℕ) → r ≡ allB isBare (keptItems items cells first count kept)
 
 -- the fields lie in the array, and no index is past them
-pub record FieldsIn (fields : List ℕ) (k width : ℕ) (r : RequiredIndices) : Type 0 where
-  pub inside : RowIn fields k width
+pub record FieldsIn (fields : List ℕ) (start width : ℕ) (r : RequiredIndices) : Type 0 where
+  pub inside : RowIn fields start width
   pub within : setOf r < 2 ^ width
 
 -- ── copies ──────────────────────────────────────────────────────────────────────────────────

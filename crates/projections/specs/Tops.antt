@@ -5,7 +5,7 @@ use mathlib.Core.List.{List, map}
 use Prim.Native.Nat.{ℕ, _+_, _<_, _≤_}
 use Rattle.cpl.specs.Exprs.{itemTags, planNodes}
 use Rattle.cpl.specs.Fields.{fieldsOf}
-use Rattle.cpl.specs.Limits.{maxItems, maxNodes, maxTags}
+use Rattle.cpl.specs.Limits.{Version, maxNodes, maxTags}
 use Rattle.cpl.specs.Lists.{Fit}
 use Rattle.cpl.specs.Plan.{Catalogue, Item, Plan, itemPair}
 use Rattle.cpl.specs.Tests.{allB, sumOf}
@@ -41,12 +41,12 @@ pub record Narrowed (C : Catalogue) (a : Arrays) (count : ℕ) (r : Results) (us
   pub fields : fieldsOf C (resultAt C a r rec) ≡ select K (fieldsOf C (planAt a k))
 
 -- items that stand in the result's own rows, with all that a record of them needs
-pub record Held (r : Results) (m n row count : ℕ) (js : List Item) : Type 0 where
+pub record Held (v : Version) (r : Results) (m n row count : ℕ) (js : List Item) : Type 0 where
   pub means : itemsAt (r .items) (r .cells) row count ≡ js
   pub rows : RowsOk (r .items) (r .cells) row count
   pub used : row + count ≤ m
   pub roots : (j : ℕ) → row ≤ j → j < row + count → rootAt (r .items) j < n
-  pub few : count ≤ maxItems
+  pub few : count ≤ v .maxItems
   pub tags : sumOf itemTags js ≤ maxTags
 
 -- ── after ───────────────────────────────────────────────────────────────────────────────────
@@ -79,24 +79,25 @@ pub record ToppedUp (s s′ : List ℕ) (used rec k : ℕ) (asked kept : Require
       → Narrowed C a count (results s items cells) used m n rec k K → Asks kept K → Asks asked Q → Fit Q (fieldsOf C (planAt a k))
       → Covers C a count s s′ items cells used m n rec (topUp C (fieldsOf C (planAt a k)) Q) t
 
--- the kept items js of the list `is`: bare columns, the fields of node `top`; or held in the result's rows
-pub record AsColumns (C : Catalogue) (a : Arrays) (count : ℕ) (fields : List ℕ) (top width k below : ℕ) (is js : List Item) : Type 0 where
+-- the kept items js of the list `is`: bare columns, the fields of node `top`; or held in the result's rows. Those fields are `width` from field
+-- `start` on, those of the input, node k, `below` from field `lower` on.
+pub record AsColumns (C : Catalogue) (a : Arrays) (count : ℕ) (fields : List ℕ) (top start width k lower below : ℕ) (is js : List Item) : Type 0 where
   pub bare : allB isBare js ≡ true
   pub node : top < count
   pub fields-are : map itemPair is ≡ fieldsOf C (planAt a top)
-  pub row : rowAt fields top width ≡ fieldsOf C (planAt a top)
-  pub input-row : rowAt fields k below ≡ fieldsOf C (planAt a k)
+  pub row : rowAt fields start width ≡ fieldsOf C (planAt a top)
+  pub input-row : rowAt fields lower below ≡ fieldsOf C (planAt a k)
 
-pub record AsItems (r : Results) (m n row size : ℕ) (js : List Item) : Type 0 where
+pub record AsItems (v : Version) (r : Results) (m n row size : ℕ) (js : List Item) : Type 0 where
   pub named : allB isBare js ≡ false
-  pub held : Held r m n row size js
+  pub held : Held v r m n row size js
 
-abbrev pub ListIs : (C : Catalogue) (a : Arrays) (count : ℕ) (r : Results) (m n : ℕ) (fields : List ℕ) (top width k below : ℕ) (is js : List Item) → Selection → Type 0
-ListIs C a count r m n fields top width k below is js selection.Columns = AsColumns C a count fields top width k below is js
-ListIs C a count r m n fields top width k below is js (selection.Items row size) = AsItems r m n row size js
+abbrev pub ListIs : (C : Catalogue) (a : Arrays) (count : ℕ) (r : Results) (m n : ℕ) (fields : List ℕ) (top start width k lower below : ℕ) (is js : List Item) → Selection → Type 0
+ListIs C a count r m n fields top start width k lower below is js selection.Columns = AsColumns C a count fields top start width k lower below is js
+ListIs C a count r m n fields top start width k lower below is js (selection.Items row size) = AsItems (C .version) r m n row size js
 
-pub record ProjectionPut (s s′ : List ℕ) (used rec : ℕ) (list : Selection) (fields : List ℕ) (top width : ℕ) (kept : RequiredIndices) (k below : ℕ) (input-kept : RequiredIndices) (t : Topped) : Type 0 where
-  pub covers : (C : Catalogue) (a : Arrays) (count : ℕ) (items cells : List ℕ) (m n : ℕ) (K R : Mask) (is : List Item)
+pub record ProjectionPut (s s′ : List ℕ) (used rec : ℕ) (list : Selection) (fields : List ℕ) (top start width : ℕ) (kept : RequiredIndices) (lower below : ℕ) (input-kept : RequiredIndices) (t : Topped) : Type 0 where
+  pub covers : (C : Catalogue) (a : Arrays) (count : ℕ) (items cells : List ℕ) (m n k : ℕ) (K R : Mask) (is : List Item)
       → Narrowed C a count (results s items cells) used m n rec k K → Asks input-kept K → Asks kept R → Fit R is
-      → ListIs C a count (results s items cells) m n fields top width k below is (select R is) list
+      → ListIs C a count (results s items cells) m n fields top start width k lower below is (select R is) list
       → Covers C a count s s′ items cells used m n rec (overChild C (select R is)) t

@@ -37,20 +37,21 @@ pub fn all_bare(items: &[u16], first: usize, count: usize, kept: RequiredIndices
     }
 }
 
-/// Are the fields of node `top` that `kept` has those of node `k` that `input_kept` has, in number and place by place? The fields lie in
-/// the array. Rust: `is_projection_unnecessary`, for a projection of bare columns, whose pairs are the fields of `top`.
+/// Are those of the `width` fields from field `start` on that `kept` has those of the `input_width` from field `lower` on that `input_kept`
+/// has, in number and place by place? The fields lie in the array. Rust: `is_projection_unnecessary`, for a projection of bare columns, whose
+/// pairs are the first ones.
 pub fn is_projection_unnecessary(
     fields: &[u16],
-    top: usize,
+    start: usize,
     width: usize,
     kept: RequiredIndices,
-    k: usize,
+    lower: usize,
     input_width: usize,
     input_kept: RequiredIndices,
 ) -> bool
-    requires { ⌜ FieldsIn (now fields) top width kept ⌝ }
-    requires { ⌜ FieldsIn (now fields) k «input_width» «input_kept» ⌝ }
-    ensures { λ r. ⌜ r ≡ sameB (keptFields (now (fields .entry)) top width kept) (keptFields (now (fields .entry)) k «input_width» «input_kept») ⌝ }
+    requires { ⌜ FieldsIn (now fields) start width kept ⌝ }
+    requires { ⌜ FieldsIn (now fields) lower «input_width» «input_kept» ⌝ }
+    ensures { λ r. ⌜ r ≡ sameB (keptFields (now (fields .entry)) start width kept) (keptFields (now (fields .entry)) lower «input_width» «input_kept») ⌝ }
 {
     let mut from = 0;
     let mut at = 0;
@@ -64,8 +65,8 @@ pub fn is_projection_unnecessary(
         let Next::At(j) = input_kept.next(at) else {
             return false;
         };
-        let f = lookup::field_at(fields, top * 128 + i);
-        let g = lookup::field_at(fields, k * 128 + j);
+        let f = lookup::field_at(fields, start + i);
+        let g = lookup::field_at(fields, lower + j);
         if !((f.qualifier == g.qualifier) & (f.name == g.name)) {
             return false;
         }
@@ -170,8 +171,9 @@ pub enum Selection {
     Items { row: usize, count: usize },
 }
 
-/// The kept items over the rewritten input of node `k`, `record`; or the input alone, where they change nothing. The fields of `top` and of
-/// `k` lie in the array. Rust: the end of `rewrite_projection_given_requirements`.
+/// The kept items over the rewritten input, `record`; or the input alone, where they change nothing. The fields of node `top`, `width` from field
+/// `start` on, and the input's, `input_width` from field `lower` on, lie in the array. Rust: the end of
+/// `rewrite_projection_given_requirements`.
 pub fn put_projection(
     records: &mut [u64],
     used: usize,
@@ -179,20 +181,29 @@ pub fn put_projection(
     list: Selection,
     fields: &[u16],
     top: usize,
+    start: usize,
     width: usize,
     kept: RequiredIndices,
-    k: usize,
+    lower: usize,
     input_width: usize,
     input_kept: RequiredIndices,
 ) -> Topped
     requires { ⌜ maxNodes * recordN ≤ length (now records) ⌝ }
-    requires { ⌜ FieldsIn (now fields) top width kept ⌝ }
-    requires { ⌜ FieldsIn (now fields) k «input_width» «input_kept» ⌝ }
-    ensures { λ r. ⌜ ProjectionPut (now (records .entry)) (now (records .exit)) used «record» list (now (fields .entry)) top width kept k «input_width» «input_kept» r ⌝ }
+    requires { ⌜ FieldsIn (now fields) start width kept ⌝ }
+    requires { ⌜ FieldsIn (now fields) lower «input_width» «input_kept» ⌝ }
+    ensures { λ r. ⌜ ProjectionPut (now (records .entry)) (now (records .exit)) used «record» list (now (fields .entry)) top start width kept lower «input_width» «input_kept» r ⌝ }
 {
     match list {
         Selection::Columns => {
-            if is_projection_unnecessary(fields, top, width, kept, k, input_width, input_kept) {
+            if is_projection_unnecessary(
+                fields,
+                start,
+                width,
+                kept,
+                lower,
+                input_width,
+                input_kept,
+            ) {
                 return Topped::Done { record, used };
             }
             let node = Record::Columns {

@@ -21,6 +21,8 @@ use Rattle.rules.specs.Answer as rules
 use Rattle.rules.specs.Answer.{deliver, finish, judged, large, mergeOf, narrowed, refusal, refused, reply, settingsOk, verdict, written}
 use Rattle.rules.specs.Rewrite.{Walked, rewrite, walk}
 use Rattle.rules.specs.Success.{sourceOf}
+use Rattle.versions.specs.Versions.{versionOf}
+use Rattle.versions.specs.declared.Version.{Version}
 use Rattle.required_indices.specs.Request.{flagOf}
 use Rattle.tree.specs.Tree.{lent, planAt}
 use Rattle.result.specs.Records.{results}
@@ -107,12 +109,12 @@ done-answer C w out e l =
     ap (λ b. deliver (pick b (refused LARGE 0) (narrowed (sourceOf C (w .plan)))) out) (tags-decide w e l)
     ∙ pick-deliver (ltb maxTags (planTags (w .plan))) (sourceOf C (w .plan)) out
 
-module _ {file : List ℕ} {start : ℕ} {cells rows nodes fields widths records items icells : List ℕ} where
-  pub large-ends : {r : Answer} {end : End} (out : List ℕ) → end ≡ Large → (x : Rewritten file start cells rows nodes fields widths records items icells end)
+module _ {file : List ℕ} {version : Version} {start : ℕ} {cells rows nodes fields widths records items icells : List ℕ} where
+  pub large-ends : {r : Answer} {end : End} (out : List ℕ) → end ≡ Large → (x : Rewritten version file start cells rows nodes fields widths records items icells end)
       → Refuses r 12 0 → AnswerIs (deliver (finish (x .standing .C) (x .walked)) out) r out
   large-ends {end = end} out e x h = large-answer (x .standing .C) (x .walked) out (rw e at (x .ends)) h
 
-  module _ {end : End} {rec : ℕ} {v : Used} (e : end ≡ Done rec v) (x : Rewritten file start cells rows nodes fields widths records items icells end) where
+  module _ {end : End} {rec : ℕ} {v : Used} (e : end ≡ Done rec v) (x : Rewritten version file start cells rows nodes fields widths records items icells end) where
     abbrev plan : Plan
     plan = resultAt (x .standing .C) (lent cells rows nodes) (results records items icells) rec
 
@@ -124,9 +126,10 @@ module _ {file : List ℕ} {start : ℕ} {cells rows nodes fields widths records
     few-nodes = let s = ended .0 in omega (arith, s .nodes, s .ready .wf .inside, x .room)
 
     -- the writer can write the plan
-    abbrev pub writes : Writes cells rows nodes fields widths records items icells rec
+    abbrev pub writes : Writes version cells rows nodes fields widths records items icells rec
     writes = let s = ended .0 in record {
       standing = x .standing;
+      version-is = x .version-is;
       used = v .records;
       m = v .rows;
       n = v .cells;
@@ -135,12 +138,12 @@ module _ {file : List ℕ} {start : ℕ} {cells rows nodes fields widths records
       small = omega (arith, ap planNodes (s .plan), few-nodes);
     }
 
-    pub done-ends : {r : Answer} {out′ : List ℕ} (out : List ℕ) → AnswerIs (delivered (planTags plan) (take start file ++ planBytes plan) out) r out′
+    pub done-ends : {r : Answer} {out′ : List ℕ} (out : List ℕ) → AnswerIs (delivered (planTags plan) (take start file ++ planBytes (versionOf version) plan) out) r out′
         → AnswerIs (deliver (finish (x .standing .C) (x .walked)) out) r out′
     done-ends {r} {out′} out h =
         let same = ended .0 .plan in
         subst (λ z. AnswerIs z r out′)
-        (ap (λ bs. delivered (planTags plan) bs out) (x .heads .bytes-are plan)
+        (ap (λ bs. delivered (planTags plan) bs out) (ap (λ v. take start file ++ planBytes v plan) (sym (x .version-is)) ∙ x .heads .bytes-are plan)
         ∙ (ap (λ p. delivered (planTags p) (bytesOf (sourceOf (x .standing .C) p)) out) same
         ∙ sym (done-answer (x .standing .C) (x .walked) out (ended .2) few-nodes))) h
 
@@ -167,16 +170,17 @@ module _ {file : List ℕ} {request : ℕ → List ℕ} {cells rows nodes fields
   -- what the walk leaves is handed on
   abbrev pub handed-on : {s : Settings} {records items icells records′ items′ icells′ : List ℕ} {w : walks.Walked} → AreBytes file
       → (q : Taken file request cells rows nodes fields widths t)
-      → length fields ≡ 65536 → length widths ≡ 256 → length records ≡ 1536 → length items ≡ 16896 → length icells ≡ 12288 → length records′ ≡ 1536
+      → length records ≡ 3328 → length items ≡ 16896 → length icells ≡ 12288 → length records′ ≡ 3328
       → After s cells rows nodes fields widths (results records items icells) (results records′ items′ icells′) 0 (t .set) nothingUsed w
-      → Rewritten file (t .start) cells rows nodes fields widths records′ items′ icells′ (w .end)
-  handed-on {s} {records} {items} {icells} {w = w} b q lf lw lr li lc m a = record {
-    standing = taken-stands q lf lw;
+      → Rewritten (t .version) file (t .start) cells rows nodes fields widths records′ items′ icells′ (w .end)
+  handed-on {s} {records} {items} {icells} {w = w} b q lr li lc m a = record {
+    standing = taken-stands q;
+    version-is = q .plan .version-is;
     heads = taken-heads b q;
     walked = rooted s q;
     kept = w .kept;
     before = results records items icells;
-    ends = a .is (walk-starts q lf lw lr li lc);
+    ends = a .is (walk-starts q lr li lc);
     room = m;
   }
 

@@ -18,28 +18,28 @@ use Rattle.intake.specs.Intake.{Taken}
 use Rattle.intake.specs.declared.Intake.{Intake}
 use Rattle.pruner.specs.Answers.{Heads}
 
-head-bytes : (C : Catalogue) (p : Plan) → bytesOf (sourceOf C p) ≡ (markBytes ++ catalogueBytes C) ++ planBytes p
+head-bytes : (C : Catalogue) (p : Plan) → bytesOf (sourceOf C p) ≡ (markBytes (C .version) ++ catalogueBytes C) ++ planBytes (C .version) p
 unfolding bytesOf
 head-bytes C p = refl
 
 module _ (file : List ℕ) (bytes : AreBytes file) (C : Catalogue) (p : Plan) {start next tags nodes : ℕ}
-    (catalogue : readCatalogue file 5 0 0 ≡ ok C start 0 0) (reads : readFile file ≡ ok (sourceOf C p) next tags nodes) where
-  is-file : file ≡ (markBytes ++ catalogueBytes C) ++ planBytes p
+    (catalogue : readCatalogue (C .version) file 5 0 0 ≡ ok C start 0 0) (reads : readFile file ≡ ok (sourceOf C p) next tags nodes) where
+  is-file : file ≡ (markBytes (C .version) ++ catalogueBytes C) ++ planBytes (C .version) p
   is-file = sym (written-read file bytes (sourceOf C p) next tags nodes reads .same) ∙ head-bytes C p
 
   long : 5 ≤ length file
-  long = omega (arith, ap length is-file, length-append (markBytes ++ catalogueBytes C) (planBytes p), length-append markBytes (catalogueBytes C))
+  long = omega (arith, ap length is-file, length-append (markBytes (C .version) ++ catalogueBytes C) (planBytes (C .version) p), length-append (markBytes (C .version)) (catalogueBytes C))
 
   stood : Stood file 5 0 0 (catalogueBytes C) 0 0 start 0 0
-  stood = found-stood (holds-ok _ catalogue (catalogue-codec .only .found file bytes 5 0 0 long (omega arith) (omega arith)))
+  stood = found-stood (holds-ok _ catalogue (catalogue-codec (C .version) (written-read file bytes (sourceOf C p) next tags nodes reads .writable .tables .version-is) .only .found file bytes 5 0 0 long (omega arith) (omega arith)))
 
-  first-bytes : take start file ≡ markBytes ++ catalogueBytes C
+  first-bytes : take start file ≡ markBytes (C .version) ++ catalogueBytes C
   first-bytes =
-      let e : start ≡ length (markBytes ++ catalogueBytes C) = omega (arith, stood .next, length-append markBytes (catalogueBytes C)) in
-      ap₂ take e is-file ∙ take-append-seam (markBytes ++ catalogueBytes C) (planBytes p)
+      let e : start ≡ length (markBytes (C .version) ++ catalogueBytes C) = omega (arith, stood .next, length-append (markBytes (C .version)) (catalogueBytes C)) in
+      ap₂ take e is-file ∙ take-append-seam (markBytes (C .version) ++ catalogueBytes C) (planBytes (C .version) p)
 
   pub heads : Heads file start C
-  heads = record { inside = stood-inside stood; bytes-are = λ p′. ap (λ xs. xs ++ planBytes p′) first-bytes ∙ sym (head-bytes C p′) }
+  heads = record { inside = stood-inside stood; bytes-are = λ p′. ap (λ xs. xs ++ planBytes (C .version) p′) first-bytes ∙ sym (head-bytes C p′) }
 
 -- of a file that was taken in
 pub taken-heads : {file : List ℕ} {request : ℕ → List ℕ} {cells rows nodes fields widths : List ℕ} {r : Intake} → AreBytes file

@@ -24,7 +24,7 @@ use Rattle.pruner.specs.Answers.{nothingUsed}
 
 module _ {file : List ℕ} {request : ℕ → List ℕ} {cells rows nodes fields widths : List ℕ} {r : Intake}
     (t : Taken file request cells rows nodes fields widths r) where
-  abbrev pub taken-stands : length fields ≡ 65536 → length widths ≡ 256 → Standing cells rows nodes fields widths
+  abbrev pub taken-stands : Standing cells rows nodes fields widths
   taken-stands = standing (t .plan)
 
   -- the fields of the root that are asked for
@@ -32,10 +32,9 @@ module _ {file : List ℕ} {request : ℕ → List ℕ} {cells rows nodes fields
   asked = askedOf (t .plan .C) (rootPlan cells rows nodes) request
 
   -- the walk can start at the root, with nothing in use of the result's arrays
-  abbrev pub walk-starts : {records items icells : List ℕ} → length fields ≡ 65536 → length widths ≡ 256 → length records ≡ 1536 → length items ≡ 16896
-      → length icells ≡ 12288 → Before cells rows nodes fields widths (results records items icells) 0 (r .set) nothingUsed
-  walk-starts {icells = icells} f w lr li lc = record {
-    standing = taken-stands f w;
+  abbrev pub walk-starts : {records items icells : List ℕ} → length records ≡ 3328 → length items ≡ 16896 → length icells ≡ 12288 → Before cells rows nodes fields widths (results records items icells) 0 (r .set) nothingUsed
+  walk-starts {icells = icells} lr li lc = record {
+    standing = taken-stands;
     within = omega (arith, t .plan .whole, nodes-pos (rootPlan cells rows nodes));
     ready = record {
       wf = records.wf-none;
@@ -50,5 +49,5 @@ module _ {file : List ℕ} {request : ℕ → List ℕ} {cells rows nodes fields
 
 -- ── the arrays of merged lists ──────────────────────────────────────────────────────────────
 
-pub scratch : {rows cells : List ℕ} → length rows ≡ 512 → length cells ≡ 12288 → Scratch rows cells
+pub scratch : {rows cells : List ℕ} → length rows ≡ 2048 → length cells ≡ 12288 → Scratch rows cells
 scratch r c = record { rows-long = omega (arith, r); cells-long = omega (arith, c); cells-short = omega (arith, c) }

@@ -13,6 +13,8 @@ use Rattle.rules.specs.Answer as rules
 use Rattle.rules.specs.Rewrite as rewriting
 use Rattle.rules.specs.Success.{sourceOf}
 use Rattle.meaning.specs.Promise.{Promise}
+use Rattle.versions.specs.Versions.{versionOf}
+use Rattle.versions.specs.declared.Version.{Version}
 use Rattle.required_indices.specs.declared.RequiredIndices.{RequiredIndices}
 use Rattle.tree.specs.Tree.{lent}
 use Rattle.lookup.specs.Standing.{Standing}
@@ -35,15 +37,26 @@ delivered tags bytes out = pick (ltb maxTags tags) (rules.refusal LARGE 0 out) (
 -- the first `start` bytes of the file are those that a file with the catalogue C has before its plan
 pub record Heads (file : List ℕ) (start : ℕ) (C : Catalogue) : Type 0 where
   pub inside : start ≤ length file
-  pub bytes-are : (p : Plan) → take start file ++ planBytes p ≡ bytesOf (sourceOf C p)
+  pub bytes-are : (p : Plan) → take start file ++ planBytes (C .version) p ≡ bytesOf (sourceOf C p)
+
+-- the lent arrays of merged lists and of the result have their lengths
+pub record ResultRoom (arows acells brows bcells records items icells : List ℕ) : Type 0 where
+  pub arows-long : length arows ≡ 2048
+  pub acells-long : length acells ≡ 12288
+  pub brows-long : length brows ≡ 2048
+  pub bcells-long : length bcells ≡ 12288
+  pub records-long : length records ≡ 3328
+  pub items-long : length items ≡ 16896
+  pub icells-long : length icells ≡ 12288
 
 -- nothing of the result's arrays is in use
 abbrev pub nothingUsed : Used
 nothingUsed = record { records = 0; rows = 0; cells = 0 }
 
 -- the plan that the walk left: at a record of the result's arrays, which hold 256 of them, or too large
-pub record Rewritten (file : List ℕ) (start : ℕ) (cells rows nodes fields widths records items icells : List ℕ) (end : End) : Type 0 where
+pub record Rewritten (version : Version) (file : List ℕ) (start : ℕ) (cells rows nodes fields widths records items icells : List ℕ) (end : End) : Type 0 where
   pub standing : Standing cells rows nodes fields widths
+  pub version-is : standing .C .version ≡ versionOf version
   pub heads : Heads file start (standing .C)
   pub walked : rewriting.Walked
   pub kept : RequiredIndices

@@ -1,7 +1,7 @@
 //! pruner: the public entries. A plan file and a request in, a narrowed plan file or a refusal out.
 //!
-//! `prune` and `prune_all` make the arrays that a plan is read into and rewritten in; `prune_in` is lent them, and says nothing of what they held or
-//! hold.
+//! `prune` and `prune_all` make the arrays that a plan is read into and rewritten in, as long as the file's version needs them; `prune_in` is lent them,
+//! and says nothing of what they held or hold.
 ghost use mathlib.Core.Path.{_≡_};
 ghost use mathlib.Core.List.{_++_};
 ghost use Prim.Native.Nat.{_≤_};
@@ -11,16 +11,20 @@ ghost use Rattle.cpl.specs.Exprs.{planTags};
 ghost use Rattle.cpl.specs.Tests.{iota};
 ghost use Rattle.rules.specs.Answer as rules;
 ghost use Rattle.answers.specs.Answers.{AnswerIs};
+ghost use Rattle.versions.specs.Versions.{versionOf};
 ghost use Rattle.intake.specs.Intake.{wanted};
 ghost use Rattle.writer.specs.Plans.{Writes, planOf};
-ghost use Rattle.pruner.specs.Answers.{Promised, Rewritten, delivered};
+ghost use Rattle.acceptance.specs.Readings.{Narrow, Room};
+ghost use Rattle.pruner.specs.Answers.{Promised, ResultRoom, Rewritten, delivered};
 use answers::Answer;
 use optimize_projections::Settings;
+use versions::Version;
 use walk_steps::End;
 use walk_steps::Used;
 
 // The plan of a record, after the first `start` bytes of the file: counted, and written where it fits.
 fn write_out(
+    version: Version,
     file: &[u8],
     start: usize,
     cells: &[u64],
@@ -35,10 +39,11 @@ fn write_out(
     out: &mut [u8],
 ) -> Answer
     requires { ⌜ start ≤ length (now file) ⌝ }
-    requires { ⌜ Writes (now cells) (now rows) (now nodes) (now fields) (now widths) (now records) (now items) (now icells) root ⌝ }
-    ensures { λ r. ⌜ ((w : Writes (now (cells .entry)) (now (rows .entry)) (now (nodes .entry)) (now (fields .entry)) (now (widths .entry)) (now (records .entry)) (now (items .entry)) (now (icells .entry)) root) → AnswerIs (delivered (planTags (planOf w)) (take start (now (file .entry)) ++ planBytes (planOf w)) (now (out .entry))) r (now (out .exit))) ⌝ }
+    requires { ⌜ Writes version (now cells) (now rows) (now nodes) (now fields) (now widths) (now records) (now items) (now icells) root ⌝ }
+    ensures { λ r. ⌜ ((w : Writes version (now (cells .entry)) (now (rows .entry)) (now (nodes .entry)) (now (fields .entry)) (now (widths .entry)) (now (records .entry)) (now (items .entry)) (now (icells .entry)) root) → AnswerIs (delivered (planTags (planOf w)) (take start (now (file .entry)) ++ planBytes (versionOf version) (planOf w)) (now (out .entry))) r (now (out .exit))) ⌝ }
 {
     let size = writer::node_size(
+        version,
         cells,
         rows,
         nodes,
@@ -57,6 +62,7 @@ fn write_out(
         return answers::refuse(13, needed);
     }
     let length = writer::write_plan(
+        version,
         file,
         start,
         cells,
@@ -79,6 +85,7 @@ fn write_out(
 
 // What the walk left: too large, or a plan to be written.
 fn deliver(
+    version: Version,
     file: &[u8],
     start: usize,
     cells: &[u64],
@@ -92,8 +99,8 @@ fn deliver(
     end: End,
     out: &mut [u8],
 ) -> Answer
-    requires { ⌜ Rewritten (now file) start (now cells) (now rows) (now nodes) (now fields) (now widths) (now records) (now items) (now icells) end ⌝ }
-    ensures { λ r. ⌜ ((x : Rewritten (now (file .entry)) start (now (cells .entry)) (now (rows .entry)) (now (nodes .entry)) (now (fields .entry)) (now (widths .entry)) (now (records .entry)) (now (items .entry)) (now (icells .entry)) end) → AnswerIs (rules.deliver (rules.finish (x .standing .C) (x .walked)) (now (out .entry))) r (now (out .exit))) ⌝ }
+    requires { ⌜ Rewritten version (now file) start (now cells) (now rows) (now nodes) (now fields) (now widths) (now records) (now items) (now icells) end ⌝ }
+    ensures { λ r. ⌜ ((x : Rewritten version (now (file .entry)) start (now (cells .entry)) (now (rows .entry)) (now (nodes .entry)) (now (fields .entry)) (now (widths .entry)) (now (records .entry)) (now (items .entry)) (now (icells .entry)) end) → AnswerIs (rules.deliver (rules.finish (x .standing .C) (x .walked)) (now (out .entry))) r (now (out .exit))) ⌝ }
 {
     let End::Done {
         record: root,
@@ -103,6 +110,7 @@ fn deliver(
         return answers::refuse(12, 0);
     };
     write_out(
+        version,
         file,
         start,
         cells,
@@ -118,28 +126,30 @@ fn deliver(
     )
 }
 
-/// The answer to a request of `all` fields or of those of the list, worked out in lent arrays.
-pub fn prune_in(
+// The answer to a request of `all` fields or of those of the list, worked out in lent arrays that are long enough for the file's version.
+fn prune_over(
     mode: u8,
     mask: u16,
     all: bool,
     file: &[u8],
     request: &[u16],
     out: &mut [u8],
-    cells: &mut [u64; 12288],
-    rows: &mut [u16; 409728],
-    nodes: &mut [u64; 1792],
-    names: &mut [u16; 1040],
-    fields: &mut [u16; 65536],
-    widths: &mut [u64; 256],
-    arows: &mut [u16; 512],
-    acells: &mut [u64; 12288],
-    brows: &mut [u16; 512],
-    bcells: &mut [u64; 12288],
-    records: &mut [u64; 1536],
-    items: &mut [u16; 16896],
-    icells: &mut [u64; 12288],
+    cells: &mut [u64],
+    rows: &mut [u16],
+    nodes: &mut [u64],
+    names: &mut [u16],
+    fields: &mut [u16],
+    widths: &mut [u64],
+    arows: &mut [u16],
+    acells: &mut [u64],
+    brows: &mut [u16],
+    bcells: &mut [u64],
+    records: &mut [u64],
+    items: &mut [u16],
+    icells: &mut [u64],
 ) -> Answer
+    requires { ⌜ Room (now file) (now cells) (now rows) (now nodes) (now names) (now fields) (now widths) ⌝ }
+    requires { ⌜ ResultRoom (now arows) (now acells) (now brows) (now bcells) (now records) (now items) (now icells) ⌝ }
     ensures { λ r. ⌜ AnswerIs (rules.reply mode mask (now (file .entry)) (wanted all (now (request .entry))) (now (out .entry))) r (now (out .exit)) ⌝ }
     ensures { λ r. ⌜ Promised mode mask (now (file .entry)) (wanted all (now (request .entry))) (now (out .entry)) (r .code) ⌝ }
 {
@@ -193,6 +203,7 @@ pub fn prune_in(
     );
     let end = w.end;
     deliver(
+        t.version,
         file,
         t.start,
         cells,
@@ -208,8 +219,56 @@ pub fn prune_in(
     )
 }
 
-// The same in arrays of its own.
-fn prune_alone(
+/// The answer to a request of `all` fields or of those of the list, worked out in lent arrays.
+pub fn prune_in(
+    mode: u8,
+    mask: u16,
+    all: bool,
+    file: &[u8],
+    request: &[u16],
+    out: &mut [u8],
+    cells: &mut [u64; 12288],
+    rows: &mut [u16; 1065088],
+    nodes: &mut [u64; 1792],
+    names: &mut [u16; 8208],
+    fields: &mut [u16; 262144],
+    widths: &mut [u64; 512],
+    arows: &mut [u16; 2048],
+    acells: &mut [u64; 12288],
+    brows: &mut [u16; 2048],
+    bcells: &mut [u64; 12288],
+    records: &mut [u64; 3328],
+    items: &mut [u16; 16896],
+    icells: &mut [u64; 12288],
+) -> Answer
+    ensures { λ r. ⌜ AnswerIs (rules.reply mode mask (now (file .entry)) (wanted all (now (request .entry))) (now (out .entry))) r (now (out .exit)) ⌝ }
+    ensures { λ r. ⌜ Promised mode mask (now (file .entry)) (wanted all (now (request .entry))) (now (out .entry)) (r .code) ⌝ }
+{
+    prune_over(
+        mode,
+        mask,
+        all,
+        file,
+        request,
+        out,
+        cells,
+        rows,
+        nodes,
+        names,
+        fields,
+        widths,
+        arows,
+        acells,
+        brows,
+        bcells,
+        records,
+        items,
+        icells,
+    )
+}
+
+// The same in arrays of its own, for every file. None are made for a setting that is refused.
+fn prune_wide(
     mode: u8,
     mask: u16,
     all: bool,
@@ -220,20 +279,75 @@ fn prune_alone(
     ensures { λ r. ⌜ AnswerIs (rules.reply mode mask (now (file .entry)) (wanted all (now (request .entry))) (now (out .entry))) r (now (out .exit)) ⌝ }
     ensures { λ r. ⌜ Promised mode mask (now (file .entry)) (wanted all (now (request .entry))) (now (out .entry)) (r .code) ⌝ }
 {
+    if mode > 1 {
+        return answers::refuse(1, 0);
+    }
+    if mask > 4095 {
+        return answers::refuse(1, 0);
+    }
     let mut cells = [0u64; 12288];
-    let mut rows = [0u16; 409728];
+    let mut rows = [0u16; 1065088];
     let mut nodes = [0u64; 1792];
-    let mut names = [0u16; 1040];
-    let mut fields = [0u16; 65536];
-    let mut widths = [0u64; 256];
-    let mut arows = [0u16; 512];
+    let mut names = [0u16; 8208];
+    let mut fields = [0u16; 262144];
+    let mut widths = [0u64; 512];
+    let mut arows = [0u16; 2048];
     let mut acells = [0u64; 12288];
-    let mut brows = [0u16; 512];
+    let mut brows = [0u16; 2048];
     let mut bcells = [0u64; 12288];
-    let mut records = [0u64; 1536];
+    let mut records = [0u64; 3328];
     let mut items = [0u16; 16896];
     let mut icells = [0u64; 12288];
     prune_in(
+        mode,
+        mask,
+        all,
+        file,
+        request,
+        out,
+        &mut cells,
+        &mut rows,
+        &mut nodes,
+        &mut names,
+        &mut fields,
+        &mut widths,
+        &mut arows,
+        &mut acells,
+        &mut brows,
+        &mut bcells,
+        &mut records,
+        &mut items,
+        &mut icells,
+    )
+}
+
+// The same in arrays of its own, for a file whose nodes have at most 128 fields.
+fn prune_narrow(
+    mode: u8,
+    mask: u16,
+    all: bool,
+    file: &[u8],
+    request: &[u16],
+    out: &mut [u8],
+) -> Answer
+    requires { ⌜ Narrow (now file) ⌝ }
+    ensures { λ r. ⌜ AnswerIs (rules.reply mode mask (now (file .entry)) (wanted all (now (request .entry))) (now (out .entry))) r (now (out .exit)) ⌝ }
+    ensures { λ r. ⌜ Promised mode mask (now (file .entry)) (wanted all (now (request .entry))) (now (out .entry)) (r .code) ⌝ }
+{
+    let mut cells = [0u64; 12288];
+    let mut rows = [0u16; 278656];
+    let mut nodes = [0u64; 1792];
+    let mut names = [0u16; 8208];
+    let mut fields = [0u16; 65536];
+    let mut widths = [0u64; 512];
+    let mut arows = [0u16; 2048];
+    let mut acells = [0u64; 12288];
+    let mut brows = [0u16; 2048];
+    let mut bcells = [0u64; 12288];
+    let mut records = [0u64; 3328];
+    let mut items = [0u16; 16896];
+    let mut icells = [0u64; 12288];
+    prune_over(
         mode,
         mask,
         all,
@@ -264,7 +378,10 @@ pub fn prune(mode: u8, mask: u16, file: &[u8], request: &[u16], out: &mut [u8]) 
     ensures { λ r. ⌜ AnswerIs (rules.answer mode mask (now (file .entry)) (now (request .entry)) (now (out .entry))) r (now (out .exit)) ⌝ }
     ensures { λ r. ⌜ Promised mode mask (now (file .entry)) (λ width. now (request .entry)) (now (out .entry)) (r .code) ⌝ }
 {
-    prune_alone(mode, mask, false, file, request, out)
+    if acceptance::is_narrow(file) {
+        return prune_narrow(mode, mask, false, file, request, out);
+    }
+    prune_wide(mode, mask, false, file, request, out)
 }
 
 /// The same with every field of the root requested.
@@ -273,5 +390,8 @@ pub fn prune_all(mode: u8, mask: u16, file: &[u8], out: &mut [u8]) -> Answer
     ensures { λ r. ⌜ Promised mode mask (now (file .entry)) (λ width. iota 0 width) (now (out .entry)) (r .code) ⌝ }
 {
     let nothing = [0u16; 1];
-    prune_alone(mode, mask, true, file, &nothing, out)
+    if acceptance::is_narrow(file) {
+        return prune_narrow(mode, mask, true, file, &nothing, out);
+    }
+    prune_wide(mode, mask, true, file, &nothing, out)
 }

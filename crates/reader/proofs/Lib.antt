@@ -1,5 +1,7 @@
 -- What is proved of the reader of plan files.
 pub mod Names
+pub mod Keys
+pub mod Rooms
 pub mod Sizes
 pub mod Plans
 pub mod Files

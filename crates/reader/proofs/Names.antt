@@ -6,13 +6,14 @@ use native.Mathlib.Omega.{arith}
 use native.Mathlib.Numerals.{sub-one}
 use lib.ListN.{length, getD, set}
 use lib.Seq.{getD-set-same, getD-set-other}
-use Rattle.cpl.specs.Limits.{maxColumns}
-use Rattle.cpl.specs.Plan.{Catalogue}
+use Rattle.cpl.specs.Limits.{Version}
+use Rattle.cpl.specs.Plan.{TableKey, Catalogue}
+use Rattle.cpl.proofs.Codec.{Holds, holds-then, holds-ok}
 use Rattle.cpl.specs.Read.{Res, ok, bad, Reader, nonzero, any, count, times, counted}
 use Rattle.reader_heads.specs.Heads.{Widths}
 use Rattle.reader_parts.proofs.Compose.{times-more, times-bad}
 use Rattle.reader_parts.proofs.Counts.{counted-few}
-use Rattle.reader.specs.Tables.{namesAt, tableAt, tablesAt, catalogueAt, Kept, readTable, NextIs}
+use Rattle.reader.specs.Tables.{namesAt, tableAt, tablesAt, Kept, readTable, NextIs}
 use Rattle.reader.specs.declared.Next.{Next}
 use Rattle.reader.specs.declared.Next.the-variants.{At, Bad}
 
@@ -61,41 +62,41 @@ module _ (file : List ℕ) (at n slot : ℕ) (names : List ℕ) (some : n ≡ 0 
 
 -- ── tables ──────────────────────────────────────────────────────────────────────────────────
 
-pub table-right : (file : List ℕ) (at t : ℕ) (names : List ℕ) {n next : ℕ} → ((tags m : ℕ) → count any maxColumns file at tags m ≡ ok n next tags m) → 65 * t < length names → (names′ : List ℕ) (r : Next) →
-    NextIs (times n (nonzero 2)) file next (namesAt names′ (65 * t + 1) n) (65 * t + 1) (set names (65 * t) n) names′ r → NextIs readTable file at (tableAt names′ t) (65 * t) names names′ r
+pub table-right : (v : Version) (file : List ℕ) (at t : ℕ) (names : List ℕ) {n next : ℕ} → ((tags m : ℕ) → count (v .wide) any (v .maxColumns) file at tags m ≡ ok n next tags m) → 513 * t < length names → (names′ : List ℕ) (r : Next) →
+    NextIs (times n (nonzero 2)) file next (namesAt names′ (513 * t + 1) n) (513 * t + 1) (set names (513 * t) n) names′ r → NextIs (readTable v) file at (tableAt names′ t) (513 * t) names names′ r
 unfolding counted tableAt
-table-right file at t names {n} {next} e l names′ (At end) h =
-    let first : getD names′ (65 * t) 0 ≡ n = h .1 (65 * t) (omega arith) ∙ getD-set-same names (65 * t) n 0 l in
-    (λ tags m. rw (first, e tags m) (h .0 tags m), λ i g. h .1 i (omega arith) ∙ getD-set-other names (65 * t) i n 0 (λ z. omega arith))
-table-right file at t names {n} {next} e l names′ (Bad code place) h = λ tags m. rw (e tags m) (h tags m)
+table-right v file at t names {n} {next} e l names′ (At end) h =
+    let first : getD names′ (513 * t) 0 ≡ n = h .1 (513 * t) (omega arith) ∙ getD-set-same names (513 * t) n 0 l in
+    (λ tags m. rw (first, e tags m) (h .0 tags m), λ i g. h .1 i (omega arith) ∙ getD-set-other names (513 * t) i n 0 (λ z. omega arith))
+table-right v file at t names {n} {next} e l names′ (Bad code place) h = λ tags m. rw (e tags m) (h tags m)
 
 tables-more : (names : List ℕ) (t k : ℕ) → (k ≡ 0 → ⊥) → tablesAt names t k ≡ tableAt names t ∷ tablesAt names (t + 1) (k - 1)
 unfolding tablesAt
 tables-more names t zero h = absurd (h refl)
 tables-more names t (suc k) h = rw (sub-one (suc k))
 
-pub tables-none : (file : List ℕ) (at n t : ℕ) (names : List ℕ) → n ≡ 0 → NextIs (times n readTable) file at (tablesAt names t n) (65 * t) names names (At at)
+pub tables-none : (v : Version) (file : List ℕ) (at n t : ℕ) (names : List ℕ) → n ≡ 0 → NextIs (times n (readTable v)) file at (tablesAt names t n) (513 * t) names names (At at)
 unfolding times tablesAt
-tables-none file at n t names e = rw e (λ tags m. refl, λ i h. refl)
+tables-none v file at n t names e = rw e (λ tags m. refl, λ i h. refl)
 
-table-kept : (names names′ : List ℕ) (t : ℕ) → getD names (65 * t) 0 ≤ 64 → Kept (65 * (t + 1)) names names′ → tableAt names′ t ≡ tableAt names t
+table-kept : (names names′ : List ℕ) (t : ℕ) → getD names (513 * t) 0 ≤ 512 → Kept (513 * (t + 1)) names names′ → tableAt names′ t ≡ tableAt names t
 unfolding tableAt
-table-kept names names′ t l h = rw (h (65 * t) (omega arith)) (names-kept names names′ (65 * (t + 1)) (65 * t + 1) (getD names (65 * t) 0) h (omega arith))
+table-kept names names′ t l h = rw (h (513 * t) (omega arith)) (names-kept names names′ (513 * (t + 1)) (513 * t + 1) (getD names (513 * t) 0) h (omega arith))
 
-table-few : (file : List ℕ) (at next t : ℕ) (names : List ℕ) → ((tags m : ℕ) → readTable file at tags m ≡ ok (tableAt names t) next tags m) → getD names (65 * t) 0 ≤ 64
+table-few : (v : Version) → v .maxColumns ≤ 512 → (file : List ℕ) (at next t : ℕ) (names : List ℕ) → ((tags m : ℕ) → readTable v file at tags m ≡ ok (tableAt names t) next tags m) → getD names (513 * t) 0 ≤ 512
 unfolding tableAt
-table-few file at next t names e = omega (arith, counted-few any maxColumns file (nonzero 2) at 0 0 (e 0 0), names-length names (65 * t + 1) (getD names (65 * t) 0))
+table-few v l file at next t names e = omega (arith, counted-few (v .wide) any (v .maxColumns) file (nonzero 2) at 0 0 (e 0 0), names-length names (513 * t + 1) (getD names (513 * t) 0))
 
-module _ (file : List ℕ) (at n t : ℕ) (some : n ≡ 0 → ⊥) where
-  pub tables-bad : {code place : ℕ} → ((tags m : ℕ) → readTable file at tags m ≡ bad code place) → (tags m : ℕ) → times n readTable file at tags m ≡ bad code place
-  tables-bad e tags m = times-bad readTable file at tags m n some (e tags m)
+module _ (v : Version) (file : List ℕ) (at n t : ℕ) (some : n ≡ 0 → ⊥) where
+  pub tables-bad : {code place : ℕ} → ((tags m : ℕ) → readTable v file at tags m ≡ bad code place) → (tags m : ℕ) → times n (readTable v) file at tags m ≡ bad code place
+  tables-bad e tags m = times-bad (readTable v) file at tags m n some (e tags m)
 
-  pub tables-right : (names names′ names″ : List ℕ) (next : ℕ) → NextIs readTable file at (tableAt names′ t) (65 * t) names names′ (At next) → (r : Next) →
-      NextIs (times (n - 1) readTable) file next (tablesAt names″ (t + 1) (n - 1)) (65 * (t + 1)) names′ names″ r → NextIs (times n readTable) file at (tablesAt names″ t n) (65 * t) names names″ r
-  tables-right names names′ names″ next e (At end) h =
-      let first : tableAt names″ t ≡ tableAt names′ t = table-kept names′ names″ t (table-few file at next t names′ (e .0)) (h .1) in
-      (λ tags m. rw (tables-more names″ t n some, first) (times-cons readTable file at tags m n some (e .0 tags m) (h .0 tags m)), λ i g. h .1 i (omega arith) ∙ e .1 i g)
-  tables-right names names′ names″ next e (Bad code place) h = λ tags m. times-rest-bad readTable file at tags m n some (e .0 tags m) (h tags m)
+  pub tables-right : v .maxColumns ≤ 512 → (names names′ names″ : List ℕ) (next : ℕ) → NextIs (readTable v) file at (tableAt names′ t) (513 * t) names names′ (At next) → (r : Next) →
+      NextIs (times (n - 1) (readTable v)) file next (tablesAt names″ (t + 1) (n - 1)) (513 * (t + 1)) names′ names″ r → NextIs (times n (readTable v)) file at (tablesAt names″ t n) (513 * t) names names″ r
+  tables-right l names names′ names″ next e (At end) h =
+      let first : tableAt names″ t ≡ tableAt names′ t = table-kept names′ names″ t (table-few v l file at next t names′ (e .0)) (h .1) in
+      (λ tags m. rw (tables-more names″ t n some, first) (times-cons (readTable v) file at tags m n some (e .0 tags m) (h .0 tags m)), λ i g. h .1 i (omega arith) ∙ e .1 i g)
+  tables-right l names names′ names″ next e (Bad code place) h = λ tags m. times-rest-bad (readTable v) file at tags m n some (e .0 tags m) (h tags m)
 
 -- the catalogue is as wide as its names say
 tables-length : (names : List ℕ) (t k : ℕ) → length (tablesAt names t k) ≡ k
@@ -109,13 +110,48 @@ tables-get names t zero i h = absurd (omega arith)
 tables-get names t (suc k) zero h = ap (tableAt names) (omega arith)
 tables-get names t (suc k) (suc i) h = tables-get names (t + 1) k i (omega arith) ∙ ap (tableAt names) (omega arith)
 
-pub widths : (names : List ℕ) (tables : ℕ) → Widths names tables (catalogueAt names tables)
+-- the catalogue of so many tables, in a version and with keys
+abbrev pub catalogueAt : Version → (names : List ℕ) → (tables : ℕ) → List TableKey → Catalogue
+catalogueAt v names tables ks = record { version = v; tables = tablesAt names 0 tables; keys = ks }
+
+pub widths : (v : Version) (names : List ℕ) (tables : ℕ) (ks : List TableKey) → Widths names tables (catalogueAt v names tables ks)
 unfolding tableAt
-widths names tables =
+widths v names tables ks =
     record {
       count = tables-length names 0 tables;
-      columns = λ t h. ap length (tables-get names 0 tables t h ∙ ap (tableAt names) (zero-more t)) ∙ names-length names (65 * t + 1) (getD names (65 * t) 0);
+      columns = λ t h. ap length (tables-get names 0 tables t h ∙ ap (tableAt names) (zero-more t)) ∙ names-length names (513 * t + 1) (getD names (513 * t) 0);
     }
   where
     zero-more : (t : ℕ) → 0 + t ≡ t
     zero-more t = omega arith
+
+-- no table has more columns than the version allows
+few-holds : (v : Version) (file : List ℕ) (at tags n : ℕ) → Holds (λ xs a t m. length xs ≤ v .maxColumns) (readTable v file at tags n)
+few-holds v file at tags n = go (readTable v file at tags n) refl
+  where
+    go : (r : Res (List ℕ)) → readTable v file at tags n ≡ r → Holds (λ (xs : List ℕ) a t m. length xs ≤ v .maxColumns) r
+    go (ok xs a t m) e = counted-few (v .wide) any (v .maxColumns) file (nonzero 2) at tags n e
+    go (bad code place) e = tt
+
+-- the list at each place is not longer
+Short : (most : ℕ) → List (List ℕ) → Type 0
+Short most ts = (i : ℕ) → i < length ts → length (getD ts i []) ≤ most
+
+short-more : (most : ℕ) (xs : List ℕ) (ts : List (List ℕ)) → length xs ≤ most → Short most ts → Short most (xs ∷ ts)
+unfolding Short
+short-more most xs ts h g zero l = h
+short-more most xs ts h g (suc i) l = g i (omega arith)
+
+short-holds : (v : Version) (file : List ℕ) (k at tags n : ℕ) → Holds (λ ts a t m. Short (v .maxColumns) ts) (times k (readTable v) file at tags n)
+unfolding times Short
+short-holds v file zero at tags n = λ i l. absurd (omega arith)
+short-holds v file (suc k) at tags n =
+    holds-then (λ (xs : List ℕ) a t m. length xs ≤ v .maxColumns) (λ (ts : List (List ℕ)) a t m. Short (v .maxColumns) ts) (readTable v file at tags n) _ (few-holds v file at tags n) λ xs a t m h.
+    holds-then (λ (ts : List (List ℕ)) a t m. Short (v .maxColumns) ts) (λ (ts : List (List ℕ)) a t m. Short (v .maxColumns) ts) (times k (readTable v) file a t m) _ (short-holds v file k a t m) λ ts a′ t′ m′ g. short-more (v .maxColumns) xs ts h g
+
+pub few-columns : (v : Version) → v .maxColumns ≤ 512 → (file : List ℕ) (at n : ℕ) (names : List ℕ) {next : ℕ} → ((tags m : ℕ) → times n (readTable v) file at tags m ≡ ok (tablesAt names 0 n) next tags m) →
+    (t : ℕ) → t < n → getD names (513 * t) 0 ≤ 512
+unfolding Short
+few-columns v l file at n names e t h =
+    let w = widths v names n [] in
+    omega (arith, w .columns t h, holds-ok (λ (ts : List (List ℕ)) a t m. Short (v .maxColumns) ts) (e 0 0) (short-holds v file n at 0 0) t (omega (arith, w .count)))

@@ -6,13 +6,14 @@ use native.Mathlib.Omega.{arith}
 use lib.ListN.{length, getD, set}
 use lib.Seq.{sets, set-comm}
 use borrow.Author.Tests.{lt-ltb, le-ltb, le-leb, lt-leb}
-use Rattle.cpl.specs.Limits.{maxTags, maxNodes}
+use Rattle.cpl.specs.Limits.{Version, IsVersion, maxTags, maxNodes}
 use Rattle.cpl.specs.Codes.{CUT, MANY}
 use Rattle.cpl.specs.Plan.{Leaf, Unary, Binary, Plan, leaf, unary, binary, Catalogue}
 use Rattle.cpl.specs.Exprs.{planNodes}
 use Rattle.cpl.specs.Read.{Res, ok, bad, andThen, nodeTag}
 use Rattle.cpl.specs.ReadPlan.{Head, h0, h1, h2, readHead, readInputs, planTo}
-use Rattle.tree.specs.Layout.{leafRowsIn, leafNode, unaryCells, unaryRows, unaryNodes, unaryRowsIn, unaryNode, binaryCells, binaryRows, binaryNodes, binaryRowsIn, binaryNode, exprNodes, planRowsIn, planCells, planRows, planTable}
+use Rattle.tree.specs.Layout.{leafNodes, leafRowsIn, leafNode, unaryCells, unaryRows, unaryNodes, unaryRowsIn, unaryNode, binaryCells, binaryRows, binaryNodes, binaryRowsIn, binaryNode, exprNodes, planRowsIn, planCells, planRows, planTable}
+use Rattle.versions.specs.Versions.{nodeRows}
 use Rattle.reader_fields.specs.Answers.{spot}
 use Rattle.reader_fields.specs.declared.Spot.{Spot}
 use Rattle.reader_fields.proofs.Sets.{sets-then}
@@ -21,6 +22,7 @@ use Rattle.reader_heads.specs.declared.Node.{Node}
 use Rattle.reader.specs.Plans.{TookPlan, RightPlan, ReadsPlan}
 use Rattle.reader.specs.declared.Planned.{Planned}
 use Rattle.reader.specs.declared.Planned.the-variants.{Done, Bad}
+use Rattle.reader.proofs.Rooms.{plan-adds, leaf-adds, unary-adds, binary-adds}
 use Rattle.reader.proofs.Sizes.{unary-cells-long, unary-rows-long, binary-cells-long, binary-rows-long, plan-cells-long, plan-rows-long, table-long}
 
 -- ── stores at places that lie apart, in either order ────────────────────────────────────────
@@ -44,7 +46,7 @@ record Plain (from : Spot) (c c1 w w1 : List ℕ) (n : ℕ) (x : Res Head) (t : 
   grown : from .tags + headNodes h ≤ t .tags
   few : t .tags ≤ maxTags
 
-plain : {kind : ℕ} {from : Spot} {c c1 w w1 : List ℕ} {n : ℕ} {x : Res Head} {t : Spot} {node : Node} {h : Head} → TookHead kind from c c1 w w1 n x t node h → Plain from c c1 w w1 n x t h
+plain : {v : Version} {kind filters : ℕ} {from : Spot} {c c1 w w1 : List ℕ} {n : ℕ} {x : Res Head} {t : Spot} {node : Node} {h : Head} → TookHead v kind filters from c c1 w w1 n x t node h → Plain from c c1 w w1 n x t h
 plain a =
     record {
       is = rw (a .value-is) at (a .took .is);
@@ -57,8 +59,8 @@ plain a =
     }
 
 -- how far the counts are after a node's own fields, and after a plan
-pub head-facts : {kind : ℕ} {from : Spot} {c c1 w w1 : List ℕ} {n : ℕ} {x : Res Head} {t : Spot} {node : Node} {h : Head} → TookHead kind from c c1 w w1 n x t node h →
-    (t .tags ≤ maxTags) × (from .tags ≤ t .tags) × (from .tags + t .made ≤ from .made + t .tags) × (t .row + from .tags ≤ from .row + 384 + t .tags)
+pub head-facts : {v : Version} {kind filters : ℕ} {from : Spot} {c c1 w w1 : List ℕ} {n : ℕ} {x : Res Head} {t : Spot} {node : Node} {h : Head} → TookHead v kind filters from c c1 w w1 n x t node h →
+    (t .tags ≤ maxTags) × (from .tags ≤ t .tags) × (from .tags + t .made ≤ from .made + t .tags) × (t .row + from .tags ≤ from .row + nodeRows v + t .tags)
 head-facts a = let b = plain a in omega (arith, b .made-is, b .row-is, b .grown, b .few, a .few-rows)
 
 plan-some : (p : Plan) → 0 < planNodes p
@@ -67,9 +69,17 @@ plan-some (leaf h) = omega arith
 plan-some (unary h p) = omega arith
 plan-some (binary h p₁ p₂) = omega arith
 
-pub plan-facts : {from : Spot} {k : ℕ} {c c1 w w1 m m1 : List ℕ} {x : Res Plan} {t : Spot} {k′ : ℕ} → TookPlan from k c c1 w w1 m m1 x t k′ →
-    (t .tags ≤ maxTags) × (from .tags ≤ t .tags) × (from .tags + t .made ≤ from .made + t .tags) × (k < k′) × (k′ ≤ maxNodes) × (t .row + from .tags + 384 * k ≤ from .row + 384 * k′ + t .tags)
-plan-facts a = omega (arith, a .made-is, a .row-is, a .count-is, a .grown, a .few-tags, a .few-nodes, a .few-rows, plan-some (a .plan))
+pub plan-facts : {v : Version} → IsVersion v → {from : Spot} {k : ℕ} {c c1 w w1 m m1 : List ℕ} {x : Res Plan} {t : Spot} {k′ : ℕ} → TookPlan v from k c c1 w w1 m m1 x t k′ →
+    (t .tags ≤ maxTags) × (from .tags ≤ t .tags) × (from .tags + t .made ≤ from .made + t .tags) × (k < k′) × (k′ ≤ maxNodes) × (t .row + from .tags + nodeRows v * k ≤ from .row + nodeRows v * k′ + t .tags)
+plan-facts known {from} {k} {t = t} {k′} a =
+    let adds = plan-adds known (from .row) (t .row) k k′ (from .tags) (t .tags) (planRowsIn (a .plan)) (planNodes (a .plan)) (exprNodes (a .plan)) (a .row-is) (a .few-rows) (a .count-is) (a .grown) in (
+      a .few-tags,
+      omega (arith, a .grown),
+      omega (arith, a .made-is, a .grown),
+      omega (arith, a .count-is, plan-some (a .plan)),
+      a .few-nodes,
+      adds,
+    )
 
 -- ── one step of the reader ──────────────────────────────────────────────────────────────────
 
@@ -121,11 +131,11 @@ module _ (C : Catalogue) (file : List ℕ) (at tags k : ℕ) (l : k ≤ maxNodes
 
 -- ── the answers of `read_plan` ──────────────────────────────────────────────────────────────
 
-unary-took : (t k : ℕ) (s u v : Spot) (k′ : ℕ) (c c1 c2 w w1 w2 m m1 m2 : List ℕ) (node : Node) (g : Unary) {x : Res Head} {y z : Res Plan} →
-    TookHead t (spot (s .at + 1) (s .tags) (s .made) (s .row)) c c1 w w1 (k + 1) x u node (h1 g) → m1 ≡ sets m (7 * k) (numbers t 0 (s .row) node) →
-    (d : TookPlan u (k + 1) c1 c2 w1 w2 m1 m2 y v k′) → z ≡ ok (unary g (d .plan)) (v .at) (v .tags) k′ → TookPlan s k c c2 w w2 m m2 z v k′
+unary-took : {v′ : Version} → IsVersion v′ → (t k : ℕ) (s u v : Spot) (k′ : ℕ) (c c1 c2 w w1 w2 m m1 m2 : List ℕ) (node : Node) (g : Unary) {x : Res Head} {y z : Res Plan} →
+    TookHead v′ t 0 (spot (s .at + 1) (s .tags) (s .made) (s .row)) c c1 w w1 (k + 1) x u node (h1 g) → m1 ≡ sets m (7 * k) (numbers t 0 (s .row) node) →
+    (d : TookPlan v′ u (k + 1) c1 c2 w1 w2 m1 m2 y v k′) → z ≡ ok (unary g (d .plan)) (v .at) (v .tags) k′ → TookPlan v′ s k c c2 w w2 m m2 z v k′
 unfolding exprNodes planRowsIn planNodes planCells planRows planTable
-unary-took t k s u v k′ c c1 c2 w w1 w2 m m1 m2 node g a f d e =
+unary-took known t k s u v k′ c c1 c2 w w1 w2 m m1 m2 node g a f d e =
     let b = plain a in
     let p = d .plan in
     record {
@@ -146,15 +156,15 @@ unary-took t k s u v k′ c c1 c2 w w1 w2 m m1 m2 node g a f d e =
       grown = omega (arith, b .grown, d .grown);
       few-tags = d .few-tags;
       few-nodes = d .few-nodes;
-      few-rows = omega (arith, a .few-rows, d .few-rows);
+      few-rows = unary-adds known (unaryRowsIn g) (unaryNodes g) (planRowsIn p) (exprNodes p) (planNodes p) (planNodes (unary g p)) (a .few-rows) (d .few-rows) (omega arith);
     }
 
-binary-took : (t k : ℕ) (s u v z : Spot) (k₁ k₂ : ℕ) (c c1 c2 c3 w w1 w2 w3 m m1 m2 m3 : List ℕ) (node : Node) (g : Binary) {x : Res Head} {y₁ y₂ y : Res Plan} →
-    TookHead t (spot (s .at + 1) (s .tags) (s .made) (s .row)) c c1 w w1 (k + 1) x u node (h2 g) → (d : TookPlan u (k + 1) c1 c2 w1 w2 m m1 y₁ v k₁) →
-    m2 ≡ sets m1 (7 * k) (numbers t k₁ (s .row) node) → (d₂ : TookPlan v k₁ c2 c3 w2 w3 m2 m3 y₂ z k₂) → y ≡ ok (binary g (d .plan) (d₂ .plan)) (z .at) (z .tags) k₂ →
-    TookPlan s k c c3 w w3 m m3 y z k₂
+binary-took : {v′ : Version} → IsVersion v′ → (t k : ℕ) (s u v z : Spot) (k₁ k₂ : ℕ) (c c1 c2 c3 w w1 w2 w3 m m1 m2 m3 : List ℕ) (node : Node) (g : Binary) {x : Res Head} {y₁ y₂ y : Res Plan} →
+    TookHead v′ t 0 (spot (s .at + 1) (s .tags) (s .made) (s .row)) c c1 w w1 (k + 1) x u node (h2 g) → (d : TookPlan v′ u (k + 1) c1 c2 w1 w2 m m1 y₁ v k₁) →
+    m2 ≡ sets m1 (7 * k) (numbers t k₁ (s .row) node) → (d₂ : TookPlan v′ v k₁ c2 c3 w2 w3 m2 m3 y₂ z k₂) → y ≡ ok (binary g (d .plan) (d₂ .plan)) (z .at) (z .tags) k₂ →
+    TookPlan v′ s k c c3 w w3 m m3 y z k₂
 unfolding exprNodes planRowsIn planNodes planCells planRows planTable
-binary-took t k s u v z k₁ k₂ c c1 c2 c3 w w1 w2 w3 m m1 m2 m3 node g a d f d₂ e =
+binary-took known t k s u v z k₁ k₂ c c1 c2 c3 w w1 w2 w3 m m1 m2 m3 node g a d f d₂ e =
     let b = plain a in
     let p = d .plan in
     let q = d₂ .plan in
@@ -186,7 +196,7 @@ binary-took t k s u v z k₁ k₂ c c1 c2 c3 w w1 w2 w3 m m1 m2 m3 node g a d f 
       grown = omega (arith, b .grown, d .grown, d₂ .grown);
       few-tags = d₂ .few-tags;
       few-nodes = d₂ .few-nodes;
-      few-rows = omega (arith, a .few-rows, d .few-rows, d₂ .few-rows);
+      few-rows = binary-adds known (binaryRowsIn g) (binaryNodes g) (planRowsIn p) (exprNodes p) (planNodes p) (planRowsIn q) (exprNodes q) (planNodes q) (planNodes (binary g p q)) (a .few-rows) (d .few-rows) (d₂ .few-rows) (omega arith);
     }
 
 module _ (h : Binary) (read : ℕ → ℕ → ℕ → Res Plan) {x : Res Plan} {p₁ : Plan} {a u m : ℕ} (e : x ≡ ok p₁ a u m) where
@@ -196,12 +206,12 @@ module _ (h : Binary) (read : ℕ → ℕ → ℕ → Res Plan) {x : Res Plan} {
   two-bad : {code place : ℕ} → read a u m ≡ bad code place → andThen x (λ p₁ a u m. andThen (read a u m) (λ p₂ a′ u′ m′. ok (binary h p₁ p₂) a′ u′ m′)) ≡ bad code place
   two-bad f = rw (e, f)
 
-module _ (C : Catalogue) (file : List ℕ) (s : Spot) (k : ℕ) (inside : s .at < length file) (few : k < maxNodes) {t : ℕ} (is : t ≡ getD file (s .at) 0) (c c1 w w1 : List ℕ) (u : Spot) (node : Node) where
-  pub plan-leaf : (m m1 : List ℕ) (h : Leaf) → TookHead t (spot (s .at + 1) (s .tags) (s .made) (s .row)) c c1 w w1 (k + 1) (readHead C (s .at) t file (s .at + 1) (s .tags) (k + 1)) u node (h0 h) →
-      m1 ≡ sets m (7 * k) (numbers t 0 (s .row) node) → ReadsPlan C file s k c c1 w w1 m m1 (Done u (k + 1))
+module _ {v′ : Version} (known : IsVersion v′) (C : Catalogue) (file : List ℕ) (s : Spot) (k : ℕ) (inside : s .at < length file) (few : k < maxNodes) {t : ℕ} (is : t ≡ getD file (s .at) 0) (c c1 w w1 : List ℕ) (u : Spot) (node : Node) where
+  pub plan-leaf : (m m1 : List ℕ) (filters : ℕ) (h : Leaf) → TookHead v′ t filters (spot (s .at + 1) (s .tags) (s .made) (s .row)) c c1 w w1 (k + 1) (readHead C (s .at) t file (s .at + 1) (s .tags) (k + 1)) u node (h0 h) →
+      m1 ≡ sets m (7 * k) (numbers t filters (s .row) node) → ReadsPlan v′ C file s k c c1 w w1 m m1 (Done u (k + 1))
   unfolding exprNodes planRowsIn planNodes planCells planRows planTable
-  plan-leaf m m1 h a f zero d = absurd (omega arith)
-  plan-leaf m m1 h a f (suc deep) d =
+  plan-leaf m m1 filters h a f zero d = absurd (omega arith)
+  plan-leaf m m1 filters h a f (suc deep) d =
       let b = plain a in
       record {
         plan = leaf h;
@@ -215,31 +225,31 @@ module _ (C : Catalogue) (file : List ℕ) (s : Spot) (k : ℕ) (inside : s .at 
         grown = b .grown;
         few-tags = b .few;
         few-nodes = omega arith;
-        few-rows = omega (arith, a .few-rows);
+        few-rows = leaf-adds known (leafRowsIn h) (leafNodes h) (a .few-rows);
       }
 
-  pub plan-one : (c2 w2 m m1 m2 : List ℕ) (h : Unary) → TookHead t (spot (s .at + 1) (s .tags) (s .made) (s .row)) c c1 w w1 (k + 1) (readHead C (s .at) t file (s .at + 1) (s .tags) (k + 1)) u node (h1 h) →
-      m1 ≡ sets m (7 * k) (numbers t 0 (s .row) node) → (r : Planned) → ReadsPlan C file u (k + 1) c1 c2 w1 w2 m1 m2 r → ReadsPlan C file s k c c2 w w2 m m2 r
+  pub plan-one : (c2 w2 m m1 m2 : List ℕ) (h : Unary) → TookHead v′ t 0 (spot (s .at + 1) (s .tags) (s .made) (s .row)) c c1 w w1 (k + 1) (readHead C (s .at) t file (s .at + 1) (s .tags) (k + 1)) u node (h1 h) →
+      m1 ≡ sets m (7 * k) (numbers t 0 (s .row) node) → (r : Planned) → ReadsPlan v′ C file u (k + 1) c1 c2 w1 w2 m1 m2 r → ReadsPlan v′ C file s k c c2 w w2 m m2 r
   plan-one c2 w2 m m1 m2 h a f r q zero d = absurd (omega arith)
   plan-one c2 w2 m m1 m2 h a f (Done v k′) q (suc deep) d =
       let b = q deep (omega arith) in
-      unary-took t k s u v k′ c c1 c2 w w1 w2 m m1 m2 node h a f b (step-one C file (s .at) (s .tags) k (omega arith) inside few is deep (plain a .is) ∙ rw (b .is))
+      unary-took known t k s u v k′ c c1 c2 w w1 w2 m m1 m2 node h a f b (step-one C file (s .at) (s .tags) k (omega arith) inside few is deep (plain a .is) ∙ rw (b .is))
   plan-one c2 w2 m m1 m2 h a f (Bad code place) q (suc deep) d = step-one C file (s .at) (s .tags) k (omega arith) inside few is deep (plain a .is) ∙ rw (q deep (omega arith))
 
-  pub head-read : {h : Head} → TookHead t (spot (s .at + 1) (s .tags) (s .made) (s .row)) c c1 w w1 (k + 1) (readHead C (s .at) t file (s .at + 1) (s .tags) (k + 1)) u node h →
+  pub head-read : {h : Head} → TookHead v′ t 0 (spot (s .at + 1) (s .tags) (s .made) (s .row)) c c1 w w1 (k + 1) (readHead C (s .at) t file (s .at + 1) (s .tags) (k + 1)) u node h →
       readHead C (s .at) t file (s .at + 1) (s .tags) (k + 1) ≡ ok h (u .at) (u .tags) (k + 1)
   head-read a = plain a .is
 
   pub plan-two : (c2 c3 w2 w3 m m1 m2 m3 : List ℕ) (v : Spot) (k₁ : ℕ) (h : Binary) →
-      TookHead t (spot (s .at + 1) (s .tags) (s .made) (s .row)) c c1 w w1 (k + 1) (readHead C (s .at) t file (s .at + 1) (s .tags) (k + 1)) u node (h2 h) →
-      ReadsPlan C file u (k + 1) c1 c2 w1 w2 m m1 (Done v k₁) → m2 ≡ sets m1 (7 * k) (numbers t k₁ (s .row) node) → (r : Planned) → ReadsPlan C file v k₁ c2 c3 w2 w3 m2 m3 r →
-      ReadsPlan C file s k c c3 w w3 m m3 r
+      TookHead v′ t 0 (spot (s .at + 1) (s .tags) (s .made) (s .row)) c c1 w w1 (k + 1) (readHead C (s .at) t file (s .at + 1) (s .tags) (k + 1)) u node (h2 h) →
+      ReadsPlan v′ C file u (k + 1) c1 c2 w1 w2 m m1 (Done v k₁) → m2 ≡ sets m1 (7 * k) (numbers t k₁ (s .row) node) → (r : Planned) → ReadsPlan v′ C file v k₁ c2 c3 w2 w3 m2 m3 r →
+      ReadsPlan v′ C file s k c c3 w w3 m m3 r
   plan-two c2 c3 w2 w3 m m1 m2 m3 v k₁ h a q f r o zero d = absurd (omega arith)
   plan-two c2 c3 w2 w3 m m1 m2 m3 v k₁ h a q f (Done z k₂) o (suc deep) d =
       let b = q deep (omega arith) in
-      let b₂ = o deep (omega (arith, plan-facts b)) in
-      binary-took t k s u v z k₁ k₂ c c1 c2 c3 w w1 w2 w3 m m1 m2 m3 node h a b f b₂
+      let b₂ = o deep (omega (arith, plan-facts known b)) in
+      binary-took known t k s u v z k₁ k₂ c c1 c2 c3 w w1 w2 w3 m m1 m2 m3 node h a b f b₂
       (step-two C file (s .at) (s .tags) k (omega arith) inside few is deep (plain a .is) ∙ two-ok h (planTo C deep file) (b .is) (b₂ .is))
   plan-two c2 c3 w2 w3 m m1 m2 m3 v k₁ h a q f (Bad code place) o (suc deep) d =
       let b = q deep (omega arith) in
-      step-two C file (s .at) (s .tags) k (omega arith) inside few is deep (plain a .is) ∙ two-bad h (planTo C deep file) (b .is) (o deep (omega (arith, plan-facts b)))
+      step-two C file (s .at) (s .tags) k (omega arith) inside few is deep (plain a .is) ∙ two-bad h (planTo C deep file) (b .is) (o deep (omega (arith, plan-facts known b)))

@@ -7,7 +7,7 @@ use lib.ListN.{length, length-append}
 use mathlib.Core.Option.{Option, none, some}
 use Rattle.cpl.specs.Plan.{Expr, Leaf, scan, empty, Unary, projection, filter, sort, limit, aggregate, window, subqueryAlias, distinct, Binary, union, join, Plan, leaf, unary, binary}
 use Rattle.cpl.specs.Exprs.{planNodes}
-use Rattle.tree.specs.Layout.{listStore, itemStore, keyStore, aggStore, winStore, onStore, pairStore, columnStore, allNodes, columnsOf, leafRows, leafRowsIn, leafNode, unaryCells, unaryRows, unaryNodes, unaryRowsIn, unaryNode, condCells, condNodes, binaryCells, binaryRows, binaryNodes, binaryRowsIn, binaryNode, exprNodes, planRowsIn, planCells, planRows, planTable}
+use Rattle.tree.specs.Layout.{listStore, itemStore, exprStore, keyStore, aggStore, winStore, onStore, pairStore, columnStore, allNodes, columnsOf, leafCells, leafRows, leafNodes, leafRowsIn, leafNode, unaryCells, unaryRows, unaryNodes, unaryRowsIn, unaryNode, condCells, condNodes, binaryCells, binaryRows, binaryNodes, binaryRowsIn, binaryNode, exprNodes, planRowsIn, planCells, planRows, planTable}
 use Rattle.reader_fields.proofs.Sets.{expr-long}
 use Rattle.reader_parts.specs.declared.Kind.the-variants as kind
 use Rattle.reader_parts.proofs.Compose.{Sized, list-sized, all-one}
@@ -29,10 +29,25 @@ wins = list-sized winStore win-sized
 ons : Sized (listStore onStore)
 ons = list-sized onStore (sized-of kind.On)
 
-pub leaf-rows-long : (l : Leaf) → length (leafRows l) ≡ 4 * leafRowsIn l
+exprs : Sized (listStore exprStore)
+exprs = list-sized exprStore (sized-of kind.Expr)
+
+columns : Sized (listStore columnStore)
+columns = list-sized columnStore (sized-of (kind.Column 0 0))
+
+pairs : Sized (listStore pairStore)
+pairs = list-sized pairStore (sized-of kind.Pair)
+
+pub leaf-cells-long : (made : ℕ) (l : Leaf) → length (leafCells made l) ≡ 3 * leafNodes l
+unfolding leafCells leafNodes
+leaf-cells-long made (scan t q is es) = exprs .cells-long made es
+leaf-cells-long made (empty b cs) = refl
+
+pub leaf-rows-long : (made : ℕ) (l : Leaf) → length (leafRows made l) ≡ 4 * leafRowsIn l
 unfolding leafRows leafRowsIn
-leaf-rows-long (scan t q is) = list-sized columnStore (sized-of (kind.Column 0)) .rows-long 0 (columnsOf is) ∙ ap (λ (n : ℕ). 4 * n) (all-one columnStore (λ x. refl) (columnsOf is))
-leaf-rows-long (empty b cs) = list-sized pairStore (sized-of kind.Pair) .rows-long 0 cs ∙ ap (λ (n : ℕ). 4 * n) (all-one pairStore (λ x. refl) cs)
+leaf-rows-long made (scan t q is es) =
+    simp length-append (omega (arith, columns .rows-long made (columnsOf is), exprs .rows-long made es, all-one columnStore (λ x. refl) (columnsOf is), all-one exprStore (λ x. refl) es))
+leaf-rows-long made (empty b cs) = omega (arith, pairs .rows-long made cs, all-one pairStore (λ x. refl) cs)
 
 pub unary-cells-long : (made : ℕ) (h : Unary) → length (unaryCells made h) ≡ 3 * unaryNodes h
 unfolding unaryCells unaryNodes
@@ -74,7 +89,7 @@ binary-rows-long made (join t os c) = omega (arith, ons .rows-long made os, all-
 
 leaf-node-long : (row : ℕ) (l : Leaf) → length (leafNode row l) ≡ 7
 unfolding leafNode
-leaf-node-long row (scan t q is) = refl
+leaf-node-long row (scan t q is es) = refl
 leaf-node-long row (empty b cs) = refl
 
 unary-node-long : (made row : ℕ) (h : Unary) → length (unaryNode made row h) ≡ 7
@@ -95,7 +110,7 @@ binary-node-long made row right (join t os c) = refl
 
 pub plan-cells-long : (made : ℕ) (p : Plan) → length (planCells made p) ≡ 3 * exprNodes p
 unfolding planCells exprNodes
-plan-cells-long made (leaf h) = refl
+plan-cells-long made (leaf h) = leaf-cells-long made h
 plan-cells-long made (unary h p) = simp length-append (omega (arith, unary-cells-long made h, plan-cells-long (made + unaryNodes h) p))
 plan-cells-long made (binary h p₁ p₂) =
     let made₁ = made + binaryNodes h in
@@ -103,7 +118,7 @@ plan-cells-long made (binary h p₁ p₂) =
 
 pub plan-rows-long : (made : ℕ) (p : Plan) → length (planRows made p) ≡ 4 * planRowsIn p
 unfolding planRows planRowsIn
-plan-rows-long made (leaf h) = leaf-rows-long h
+plan-rows-long made (leaf h) = leaf-rows-long made h
 plan-rows-long made (unary h p) = simp length-append (omega (arith, unary-rows-long made h, plan-rows-long (made + unaryNodes h) p))
 plan-rows-long made (binary h p₁ p₂) =
     let made₁ = made + binaryNodes h in

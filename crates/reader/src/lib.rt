@@ -2,18 +2,25 @@
 ghost use mathlib.Core.Path.{_≡_};
 ghost use mathlib.Core.List.{List, [], _∷_};
 ghost use Prim.Native.Nat.{ℕ, _+_, _*_, _≤_, _<_};
-ghost use lib.ListN.{length};
+ghost use lib.ListN.{length, getD};
 ghost use lib.Seq.{sets};
-ghost use Rattle.cpl.specs.Plan.{Catalogue};
-ghost use Rattle.cpl.specs.Read.{nonzero, times};
-ghost use Rattle.cpl.specs.ReadPlan.{starts, markBytes};
+ghost use mathlib.Core.Bool.{Bool};
+ghost use Rattle.cpl.specs.Limits as cpl;
+ghost use Rattle.cpl.specs.Plan.{Catalogue, TableKey, keyedTables};
+ghost use Rattle.cpl.specs.Read.{ok, nonzero, any, value, fresh, times, timesAfter, countedAfter};
+ghost use Rattle.cpl.specs.ReadPlan.{starts, readMark, readTableKey};
+ghost use Rattle.versions.specs.Versions.{versionOf, Known, nodeRows, rowsRoom};
+ghost use Rattle.reader_fields.specs.Answers.{Fields};
 ghost use Rattle.reader_heads.specs.Heads.{numbers, Widths};
 ghost use Rattle.reader.specs.Tables.{namesAt, tableAt, tablesAt, readTable, NextIs};
+ghost use Rattle.reader.specs.Keys.{Stands, Found, KeyIs, MarkIs};
 ghost use Rattle.reader.specs.Plans.{ReadsPlan, RightBody, RightFile};
 use reader_fields::Field;
 use reader_fields::Spot;
 use reader_heads::Head;
 use reader_heads::Node;
+use required_indices::RequiredIndices;
+use versions::Version;
 
 // Where the reader stands after a plan, and how many nodes it has read; or a refusal.
 pub enum Planned {
@@ -27,9 +34,16 @@ pub enum Next {
     Bad(u8, usize),
 }
 
-// What a file was read as: the number of tables, the offset of the plan, how many nodes, expression tags and nodes of expressions it has; or a refusal.
+// The version of a file's mark, if it has one.
+pub enum Marked {
+    As(Version),
+    Nothing,
+}
+
+// What a file was read as: its version, the number of tables, the offset of the plan, how many nodes, expression tags and nodes of expressions it has; or a refusal.
 pub enum Read {
     Done {
+        version: Version,
         tables: usize,
         start: usize,
         nodes: usize,
@@ -59,14 +73,16 @@ fn read_plan(
     file: &[u8],
     s: Spot,
     k: usize,
+    version: Version,
     tables: u64,
     names: &[u16],
     cells: &mut [u64],
     rows: &mut [u16],
     nodes: &mut [u64],
 ) -> Planned
-    requires { ⌜ (s .made ≤ s .tags) × (s .tags ≤ 4096) × (k ≤ 256) × (s .row ≤ 384 * k + s .tags) × (12288 ≤ length (now cells)) × (409728 ≤ length (now rows)) × (1792 ≤ length (now nodes)) × (65 * tables ≤ length (now names)) × (tables ≤ 16) × ((C : Catalogue) × Widths (now names) tables C) ⌝ }
-    ensures { λ r. ⌜ ((C : Catalogue) → Widths (now (names .entry)) tables C → ReadsPlan C (now (file .entry)) s k (now (cells .entry)) (now (cells .exit)) (now (rows .entry)) (now (rows .exit)) (now (nodes .entry)) (now (nodes .exit)) r) ⌝ }
+    requires { ⌜ (s .made ≤ s .tags) × (s .tags ≤ 4096) × (k ≤ 256) × (s .row ≤ nodeRows (versionOf version) * k + s .tags) × (12288 ≤ length (now cells)) × (rowsRoom (versionOf version) ≤ length (now rows)) × (1792 ≤ length (now nodes)) × (513 * tables ≤ length (now names)) × (tables ≤ 16) × ((C : Catalogue) × (C .version ≡ versionOf version) × Widths (now names) tables C) ⌝ }
+    requires { ⌜ Known version ⌝ }
+    ensures { λ r. ⌜ ((C : Catalogue) → C .version ≡ versionOf version → Widths (now (names .entry)) tables C → ReadsPlan (versionOf version) C (now (file .entry)) s k (now (cells .entry)) (now (cells .exit)) (now (rows .entry)) (now (rows .exit)) (now (nodes .entry)) (now (nodes .exit)) r) ⌝ }
 {
     let at = s.at;
     if file.len() <= at {
@@ -82,24 +98,24 @@ fn read_plan(
         made: s.made,
         row: s.row,
     };
-    let head = reader_heads::read_head(file, from, at, t, tables, names, cells, rows);
+    let head = reader_heads::read_head(file, from, at, t, version, tables, names, cells, rows);
     match head {
         Head::Bad(code, place) => Planned::Bad(code, place),
-        Head::Leaf(u, node) => {
-            put_node(nodes, k, t, 0, s.row, node);
+        Head::Leaf(u, node, filters) => {
+            put_node(nodes, k, t, filters, s.row, node);
             Planned::Done(u, k + 1)
         }
         Head::One(u, node) => {
             put_node(nodes, k, t, 0, s.row, node);
-            read_plan(file, u, k + 1, tables, names, cells, rows, nodes)
+            read_plan(file, u, k + 1, version, tables, names, cells, rows, nodes)
         }
         Head::Two(u, node) => {
-            let first = read_plan(file, u, k + 1, tables, names, cells, rows, nodes);
+            let first = read_plan(file, u, k + 1, version, tables, names, cells, rows, nodes);
             let Planned::Done(v, right) = first else {
                 return first;
             };
             put_node(nodes, k, t, right, s.row, node);
-            read_plan(file, v, right, tables, names, cells, rows, nodes)
+            read_plan(file, v, right, version, tables, names, cells, rows, nodes)
         }
     }
 }
@@ -123,15 +139,15 @@ fn read_names(file: &[u8], at: usize, n: u64, slot: usize, names: &mut [u16]) ->
 }
 
 // The names of table t.
-fn read_table(file: &[u8], at: usize, t: usize, names: &mut [u16]) -> Next
-    requires { ⌜ 65 * t + 65 ≤ length (now names) ⌝ }
-    ensures { λ r. ⌜ NextIs readTable (now (file .entry)) at (tableAt (now (names .exit)) t) (65 * t) (now (names .entry)) (now (names .exit)) r ⌝ }
+fn read_table(file: &[u8], at: usize, t: usize, version: Version, names: &mut [u16]) -> Next
+    requires { ⌜ (513 * t + 513 ≤ length (now names)) × (version .wide ≤ 2) × (version .columns ≤ 512) ⌝ }
+    ensures { λ r. ⌜ NextIs (readTable (versionOf version)) (now (file .entry)) at (tableAt (now (names .exit)) t) (513 * t) (now (names .entry)) (now (names .exit)) r ⌝ }
 {
-    let count = reader_fields::read_count(file, at, 0, 64);
+    let count = reader_fields::read_count(file, at, version.wide, 0, version.columns);
     match count {
         Field::Bad(code, place) => Next::Bad(code, place),
         Field::Got(n, next) => {
-            let base = 65 * t;
+            let base = 513 * t;
             names[base] = n as u16;
             read_names(file, next, n, base + 1, names)
         }
@@ -139,23 +155,156 @@ fn read_table(file: &[u8], at: usize, t: usize, names: &mut [u16]) -> Next
 }
 
 // n tables, from table t on.
-fn read_tables(file: &[u8], at: usize, n: u64, t: usize, names: &mut [u16]) -> Next
-    requires { ⌜ 65 * (t + n) ≤ length (now names) ⌝ }
-    ensures { λ r. ⌜ NextIs (times n readTable) (now (file .entry)) at (tablesAt (now (names .exit)) t n) (65 * t) (now (names .entry)) (now (names .exit)) r ⌝ }
+fn read_tables(
+    file: &[u8],
+    at: usize,
+    n: u64,
+    t: usize,
+    version: Version,
+    names: &mut [u16],
+) -> Next
+    requires { ⌜ (513 * (t + n) ≤ length (now names)) × (version .wide ≤ 2) × (version .columns ≤ 512) ⌝ }
+    ensures { λ r. ⌜ NextIs (times n (readTable (versionOf version))) (now (file .entry)) at (tablesAt (now (names .exit)) t n) (513 * t) (now (names .entry)) (now (names .exit)) r ⌝ }
 {
     if n == 0 {
         return Next::At(at);
     }
-    let first = read_table(file, at, t, names);
+    let first = read_table(file, at, t, version, names);
     let Next::At(next) = first else {
         return first;
     };
-    read_tables(file, next, n - 1, t + 1, names)
+    read_tables(file, next, n - 1, t + 1, version, names)
 }
 
-// Does the file start with the mark and the version?
-fn has_mark(file: &[u8]) -> bool
-    ensures { λ r. ⌜ r ≡ starts markBytes (now (file .entry)) ⌝ }
+// A field of k bytes that is below n and is not taken.
+fn read_fresh(file: &[u8], at: usize, k: usize, n: u64, taken: RequiredIndices) -> Field
+    requires { ⌜ k ≤ 8 ⌝ }
+    ensures { λ r. ⌜ ((xs : List ℕ) → Stands taken xs → Fields n (value k (fresh n xs) (now (file .entry)) at) r) ⌝ }
+{
+    let found = reader_fields::read_number(file, at, k);
+    let Field::Got(x, _) = found else {
+        return found;
+    };
+    if n <= x {
+        return Field::Bad(4, at);
+    }
+    if taken.contains(x as usize) {
+        return Field::Bad(4, at);
+    }
+    found
+}
+
+// n columns of a key, of k bytes each, below `columns`, none of them taken or read before.
+fn read_columns(
+    file: &[u8],
+    at: usize,
+    n: u64,
+    k: usize,
+    columns: u64,
+    taken: RequiredIndices,
+) -> Next
+    requires { ⌜ (k ≤ 8) × (columns ≤ 512) ⌝ }
+    requires { ⌜ ((xs : List ℕ) × Stands taken xs) ⌝ }
+    ensures { λ r. ⌜ ((xs : List ℕ) → Stands taken xs → Found (timesAfter n (λ ys. value k (fresh columns ys)) xs (now (file .entry)) at) r) ⌝ }
+{
+    if n == 0 {
+        return Next::At(at);
+    }
+    let column = read_fresh(file, at, k, columns, taken);
+    match column {
+        Field::Bad(code, place) => Next::Bad(code, place),
+        Field::Got(x, next) => {
+            let more = taken.with_index(x as usize);
+            read_columns(file, next, n - 1, k, columns, more)
+        }
+    }
+}
+
+// A key of one of the tables that are not taken: the table and the offset after the key.
+fn read_key(
+    file: &[u8],
+    at: usize,
+    tables: u64,
+    version: Version,
+    names: &[u16],
+    taken: RequiredIndices,
+) -> Field
+    requires { ⌜ (tables ≤ 16) × (513 * tables ≤ length (now names)) × (version .wide ≤ 2) ⌝ }
+    requires { ⌜ ((t : ℕ) → t < tables → getD (now names) (513 * t) 0 ≤ 512) ⌝ }
+    requires { ⌜ ((C : Catalogue) × (before : List TableKey) × Widths (now names) tables C × Stands taken (keyedTables before)) ⌝ }
+    ensures { λ r. ⌜ ((C : Catalogue) (before : List TableKey) → Widths (now (names .entry)) tables C → Stands taken (keyedTables before) → KeyIs tables (readTableKey (versionOf version) (C .tables) before (now (file .entry)) at) r) ⌝ }
+{
+    let table = read_fresh(file, at, 1, tables, taken);
+    match table {
+        Field::Bad(code, place) => Field::Bad(code, place),
+        Field::Got(t, after) => {
+            let base = 513 * (t as usize);
+            let columns = names[base] as u64;
+            let k = version.wide;
+            let count = reader_fields::read_count(file, after, k, 1, version.columns);
+            match count {
+                Field::Bad(code, place) => Field::Bad(code, place),
+                Field::Got(n, next) => {
+                    let none = RequiredIndices::new();
+                    let list = read_columns(file, next, n, k, columns, none);
+                    match list {
+                        Next::Bad(code, place) => Field::Bad(code, place),
+                        Next::At(end) => Field::Got(t, end),
+                    }
+                }
+            }
+        }
+    }
+}
+
+// n keys, of tables that are not taken and of which none was read before.
+fn read_keys(
+    file: &[u8],
+    at: usize,
+    n: u64,
+    tables: u64,
+    version: Version,
+    names: &[u16],
+    taken: RequiredIndices,
+) -> Next
+    requires { ⌜ (tables ≤ 16) × (513 * tables ≤ length (now names)) × (version .wide ≤ 2) ⌝ }
+    requires { ⌜ ((t : ℕ) → t < tables → getD (now names) (513 * t) 0 ≤ 512) ⌝ }
+    requires { ⌜ ((C : Catalogue) × (before : List TableKey) × Widths (now names) tables C × Stands taken (keyedTables before)) ⌝ }
+    ensures { λ r. ⌜ ((C : Catalogue) (before : List TableKey) → Widths (now (names .entry)) tables C → Stands taken (keyedTables before) → Found (timesAfter n (readTableKey (versionOf version) (C .tables)) before (now (file .entry)) at) r) ⌝ }
+{
+    if n == 0 {
+        return Next::At(at);
+    }
+    let key = read_key(file, at, tables, version, names, taken);
+    match key {
+        Field::Bad(code, place) => Next::Bad(code, place),
+        Field::Got(t, next) => {
+            let more = taken.with_index(t as usize);
+            read_keys(file, next, n - 1, tables, version, names, more)
+        }
+    }
+}
+
+// The keys of the tables: a count, and as many keys.
+fn read_all_keys(file: &[u8], at: usize, tables: u64, version: Version, names: &[u16]) -> Next
+    requires { ⌜ (tables ≤ 16) × (513 * tables ≤ length (now names)) × (version .wide ≤ 2) × (version .late ≤ 2) ⌝ }
+    requires { ⌜ ((t : ℕ) → t < tables → getD (now names) (513 * t) 0 ≤ 512) ⌝ }
+    requires { ⌜ ((C : Catalogue) × Widths (now names) tables C) ⌝ }
+    ensures { λ r. ⌜ ((C : Catalogue) → Widths (now (names .entry)) tables C → Found (countedAfter (version .late) any (version .keys) (readTableKey (versionOf version) (C .tables)) (now (file .entry)) at) r) ⌝ }
+{
+    let count = reader_fields::read_count(file, at, version.late, 0, version.keys);
+    match count {
+        Field::Bad(code, place) => Next::Bad(code, place),
+        Field::Got(n, next) => {
+            let none = RequiredIndices::new();
+            read_keys(file, next, n, tables, version, names, none)
+        }
+    }
+}
+
+// Does the file start with the mark and the version of this number?
+fn has_mark(file: &[u8], number: u64) -> bool
+    ensures { λ r. ⌜ r ≡ starts (67 ∷ 80 ∷ 76 ∷ number ∷ 0 ∷ []) (now (file .entry)) ⌝ }
 {
     if file.len() < 5 {
         return false;
@@ -169,7 +318,7 @@ fn has_mark(file: &[u8]) -> bool
     if reader_fields::byte(file, 2) != 76 {
         return false;
     }
-    if reader_fields::byte(file, 3) != 1 {
+    if reader_fields::byte(file, 3) != number {
         return false;
     }
     if reader_fields::byte(file, 4) != 0 {
@@ -178,18 +327,46 @@ fn has_mark(file: &[u8]) -> bool
     true
 }
 
+// The mark of a version that there is.
+fn read_mark(file: &[u8]) -> Marked
+    ensures { λ r. ⌜ MarkIs (now (file .entry)) r ⌝ }
+{
+    if has_mark(file, 1) {
+        let version = versions::version1();
+        return Marked::As(version);
+    }
+    if has_mark(file, 2) {
+        let version = versions::version2();
+        return Marked::As(version);
+    }
+    Marked::Nothing
+}
+
+/// The version of the file's mark: the lent arrays go by it. Version 1 where there is no mark.
+pub fn version_at(file: &[u8]) -> Version
+    ensures { λ r. ⌜ ((v : cpl.Version) → readMark (now (file .entry)) 0 0 0 ≡ ok v 5 0 0 → versionOf r ≡ v) × Known r ⌝ }
+{
+    let mark = read_mark(file);
+    match mark {
+        Marked::As(version) => version,
+        Marked::Nothing => versions::version1(),
+    }
+}
+
 // The plan, and the end of the file after it.
 fn read_body(
     file: &[u8],
     start: usize,
+    version: Version,
     tables: u64,
     cells: &mut [u64],
     rows: &mut [u16],
     nodes: &mut [u64],
     names: &[u16],
 ) -> Read
-    requires { ⌜ (12288 ≤ length (now cells)) × (409728 ≤ length (now rows)) × (1792 ≤ length (now nodes)) × (65 * tables ≤ length (now names)) × (tables ≤ 16) × ((C : Catalogue) × Widths (now names) tables C) ⌝ }
-    ensures { λ r. ⌜ ((C : Catalogue) → Widths (now (names .entry)) tables C → RightBody C (now (file .entry)) start tables (now (cells .entry)) (now (cells .exit)) (now (rows .entry)) (now (rows .exit)) (now (nodes .entry)) (now (nodes .exit)) r) ⌝ }
+    requires { ⌜ (12288 ≤ length (now cells)) × (rowsRoom (versionOf version) ≤ length (now rows)) × (1792 ≤ length (now nodes)) × (513 * tables ≤ length (now names)) × (tables ≤ 16) × ((C : Catalogue) × (C .version ≡ versionOf version) × Widths (now names) tables C) ⌝ }
+    requires { ⌜ Known version ⌝ }
+    ensures { λ r. ⌜ ((C : Catalogue) → C .version ≡ versionOf version → Widths (now (names .entry)) tables C → RightBody C (now (file .entry)) start version tables (now (cells .entry)) (now (cells .exit)) (now (rows .entry)) (now (rows .exit)) (now (nodes .entry)) (now (nodes .exit)) r) ⌝ }
 {
     let from = Spot {
         at: start,
@@ -197,7 +374,7 @@ fn read_body(
         made: 0,
         row: 0,
     };
-    let plan = read_plan(file, from, 0, tables, names, cells, rows, nodes);
+    let plan = read_plan(file, from, 0, version, tables, names, cells, rows, nodes);
     match plan {
         Planned::Bad(code, place) => Read::Bad(code, place),
         Planned::Done(s, count) => {
@@ -205,6 +382,7 @@ fn read_body(
                 return Read::Bad(6, s.at);
             }
             Read::Done {
+                version,
                 tables: tables as usize,
                 start,
                 nodes: count,
@@ -215,9 +393,43 @@ fn read_body(
     }
 }
 
-// A plan file. The lent arrays are long enough for every plan file: cells three numbers for each of 4,096 nodes of expressions, rows four for each of
-// 102,432 rows (384 for each of 256 nodes, one for each of 4,096 tags, and 32 that a window may ask for), nodes seven for each of 256 nodes, names 65 for
-// each of 16 tables.
+// What follows the mark of a version.
+fn read_marked(
+    file: &[u8],
+    version: Version,
+    cells: &mut [u64],
+    rows: &mut [u16],
+    nodes: &mut [u64],
+    names: &mut [u16],
+) -> Read
+    requires { ⌜ (12288 ≤ length (now cells)) × (rowsRoom (versionOf version) ≤ length (now rows)) × (1792 ≤ length (now nodes)) × (8208 ≤ length (now names)) ⌝ }
+    requires { ⌜ Known version ⌝ }
+    ensures { λ r. ⌜ (((tags n : ℕ) → readMark (now (file .entry)) 0 tags n ≡ ok (versionOf version) 5 tags n) → RightFile (now (file .entry)) (now (cells .entry)) (now (cells .exit)) (now (rows .entry)) (now (rows .exit)) (now (nodes .entry)) (now (nodes .exit)) (now (names .exit)) r) ⌝ }
+{
+    let count = reader_fields::read_count(file, 5, 1, 0, 16);
+    match count {
+        Field::Bad(code, place) => Read::Bad(code, place),
+        Field::Got(n, after) => {
+            let tables = read_tables(file, after, n, 0, version, names);
+            match tables {
+                Next::Bad(code, place) => Read::Bad(code, place),
+                Next::At(next) => {
+                    let keys = read_all_keys(file, next, n, version, names);
+                    match keys {
+                        Next::Bad(code, place) => Read::Bad(code, place),
+                        Next::At(start) => {
+                            read_body(file, start, version, n, cells, rows, nodes, names)
+                        }
+                    }
+                }
+            }
+        }
+    }
+}
+
+// A plan file. The lent arrays are long enough for every plan file of its version: cells three numbers for each of 4,096 nodes of expressions, rows four
+// for each row of 256 nodes, of 4,096 tags and of 32 that a window may ask for, nodes seven for each of 256 nodes, names 513 for each of 16 tables. The
+// keys of the tables are read and checked, and not stored.
 pub fn read_file(
     file: &[u8],
     cells: &mut [u64],
@@ -225,21 +437,13 @@ pub fn read_file(
     nodes: &mut [u64],
     names: &mut [u16],
 ) -> Read
-    requires { ⌜ (12288 ≤ length (now cells)) × (409728 ≤ length (now rows)) × (1792 ≤ length (now nodes)) × (1040 ≤ length (now names)) ⌝ }
+    requires { ⌜ (12288 ≤ length (now cells)) × (1792 ≤ length (now nodes)) × (8208 ≤ length (now names)) ⌝ }
+    requires { ⌜ ((v : cpl.Version) → readMark (now file) 0 0 0 ≡ ok v 5 0 0 → rowsRoom v ≤ length (now rows)) ⌝ }
     ensures { λ r. ⌜ RightFile (now (file .entry)) (now (cells .entry)) (now (cells .exit)) (now (rows .entry)) (now (rows .exit)) (now (nodes .entry)) (now (nodes .exit)) (now (names .exit)) r ⌝ }
 {
-    if !has_mark(file) {
-        return Read::Bad(2, 0);
-    }
-    let count = reader_fields::read_count(file, 5, 0, 16);
-    match count {
-        Field::Bad(code, place) => Read::Bad(code, place),
-        Field::Got(n, after) => {
-            let tables = read_tables(file, after, n, 0, names);
-            match tables {
-                Next::Bad(code, place) => Read::Bad(code, place),
-                Next::At(start) => read_body(file, start, n, cells, rows, nodes, names),
-            }
-        }
+    let mark = read_mark(file);
+    match mark {
+        Marked::Nothing => Read::Bad(2, 0),
+        Marked::As(version) => read_marked(file, version, cells, rows, nodes, names),
     }
 }

@@ -38,6 +38,10 @@ more-bytes k file at low high h e l f m = (omega (arith, little-more k file at h
 pub few-bytes : (k high : ℕ) → k ≤ 8 → high < 256 ^ (k - 1) → high < 256 ^ 7
 few-bytes k high h l = let g : 256 ^ (k - 1) ≤ 256 ^ 7 = pow-le-pow-right {n = 256} (omega arith) {i = k - 1} {j = 7} (omega arith) in omega arith
 
+-- a number of at most two bytes
+pub narrow : (k x : ℕ) → k ≤ 2 → x < 256 ^ k → x < 65536
+narrow k x h l = let g : 256 ^ k ≤ 256 ^ 2 = pow-le-pow-right {n = 256} (omega arith) {i = k} {j = 2} (omega arith) in omega arith
+
 -- a number that one half of its bytes and the other spell
 module _ (file : List ℕ) (at low high : ℕ) where
   pub one-byte : low ≡ getD file at 0 → low < 256 → (low ≡ little 1 file at) × (low < 256 ^ 1)
@@ -90,23 +94,23 @@ pub is-not : (x : ℕ) → (x ≡ 0 → ⊥) → isNot 0 x ≡ true
 unfolding isNot
 is-not x h = rw (ne-eqb x 0 h)
 
-module _ (file : List ℕ) (at : ℕ) (allowed : ℕ → Bool) (least limit : ℕ) (from : From least allowed) where
-  pub count-bad : {code place : ℕ} → ((tags n : ℕ) → field 1 file at tags n ≡ bad code place) → (tags n : ℕ) → count allowed limit file at tags n ≡ bad code place
+module _ (k : ℕ) (file : List ℕ) (at : ℕ) (allowed : ℕ → Bool) (least limit : ℕ) (from : From least allowed) where
+  pub count-bad : {code place : ℕ} → ((tags n : ℕ) → field k file at tags n ≡ bad code place) → (tags n : ℕ) → count k allowed limit file at tags n ≡ bad code place
   unfolding count
-  count-bad e tags n = rw (value-bad 1 file at allowed e tags n)
+  count-bad e tags n = rw (value-bad k file at allowed e tags n)
 
-  module _ {x next : ℕ} (e : (tags n : ℕ) → field 1 file at tags n ≡ ok x next tags n) where
-    pub count-few : x < least → (tags n : ℕ) → count allowed limit file at tags n ≡ bad VALUE at
+  module _ {x next : ℕ} (e : (tags n : ℕ) → field k file at tags n ≡ ok x next tags n) where
+    pub count-few : x < least → (tags n : ℕ) → count k allowed limit file at tags n ≡ bad VALUE at
     unfolding count
-    count-few h tags n = rw (value-no 1 file at allowed e (from x ∙ lt-leb _ _ h) tags n)
+    count-few h tags n = rw (value-no k file at allowed e (from x ∙ lt-leb _ _ h) tags n)
 
-    pub count-many : least ≤ x → limit < x → (tags n : ℕ) → count allowed limit file at tags n ≡ bad MANY at
+    pub count-many : least ≤ x → limit < x → (tags n : ℕ) → count k allowed limit file at tags n ≡ bad MANY at
     unfolding count
-    count-many h l tags n = rw (value-ok 1 file at allowed e (from x ∙ le-leb _ _ h) tags n, lt-leb _ _ l)
+    count-many h l tags n = rw (value-ok k file at allowed e (from x ∙ le-leb _ _ h) tags n, lt-leb _ _ l)
 
-    pub count-ok : least ≤ x → x ≤ limit → (tags n : ℕ) → count allowed limit file at tags n ≡ ok x next tags n
+    pub count-ok : least ≤ x → x ≤ limit → (tags n : ℕ) → count k allowed limit file at tags n ≡ ok x next tags n
     unfolding count
-    count-ok h l tags n = rw (value-ok 1 file at allowed e (from x ∙ le-leb _ _ h) tags n, le-leb _ _ l)
+    count-ok h l tags n = rw (value-ok k file at allowed e (from x ∙ le-leb _ _ h) tags n, le-leb _ _ l)
 
 -- ── tags and pairs ──────────────────────────────────────────────────────────────────────────
 

@@ -5,7 +5,7 @@ ghost use mathlib.Core.Bool.{Bool};
 ghost use Prim.Native.Nat.{ℕ, _+_, _*_, _^_, _≤_, _<_};
 ghost use lib.ListN.{length, getD};
 ghost use lib.Seq.{sets};
-ghost use Rattle.cpl.specs.Read.{little, field, nonzero, below, count, tag};
+ghost use Rattle.cpl.specs.Read.{little, field, nonzero, index, below, count, tag};
 ghost use Rattle.cpl.specs.ReadExpr.{readPair, readColumn, readLiteral, leafRest};
 ghost use Rattle.reader_fields.specs.Answers.{Fields, From, Tags, Pairs, spot, RightCells, Reads};
 
@@ -124,11 +124,12 @@ pub fn read_name(file: &[u8], at: usize) -> Field
     name
 }
 
-// A byte below n.
-pub fn read_below(file: &[u8], at: usize, n: u64) -> Field
-    ensures { λ r. ⌜ Fields n (below n (now (file .entry)) at) r × Fields 256 (below n (now (file .entry)) at) r ⌝ }
+// A field of k bytes that is below n.
+pub fn read_index(file: &[u8], at: usize, k: usize, n: u64) -> Field
+    requires { ⌜ k ≤ 8 ⌝ }
+    ensures { λ r. ⌜ Fields n (index k n (now (file .entry)) at) r × Fields (256 ^ k) (index k n (now (file .entry)) at) r ⌝ }
 {
-    let found = read_number(file, at, 1);
+    let found = read_number(file, at, k);
     let Field::Got(x, _) = found else {
         return found;
     };
@@ -138,11 +139,19 @@ pub fn read_below(file: &[u8], at: usize, n: u64) -> Field
     found
 }
 
-// A count: a byte from `least` to `limit`.
-pub fn read_count(file: &[u8], at: usize, least: u64, limit: u64) -> Field
-    ensures { λ r. ⌜ ((allowed : ℕ → Bool) → From least allowed → Fields (limit + 1) (count allowed limit (now (file .entry)) at) r) ⌝ }
+// A byte below n.
+pub fn read_below(file: &[u8], at: usize, n: u64) -> Field
+    ensures { λ r. ⌜ Fields n (below n (now (file .entry)) at) r × Fields 256 (below n (now (file .entry)) at) r ⌝ }
 {
-    let count = read_number(file, at, 1);
+    read_index(file, at, 1, n)
+}
+
+// A count of k bytes, from `least` to `limit`.
+pub fn read_count(file: &[u8], at: usize, k: usize, least: u64, limit: u64) -> Field
+    requires { ⌜ k ≤ 8 ⌝ }
+    ensures { λ r. ⌜ ((allowed : ℕ → Bool) → From least allowed → Fields (limit + 1) (count k allowed limit (now (file .entry)) at) r) ⌝ }
+{
+    let count = read_number(file, at, k);
     let Field::Got(n, _) = count else {
         return count;
     };

@@ -5,12 +5,14 @@ ghost use Prim.Native.Nat.{ℕ, _+_, _*_, _-_, _≤_, _<_};
 ghost use lib.ListN.{length};
 ghost use Rattle.cpl.specs.Plan.{Catalogue};
 ghost use Rattle.cpl.specs.ReadPlan.{readHead, readCond};
+ghost use Rattle.versions.specs.Versions.{versionOf, Known, nodeRows};
 ghost use Rattle.reader_parts.specs.Parts.{RightAt};
-ghost use Rattle.reader_heads.specs.Heads.{HeadAt, RightHead, condStore, scanRest, Widths};
+ghost use Rattle.reader_heads.specs.Heads.{HeadAt, RightHead, condStore, inVersion, columnsStore, columnsRest, scanRest, Widths};
 use reader_fields::Field;
 use reader_fields::Parsed;
 use reader_fields::Spot;
 use reader_parts::Kind;
+use versions::Version;
 
 // The last four numbers of a node: how many rows, and three that depend on the kind.
 pub struct Node {
@@ -20,9 +22,9 @@ pub struct Node {
     pub z: u64,
 }
 
-// A node with no input, one or two, and where the reader stands after its own fields; or a refusal.
+// A node with no input, one or two, and where the reader stands after its own fields; or a refusal. A node with no input has its number of filters.
 pub enum Head {
-    Leaf(Spot, Node),
+    Leaf(Spot, Node, usize),
     One(Spot, Node),
     Two(Spot, Node),
     Bad(u8, usize),
@@ -38,11 +40,19 @@ fn flag(from: usize, to: usize) -> u64
     1
 }
 
-fn read_projection(file: &[u8], s: Spot, cells: &mut [u64], rows: &mut [u16]) -> Head
-    requires { ⌜ (s .made ≤ s .tags) × (s .tags ≤ 4096) × (12288 ≤ length (now cells)) × (4 * (s .row + 384 + (4096 - s .tags) + 32) ≤ length (now rows)) ⌝ }
-    ensures { λ r. ⌜ ((C : Catalogue) → HeadAt 1 C (now (file .entry)) s (now (cells .entry)) (now (cells .exit)) (now (rows .entry)) (now (rows .exit)) r) ⌝ }
+fn read_projection(
+    file: &[u8],
+    s: Spot,
+    version: Version,
+    cells: &mut [u64],
+    rows: &mut [u16],
+) -> Head
+    requires { ⌜ (s .made ≤ s .tags) × (s .tags ≤ 4096) × (12288 ≤ length (now cells)) × (4 * (s .row + nodeRows (versionOf version) + (4096 - s .tags) + 32) ≤ length (now rows)) × (version .wide ≤ 2) ⌝ }
+    ensures { λ r. ⌜ ((C : Catalogue) → HeadAt 1 (inVersion (versionOf version) C) (now (file .entry)) s (now (cells .entry)) (now (cells .exit)) (now (rows .entry)) (now (rows .exit)) r) ⌝ }
 {
-    let list = reader_parts::read_list(file, s, Kind::Item, 0, 128, cells, rows);
+    let k = version.wide;
+    let most = version.items;
+    let list = reader_parts::read_list(file, s, Kind::Item, k, 0, most, cells, rows);
     match list {
         Parsed::Bad(code, place) => Head::Bad(code, place),
         Parsed::Done(t) => Head::One(
@@ -77,10 +87,10 @@ fn read_filter(file: &[u8], s: Spot, cells: &mut [u64]) -> Head
 }
 
 fn read_sort(file: &[u8], s: Spot, cells: &mut [u64], rows: &mut [u16]) -> Head
-    requires { ⌜ (s .made ≤ s .tags) × (s .tags ≤ 4096) × (12288 ≤ length (now cells)) × (4 * (s .row + 384 + (4096 - s .tags) + 32) ≤ length (now rows)) ⌝ }
+    requires { ⌜ (s .made ≤ s .tags) × (s .tags ≤ 4096) × (12288 ≤ length (now cells)) × (4 * (s .row + 32) ≤ length (now rows)) ⌝ }
     ensures { λ r. ⌜ ((C : Catalogue) → HeadAt 3 C (now (file .entry)) s (now (cells .entry)) (now (cells .exit)) (now (rows .entry)) (now (rows .exit)) r) ⌝ }
 {
-    let list = reader_parts::read_list(file, s, Kind::Key, 1, 16, cells, rows);
+    let list = reader_parts::read_list(file, s, Kind::Key, 1, 1, 16, cells, rows);
     match list {
         Parsed::Bad(code, place) => Head::Bad(code, place),
         Parsed::Done(t) => Head::One(
@@ -128,16 +138,25 @@ fn read_limit(file: &[u8], s: Spot) -> Head
     }
 }
 
-fn read_aggregate(file: &[u8], s: Spot, cells: &mut [u64], rows: &mut [u16]) -> Head
-    requires { ⌜ (s .made ≤ s .tags) × (s .tags ≤ 4096) × (12288 ≤ length (now cells)) × (4 * (s .row + 384 + (4096 - s .tags) + 32) ≤ length (now rows)) ⌝ }
-    ensures { λ r. ⌜ ((C : Catalogue) → HeadAt 5 C (now (file .entry)) s (now (cells .entry)) (now (cells .exit)) (now (rows .entry)) (now (rows .exit)) r) ⌝ }
+fn read_aggregate(
+    file: &[u8],
+    s: Spot,
+    version: Version,
+    cells: &mut [u64],
+    rows: &mut [u16],
+) -> Head
+    requires { ⌜ (s .made ≤ s .tags) × (s .tags ≤ 4096) × (12288 ≤ length (now cells)) × (4 * (s .row + nodeRows (versionOf version) + (4096 - s .tags) + 32) ≤ length (now rows)) × (version .wide ≤ 2) ⌝ }
+    ensures { λ r. ⌜ ((C : Catalogue) → HeadAt 5 (inVersion (versionOf version) C) (now (file .entry)) s (now (cells .entry)) (now (cells .exit)) (now (rows .entry)) (now (rows .exit)) r) ⌝ }
 {
-    let groups = reader_parts::read_list(file, s, Kind::Item, 0, 128, cells, rows);
+    let k = version.wide;
+    let most = version.items;
+    let groups = reader_parts::read_list(file, s, Kind::Item, k, 0, most, cells, rows);
     match groups {
         Parsed::Bad(code, place) => Head::Bad(code, place),
         Parsed::Done(t) => {
             let some = flag(s.row, t.row);
-            let values = reader_parts::read_list(file, t, Kind::Agg, 1 - some, 128, cells, rows);
+            let least = 1 - some;
+            let values = reader_parts::read_list(file, t, Kind::Agg, k, least, most, cells, rows);
             match values {
                 Parsed::Bad(code, place) => Head::Bad(code, place),
                 Parsed::Done(u) => Head::One(
@@ -154,11 +173,11 @@ fn read_aggregate(file: &[u8], s: Spot, cells: &mut [u64], rows: &mut [u16]) -> 
     }
 }
 
-fn read_window(file: &[u8], s: Spot, cells: &mut [u64], rows: &mut [u16]) -> Head
-    requires { ⌜ (s .made ≤ s .tags) × (s .tags ≤ 4096) × (12288 ≤ length (now cells)) × (4 * (s .row + 384 + (4096 - s .tags) + 32) ≤ length (now rows)) ⌝ }
-    ensures { λ r. ⌜ ((C : Catalogue) → HeadAt 6 C (now (file .entry)) s (now (cells .entry)) (now (cells .exit)) (now (rows .entry)) (now (rows .exit)) r) ⌝ }
+fn read_window(file: &[u8], s: Spot, version: Version, cells: &mut [u64], rows: &mut [u16]) -> Head
+    requires { ⌜ (s .made ≤ s .tags) × (s .tags ≤ 4096) × (12288 ≤ length (now cells)) × (4 * (s .row + nodeRows (versionOf version) + (4096 - s .tags) + 32) ≤ length (now rows)) × (version .wide ≤ 2) ⌝ }
+    ensures { λ r. ⌜ ((C : Catalogue) → HeadAt 6 (inVersion (versionOf version) C) (now (file .entry)) s (now (cells .entry)) (now (cells .exit)) (now (rows .entry)) (now (rows .exit)) r) ⌝ }
 {
-    let count = reader_fields::read_count(file, s.at, 1, 128);
+    let count = reader_fields::read_count(file, s.at, version.wide, 1, version.items);
     match count {
         Field::Bad(code, place) => Head::Bad(code, place),
         Field::Got(n, next) => {
@@ -236,7 +255,7 @@ fn read_cond(file: &[u8], s: Spot, cells: &mut [u64]) -> Parsed
 }
 
 fn read_join(file: &[u8], s: Spot, cells: &mut [u64], rows: &mut [u16]) -> Head
-    requires { ⌜ (s .made ≤ s .tags) × (s .tags ≤ 4096) × (12288 ≤ length (now cells)) × (4 * (s .row + 384 + (4096 - s .tags) + 32) ≤ length (now rows)) ⌝ }
+    requires { ⌜ (s .made ≤ s .tags) × (s .tags ≤ 4096) × (12288 ≤ length (now cells)) × (4 * (s .row + 32) ≤ length (now rows)) ⌝ }
     ensures { λ r. ⌜ ((C : Catalogue) → HeadAt 10 C (now (file .entry)) s (now (cells .entry)) (now (cells .exit)) (now (rows .entry)) (now (rows .exit)) r) ⌝ }
 {
     let kind = reader_fields::read_below(file, s.at, 8);
@@ -249,7 +268,7 @@ fn read_join(file: &[u8], s: Spot, cells: &mut [u64], rows: &mut [u16]) -> Head
                 made: s.made,
                 row: s.row,
             };
-            let pairs = reader_parts::read_list(file, from, Kind::On, 0, 16, cells, rows);
+            let pairs = reader_parts::read_list(file, from, Kind::On, 1, 0, 16, cells, rows);
             match pairs {
                 Parsed::Bad(code, place) => Head::Bad(code, place),
                 Parsed::Done(t) => {
@@ -276,18 +295,39 @@ fn read_join(file: &[u8], s: Spot, cells: &mut [u64], rows: &mut [u16]) -> Head
     }
 }
 
-// A scan's column indices below `columns`, if it has any.
+// A scan's column indices below `columns`, where x is not 0.
 fn read_columns(
+    file: &[u8],
+    s: Spot,
+    x: u64,
+    version: Version,
+    columns: u64,
+    cells: &mut [u64],
+    rows: &mut [u16],
+) -> Parsed
+    requires { ⌜ (s .made ≤ s .tags) × (s .tags ≤ 4096) × (12288 ≤ length (now cells)) × (4 * s .row + 4 * version .columns ≤ length (now rows)) × (version .wide ≤ 2) ⌝ }
+    ensures { λ r. ⌜ RightAt columnsStore (columnsRest (versionOf version) columns x) (now (file .entry)) s (s .tags) (now (cells .entry)) (now (cells .exit)) (now (rows .entry)) (now (rows .exit)) r ⌝ }
+{
+    if x == 0 {
+        return Parsed::Done(s);
+    }
+    let kind = Kind::Column(version.wide, columns);
+    reader_parts::read_list(file, s, kind, version.wide, 0, version.columns, cells, rows)
+}
+
+// What follows a scan's table t and qualifier q: its column indices below `columns`, if it has any, and its filters.
+fn read_over(
     file: &[u8],
     s: Spot,
     t: u64,
     q: u64,
+    version: Version,
     columns: u64,
     cells: &mut [u64],
     rows: &mut [u16],
 ) -> Head
-    requires { ⌜ (s .made ≤ s .tags) × (s .tags ≤ 4096) × (12288 ≤ length (now cells)) × (4 * (s .row + 384 + (4096 - s .tags) + 32) ≤ length (now rows)) ⌝ }
-    ensures { λ r. ⌜ ((n : ℕ) → RightHead 11 s (now (cells .entry)) (now (cells .exit)) (now (rows .entry)) (now (rows .exit)) n (scanRest t q columns (now (file .entry)) (s .at) (s .tags) n) r) ⌝ }
+    requires { ⌜ (s .made ≤ s .tags) × (s .tags ≤ 4096) × (12288 ≤ length (now cells)) × (4 * (s .row + nodeRows (versionOf version) + (4096 - s .tags) + 32) ≤ length (now rows)) × (version .wide ≤ 2) × (version .late ≤ 2) × (version .columns + version .filters ≤ 2 * version .items) ⌝ }
+    ensures { λ r. ⌜ ((n : ℕ) → RightHead (versionOf version) 11 s (now (cells .entry)) (now (cells .exit)) (now (rows .entry)) (now (rows .exit)) n (scanRest (versionOf version) t q columns (now (file .entry)) (s .at) (s .tags) n) r) ⌝ }
 {
     let some = reader_fields::read_below(file, s.at, 2);
     match some {
@@ -299,30 +339,36 @@ fn read_columns(
                 made: s.made,
                 row: s.row,
             };
-            if x == 0 {
-                return Head::Leaf(
-                    from,
-                    Node {
-                        n: 0,
-                        x: t,
-                        y: q,
-                        z: 0,
-                    },
-                );
-            }
-            let kind = Kind::Column(columns);
-            let list = reader_parts::read_list(file, from, kind, 0, 64, cells, rows);
+            let list = read_columns(file, from, x, version, columns, cells, rows);
             match list {
                 Parsed::Bad(code, place) => Head::Bad(code, place),
-                Parsed::Done(u) => Head::Leaf(
-                    u,
-                    Node {
-                        n: (u.row - s.row) as u64,
-                        x: t,
-                        y: q,
-                        z: 1,
-                    },
-                ),
+                Parsed::Done(u) => {
+                    let k = version.late;
+                    let most = version.filters;
+                    let filters = reader_parts::read_list(
+                        file,
+                        u,
+                        Kind::Expr,
+                        k,
+                        0,
+                        most,
+                        cells,
+                        rows,
+                    );
+                    match filters {
+                        Parsed::Bad(code, place) => Head::Bad(code, place),
+                        Parsed::Done(v) => Head::Leaf(
+                            v,
+                            Node {
+                                n: (u.row - s.row) as u64,
+                                x: t,
+                                y: q,
+                                z: x,
+                            },
+                            v.row - u.row,
+                        ),
+                    }
+                }
             }
         }
     }
@@ -331,13 +377,14 @@ fn read_columns(
 fn read_scan(
     file: &[u8],
     s: Spot,
+    version: Version,
     tables: u64,
     names: &[u16],
     cells: &mut [u64],
     rows: &mut [u16],
 ) -> Head
-    requires { ⌜ (s .made ≤ s .tags) × (s .tags ≤ 4096) × (12288 ≤ length (now cells)) × (4 * (s .row + 384 + (4096 - s .tags) + 32) ≤ length (now rows)) × (65 * tables ≤ length (now names)) × (tables ≤ 16) ⌝ }
-    ensures { λ r. ⌜ ((C : Catalogue) → Widths (now (names .entry)) tables C → HeadAt 11 C (now (file .entry)) s (now (cells .entry)) (now (cells .exit)) (now (rows .entry)) (now (rows .exit)) r) ⌝ }
+    requires { ⌜ (s .made ≤ s .tags) × (s .tags ≤ 4096) × (12288 ≤ length (now cells)) × (4 * (s .row + nodeRows (versionOf version) + (4096 - s .tags) + 32) ≤ length (now rows)) × (513 * tables ≤ length (now names)) × (tables ≤ 16) × (version .wide ≤ 2) × (version .late ≤ 2) × (version .columns + version .filters ≤ 2 * version .items) ⌝ }
+    ensures { λ r. ⌜ ((C : Catalogue) → Widths (now (names .entry)) tables C → HeadAt 11 (inVersion (versionOf version) C) (now (file .entry)) s (now (cells .entry)) (now (cells .exit)) (now (rows .entry)) (now (rows .exit)) r) ⌝ }
 {
     let table = reader_fields::read_below(file, s.at, tables);
     match table {
@@ -347,7 +394,7 @@ fn read_scan(
             match name {
                 Field::Bad(code, place) => Head::Bad(code, place),
                 Field::Got(q, next) => {
-                    let base = 65 * (t as usize);
+                    let base = 513 * (t as usize);
                     let columns = names[base] as u64;
                     let from = Spot {
                         at: next,
@@ -355,17 +402,19 @@ fn read_scan(
                         made: s.made,
                         row: s.row,
                     };
-                    read_columns(file, from, t, q, columns, cells, rows)
+                    read_over(file, from, t, q, version, columns, cells, rows)
                 }
             }
         }
     }
 }
 
-fn read_empty(file: &[u8], s: Spot, cells: &mut [u64], rows: &mut [u16]) -> Head
-    requires { ⌜ (s .made ≤ s .tags) × (s .tags ≤ 4096) × (12288 ≤ length (now cells)) × (4 * (s .row + 384 + (4096 - s .tags) + 32) ≤ length (now rows)) ⌝ }
-    ensures { λ r. ⌜ ((C : Catalogue) → HeadAt 12 C (now (file .entry)) s (now (cells .entry)) (now (cells .exit)) (now (rows .entry)) (now (rows .exit)) r) ⌝ }
+fn read_empty(file: &[u8], s: Spot, version: Version, cells: &mut [u64], rows: &mut [u16]) -> Head
+    requires { ⌜ (s .made ≤ s .tags) × (s .tags ≤ 4096) × (12288 ≤ length (now cells)) × (4 * (s .row + nodeRows (versionOf version) + (4096 - s .tags) + 32) ≤ length (now rows)) × (version .wide ≤ 2) ⌝ }
+    ensures { λ r. ⌜ ((C : Catalogue) → HeadAt 12 (inVersion (versionOf version) C) (now (file .entry)) s (now (cells .entry)) (now (cells .exit)) (now (rows .entry)) (now (rows .exit)) r) ⌝ }
 {
+    let k = version.wide;
+    let most = version.items;
     let row = reader_fields::read_below(file, s.at, 2);
     match row {
         Field::Bad(code, place) => Head::Bad(code, place),
@@ -376,7 +425,7 @@ fn read_empty(file: &[u8], s: Spot, cells: &mut [u64], rows: &mut [u16]) -> Head
                 made: s.made,
                 row: s.row,
             };
-            let list = reader_parts::read_list(file, from, Kind::Pair, 0, 128, cells, rows);
+            let list = reader_parts::read_list(file, from, Kind::Pair, k, 0, most, cells, rows);
             match list {
                 Parsed::Bad(code, place) => Head::Bad(code, place),
                 Parsed::Done(t) => Head::Leaf(
@@ -387,33 +436,36 @@ fn read_empty(file: &[u8], s: Spot, cells: &mut [u64], rows: &mut [u16]) -> Head
                         y: 0,
                         z: 0,
                     },
+                    0,
                 ),
             }
         }
     }
 }
 
-// A node's own fields, after its tag t that stood at `place`.
+// A node's own fields, after its tag t that stood at `place`. Each row of `names` has 513 numbers, of which the first says how many columns the table has.
 pub fn read_head(
     file: &[u8],
     s: Spot,
     place: usize,
     t: u64,
+    version: Version,
     tables: u64,
     names: &[u16],
     cells: &mut [u64],
     rows: &mut [u16],
 ) -> Head
-    requires { ⌜ (s .made ≤ s .tags) × (s .tags ≤ 4096) × (12288 ≤ length (now cells)) × (4 * (s .row + 384 + (4096 - s .tags) + 32) ≤ length (now rows)) × (65 * tables ≤ length (now names)) × (tables ≤ 16) ⌝ }
-    ensures { λ r. ⌜ ((C : Catalogue) → Widths (now (names .entry)) tables C → (n : ℕ) → RightHead t s (now (cells .entry)) (now (cells .exit)) (now (rows .entry)) (now (rows .exit)) n (readHead C place t (now (file .entry)) (s .at) (s .tags) n) r) ⌝ }
+    requires { ⌜ (s .made ≤ s .tags) × (s .tags ≤ 4096) × (12288 ≤ length (now cells)) × (4 * (s .row + nodeRows (versionOf version) + (4096 - s .tags) + 32) ≤ length (now rows)) × (513 * tables ≤ length (now names)) × (tables ≤ 16) ⌝ }
+    requires { ⌜ Known version ⌝ }
+    ensures { λ r. ⌜ ((C : Catalogue) → C .version ≡ versionOf version → Widths (now (names .entry)) tables C → (n : ℕ) → RightHead (versionOf version) t s (now (cells .entry)) (now (cells .exit)) (now (rows .entry)) (now (rows .exit)) n (readHead C place t (now (file .entry)) (s .at) (s .tags) n) r) ⌝ }
 {
     match t {
-        1 => read_projection(file, s, cells, rows),
+        1 => read_projection(file, s, version, cells, rows),
         2 => read_filter(file, s, cells),
         3 => read_sort(file, s, cells, rows),
         4 => read_limit(file, s),
-        5 => read_aggregate(file, s, cells, rows),
-        6 => read_window(file, s, cells, rows),
+        5 => read_aggregate(file, s, version, cells, rows),
+        6 => read_window(file, s, version, cells, rows),
         7 => read_alias(file, s),
         8 => Head::Two(
             s,
@@ -434,8 +486,8 @@ pub fn read_head(
             },
         ),
         10 => read_join(file, s, cells, rows),
-        11 => read_scan(file, s, tables, names, cells, rows),
-        12 => read_empty(file, s, cells, rows),
+        11 => read_scan(file, s, version, tables, names, cells, rows),
+        12 => read_empty(file, s, version, cells, rows),
         _ => Head::Bad(4, place),
     }
 }

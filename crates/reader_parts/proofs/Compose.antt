@@ -1,22 +1,20 @@
 -- How right answers are put together: one part after the other, a row after a part, lists. Assumes nothing.
 use Prim.Native.Nat.{ℕ, zero, suc, _+_, _*_, _-_, _≤_, _<_}
 use mathlib.Core.Path.{_≡_, refl, sym, ap, _∙_}
-use mathlib.Core.Bool.{Bool}
 use mathlib.Core.List.{List, [], _∷_, _++_, append-nil}
 use native.Mathlib.Omega.{arith}
 use native.Mathlib.Numerals.{sub-one}
-use lib.ListN.{length, length-append}
-use lib.Seq.{sets}
+use lib.ListN.{length, length-append, set}
+use lib.Seq.{sets, set-comm}
 use Rattle.cpl.specs.Limits.{maxTags}
-use Rattle.cpl.specs.Plan.{Expr}
-use Rattle.cpl.specs.Read.{Res, ok, bad, Reader, andThen, times, counted, count}
+use Rattle.cpl.specs.Read.{Res, ok, bad, Reader, andThen, times}
 use Rattle.tree.specs.Layout.{Store, allCells, allRows, allNodes, allRowsIn, listStore}
 use Rattle.cpl.proofs.Codec.{Holds, holds-then, holds-ok}
 use Rattle.reader_fields.specs.Answers.{spot, Took, Right, bareStore}
 use Rattle.reader_fields.specs.declared.Spot.{Spot}
 use Rattle.reader_fields.specs.declared.Parsed.{Parsed}
 use Rattle.reader_fields.specs.declared.Parsed.the-variants.{Done, Bad}
-use Rattle.reader_fields.proofs.Sets.{sets-then, right-as, expr-long}
+use Rattle.reader_fields.proofs.Sets.{sets-append, sets-then, expr-long}
 
 -- ── readers ─────────────────────────────────────────────────────────────────────────────────
 
@@ -24,6 +22,22 @@ pub then-then : {A B C : Type 0} (x : Res A) (k : A → ℕ → ℕ → ℕ → 
     andThen (andThen x k) m ≡ andThen x (λ a at t n. andThen (k a at t n) m)
 then-then (ok a at t n) k m = refl
 then-then (bad code place) k m = refl
+
+-- ── stores ──────────────────────────────────────────────────────────────────────────────────
+
+set-sets : (ys l : List ℕ) (i j v : ℕ) → i < j → set (sets l j ys) i v ≡ sets (set l i v) j ys
+set-sets [] l i j v h = refl
+set-sets (y ∷ ys) l i j v h = set-sets ys (set l j y) i (suc j) v (omega arith) ∙ ap (λ (m : List ℕ). sets m (suc j) ys) (set-comm l j i y v (λ e. omega arith))
+
+-- stores at different places can be made in either order
+pub sets-comm : (xs ys l : List ℕ) (i j : ℕ) → i + length xs ≤ j → sets (sets l j ys) i xs ≡ sets (sets l i xs) j ys
+sets-comm [] ys l i j h = refl
+sets-comm (x ∷ xs) ys l i j h = ap (λ (m : List ℕ). sets m (suc i) xs) (set-sets ys l i j x (omega arith)) ∙ sets-comm xs ys (set l i x) (suc i) j (omega arith)
+
+-- what follows was stored first
+pub sets-before : (xs ys l l′ l″ : List ℕ) (i j : ℕ) → l′ ≡ sets l j ys → l″ ≡ sets l′ i xs → j ≡ i + length xs → l″ ≡ sets l i (xs ++ ys)
+sets-before xs ys l l′ l″ i j e f h =
+    f ∙ ap (λ (m : List ℕ). sets m i xs) e ∙ sets-comm xs ys l i j (omega arith) ∙ sets-append xs l i j ys h
 
 -- ── one part after the other ────────────────────────────────────────────────────────────────
 

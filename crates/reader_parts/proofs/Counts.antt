@@ -32,22 +32,22 @@ from-none-before g e (suc x) = rw (eq-eqb g 0 e, ne-eqb (suc x) 0 (λ z. omega a
 pub from-some-before : (g : ℕ) → (g ≡ 0 → ⊥) → From 0 (λ a. not (eqb g 0 && eqb a 0))
 from-some-before g h x = rw (ne-eqb g 0 h) (sym (le-leb 0 x (omega arith)))
 
-module _ (allowed : ℕ → Bool) (limit : ℕ) (file : List ℕ) where
-  count-holds : (at tags n : ℕ) → Holds (λ k a t m. k ≤ limit) (count allowed limit file at tags n)
+module _ (k : ℕ) (allowed : ℕ → Bool) (limit : ℕ) (file : List ℕ) where
+  count-holds : (at tags n : ℕ) → Holds (λ c a t m. c ≤ limit) (count k allowed limit file at tags n)
   unfolding count
-  count-holds at tags n = holds-then (λ x a t m. Unit {0}) (λ (k : ℕ) a t m. k ≤ limit) (value 1 allowed file at tags n) _ (any-holds (value 1 allowed file at tags n)) λ x a t m h. go x a t m (leb x limit) refl
+  count-holds at tags n = holds-then (λ x a t m. Unit {0}) (λ (c : ℕ) a t m. c ≤ limit) (value k allowed file at tags n) _ (any-holds (value k allowed file at tags n)) λ x a t m h. go x a t m (leb x limit) refl
     where
-      go : (x a t m : ℕ) (b : Bool) → leb x limit ≡ b → Holds (λ (k : ℕ) a t m. k ≤ limit) (pick b (give x) (refuse MANY at) file a t m)
+      go : (x a t m : ℕ) (b : Bool) → leb x limit ≡ b → Holds (λ (c : ℕ) a t m. c ≤ limit) (pick b (give x) (refuse MANY at) file a t m)
       go x a t m true e = leb-true x limit e
       go x a t m false e = tt
 
-  pub counted-few : {A : Type 0} (p : Reader A) (at tags n : ℕ) {xs : List A} {at′ tags′ n′ : ℕ} → counted allowed limit p file at tags n ≡ ok xs at′ tags′ n′ → length xs ≤ limit
+  pub counted-few : {A : Type 0} (p : Reader A) (at tags n : ℕ) {xs : List A} {at′ tags′ n′ : ℕ} → counted k allowed limit p file at tags n ≡ ok xs at′ tags′ n′ → length xs ≤ limit
   unfolding counted
   counted-few {A} p at tags n e =
       holds-ok (λ (xs : List A) a t m. length xs ≤ limit) e
-      (holds-then (λ (k : ℕ) a t m. k ≤ limit) (λ (xs : List A) a t m. length xs ≤ limit) (count allowed limit file at tags n) _ (count-holds at tags n) λ k a t m h.
-      few k h (times k p file a t m) (times-holds k p file a t m))
+      (holds-then (λ (c : ℕ) a t m. c ≤ limit) (λ (xs : List A) a t m. length xs ≤ limit) (count k allowed limit file at tags n) _ (count-holds at tags n) λ c a t m h.
+      few c h (times c p file a t m) (times-holds c p file a t m))
     where
-      few : (k : ℕ) → k ≤ limit → (r : Res (List A)) → Holds (λ (xs : List A) a t m. length xs ≡ k) r → Holds (λ (xs : List A) a t m. length xs ≤ limit) r
-      few k h (ok xs a t m) g = omega (arith, g)
-      few k h (bad code place) g = tt
+      few : (c : ℕ) → c ≤ limit → (r : Res (List A)) → Holds (λ (xs : List A) a t m. length xs ≡ c) r → Holds (λ (xs : List A) a t m. length xs ≤ limit) r
+      few c h (ok xs a t m) g = omega (arith, g)
+      few c h (bad code place) g = tt

@@ -13,7 +13,7 @@ use Rattle.cpl.specs.Codes.{VALUE, bit, fnOf, fnNumber}
 use Rattle.cpl.specs.Plan.{Pair, pair, Expr, col, Item, bare, named, itemExpr, Key, key, Call, rows, over, Agg, agg, On, on}
 use Rattle.cpl.specs.Exprs.{exprTags}
 use Rattle.cpl.specs.Bytes.{callNumber}
-use Rattle.cpl.specs.Read.{Res, ok, bad, Reader, andThen, below, tag, times, count, counted, any}
+use Rattle.cpl.specs.Read.{Res, ok, bad, Reader, andThen, index, below, tag, times, count, counted, any}
 use Rattle.cpl.specs.ReadExpr.{readPair, readExpr, exprTo, readBare, readAlias, readItem, readKey, readCall, readAgg, readOn}
 use Rattle.cpl.proofs.Codec.{Holds, holds-then, holds-ok, holds-pick}
 use Rattle.cpl.proofs.CodeTrip.{flags-number, fn-number}
@@ -264,9 +264,9 @@ module _ (file : List ℕ) (s : Spot) (w w1 : List ℕ) (l : s .tags ≤ maxTags
   unfolding pairRow
   field-took {q} {m} {next} e g c n = took-one pairStore s next c w w1 n (q ∷ m ∷ 0 ∷ 0 ∷ []) g (pair q m) refl refl refl refl (e (s .tags) n) l
 
-  pub index-took : (columns : ℕ) {i next : ℕ} → ((tags n : ℕ) → below columns file (s .at) tags n ≡ ok i next tags n) → w1 ≡ sets w (4 * s .row) (i ∷ 0 ∷ 0 ∷ 0 ∷ []) →
-      (c : List ℕ) (n : ℕ) → Took columnStore s c c w w1 n (below columns file (s .at) (s .tags) n) (spot next (s .tags) (s .made) (s .row + 1))
-  index-took columns {i} {next} e g c n = took-one columnStore s next c w w1 n (i ∷ 0 ∷ 0 ∷ 0 ∷ []) g i refl refl refl refl (e (s .tags) n) l
+  pub index-took : (k columns : ℕ) {i next : ℕ} → ((tags n : ℕ) → index k columns file (s .at) tags n ≡ ok i next tags n) → w1 ≡ sets w (4 * s .row) (i ∷ 0 ∷ 0 ∷ 0 ∷ []) →
+      (c : List ℕ) (n : ℕ) → Took columnStore s c c w w1 n (index k columns file (s .at) (s .tags) n) (spot next (s .tags) (s .made) (s .row + 1))
+  index-took k columns {i} {next} e g c n = took-one columnStore s next c w w1 n (i ∷ 0 ∷ 0 ∷ 0 ∷ []) g i refl refl refl refl (e (s .tags) n) l
 
 -- ── every kind ──────────────────────────────────────────────────────────────────────────────
 
@@ -294,7 +294,7 @@ sized-of kind.Expr = expr-sized
 sized-of kind.Agg = record { cells-long = λ made a. elim a [ agg c g ↦ call-sized .cells-long made g ]; rows-long = λ made a. elim a [ agg c g ↦ pair-row-long c (callNumber g) _ ] }
 sized-of kind.On = record { cells-long = λ made o. two-sized .cells-long made o; rows-long = λ made o. elim o [ on a b ↦ refl ] }
 sized-of kind.Pair = record { cells-long = λ made c. refl; rows-long = λ made c. pair-row-long c 0 0 }
-sized-of (kind.Column columns) = record { cells-long = λ made i. refl; rows-long = λ made i. refl }
+sized-of (kind.Column k columns) = record { cells-long = λ made i. refl; rows-long = λ made i. refl }
 
 pub one-row : (k : Kind) (a : Thing k) → storeOf k .rowsIn a ≡ 1
 one-row kind.Item a = refl
@@ -303,15 +303,15 @@ one-row kind.Expr a = refl
 one-row kind.Agg a = refl
 one-row kind.On a = refl
 one-row kind.Pair a = refl
-one-row (kind.Column columns) a = refl
+one-row (kind.Column k columns) a = refl
 
 -- a list with its count
-module _ {A : Type 0} (allowed : ℕ → Bool) (limit : ℕ) (p : Reader A) (file : List ℕ) where
-  pub list-bad : (at tags : ℕ) {code place : ℕ} → ((tags n : ℕ) → count allowed limit file at tags n ≡ bad code place) → (n : ℕ) → counted allowed limit p file at tags n ≡ bad code place
+module _ {A : Type 0} (wide : ℕ) (allowed : ℕ → Bool) (limit : ℕ) (p : Reader A) (file : List ℕ) where
+  pub list-bad : (at tags : ℕ) {code place : ℕ} → ((tags n : ℕ) → count wide allowed limit file at tags n ≡ bad code place) → (n : ℕ) → counted wide allowed limit p file at tags n ≡ bad code place
   unfolding counted
   list-bad at tags e n = rw (e tags n)
 
-  pub list-right : (S : Store A) (s : Spot) {k next : ℕ} → ((tags n : ℕ) → count allowed limit file (s .at) tags n ≡ ok k next tags n) → (c c1 w w1 : List ℕ) (r : Parsed) →
-      RightAt (listStore S) (times k p) file (spot next (s .tags) (s .made) (s .row)) (s .tags) c c1 w w1 r → RightAt (listStore S) (counted allowed limit p) file s (s .tags) c c1 w w1 r
+  pub list-right : (S : Store A) (s : Spot) {k next : ℕ} → ((tags n : ℕ) → count wide allowed limit file (s .at) tags n ≡ ok k next tags n) → (c c1 w w1 : List ℕ) (r : Parsed) →
+      RightAt (listStore S) (times k p) file (spot next (s .tags) (s .made) (s .row)) (s .tags) c c1 w w1 r → RightAt (listStore S) (counted wide allowed limit p) file s (s .tags) c c1 w w1 r
   unfolding counted
   list-right S s {k} {next} e c c1 w w1 r h n = right-as (listStore S) (spot next (s .tags) (s .made) (s .row)) s c c1 w w1 n r refl refl (omega arith) (rw (e (s .tags) n)) (h n)

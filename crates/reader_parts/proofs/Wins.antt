@@ -1,35 +1,34 @@
 -- What the readers of windows answer is right. Assumes nothing.
-use Prim.Native.Nat.{ℕ, zero, suc, _+_, _*_, _-_, _≤_, _<_}
-use mathlib.Core.Path.{_≡_, refl, sym, ap, _∙_}
+use Prim.Native.Nat.{ℕ, _+_, _*_, _-_, _≤_, _<_}
+use mathlib.Core.Path.{_≡_, refl, _∙_}
 use mathlib.Core.List.{List, [], _∷_, _++_}
 use native.Mathlib.Omega.{arith}
 use lib.ListN.{length, length-append}
 use lib.Seq.{sets}
-use Rattle.cpl.specs.Limits.{maxTags, maxKeys}
+use Rattle.cpl.specs.Limits.{maxKeys}
 use Rattle.cpl.specs.Plan.{Pair, pair, Expr, Key, Call, Win, win}
-use Rattle.cpl.specs.Exprs.{exprTags}
 use Rattle.cpl.specs.Bytes.{callNumber}
-use Rattle.cpl.specs.Read.{Res, ok, bad, Reader, andThen, _>>=_, give, below, times, count, counted, any}
+use Rattle.cpl.specs.Read.{Res, ok, bad, andThen, _>>=_, give, below, times, count, counted, any}
 use Rattle.cpl.specs.ReadExpr.{readPair, readExpr, readKey, readCall, readWin}
-use Rattle.cpl.proofs.Codec.{Holds, holds-then, holds-ok}
-use Rattle.tree.specs.Layout.{Store, pairRow, exprStore, keyStore, callCells, callNodes, callRoot, winCells, winRows, winNodes, winRowsIn, winStore, listStore, allCells, allRows, allNodes, allRowsIn}
-use Rattle.reader_fields.specs.Answers.{spot, Took, Right}
+use Rattle.cpl.proofs.Codec.{holds-then, holds-ok}
+use Rattle.tree.specs.Layout.{pairRow, exprStore, keyStore, callCells, winCells, winRows, winNodes, winRowsIn, winStore, listStore, allCells, allRows, allNodes, allRowsIn}
+use Rattle.reader_fields.specs.Answers.{spot, Took}
 use Rattle.reader_fields.specs.declared.Spot.{Spot}
 use Rattle.reader_fields.specs.declared.Parsed.{Parsed}
 use Rattle.reader_fields.specs.declared.Parsed.the-variants.{Done, Bad}
 use Rattle.reader_fields.proofs.Sets.{sets-then, right-as, expr-some}
 use Rattle.reader_parts.specs.Parts.{RightAt, callStore, Rest, rest, readRest, restCells, restRows, restNodes, restRowsIn, restStore, winRest}
-use Rattle.reader_parts.proofs.Compose.{Sized, list-sized, all-one, many-nodes, times-length}
-use Rattle.reader_parts.proofs.Parts.{any-holds, call-holds, call-number, call-root, call-sized, key-sized, key-some, expr-sized, pair-row-long}
+use Rattle.reader_parts.proofs.Compose.{Sized, sets-before, list-sized, all-one, many-nodes, times-length}
+use Rattle.reader_parts.proofs.Parts.{any-holds, call-holds, call-root, call-sized, key-sized, key-some, expr-sized, pair-row-long}
 
 -- ── keys and the function's expression ──────────────────────────────────────────────────────
 
 module _ (f : ℕ) (file : List ℕ) (at tags : ℕ) where
-  pub rest-bad : {code place : ℕ} → ((tags n : ℕ) → count any maxKeys file at tags n ≡ bad code place) → (n : ℕ) → readRest f file at tags n ≡ bad code place
+  pub rest-bad : {code place : ℕ} → ((tags n : ℕ) → count 1 any maxKeys file at tags n ≡ bad code place) → (n : ℕ) → readRest f file at tags n ≡ bad code place
   unfolding counted
   rest-bad e n = rw (e tags n)
 
-  module _ {k next : ℕ} (e : (tags n : ℕ) → count any maxKeys file at tags n ≡ ok k next tags n) where
+  module _ {k next : ℕ} (e : (tags n : ℕ) → count 1 any maxKeys file at tags n ≡ ok k next tags n) where
     pub rest-keys-bad : {code place : ℕ} → ((n : ℕ) → times k readKey file next tags n ≡ bad code place) → (n : ℕ) → readRest f file at tags n ≡ bad code place
     unfolding counted
     rest-keys-bad h n = rw (e tags n, h n)
@@ -39,17 +38,15 @@ module _ (f : ℕ) (file : List ℕ) (at tags : ℕ) where
     unfolding counted
     rest-call-bad n h g = rw (e tags n, h, g)
 
-pub rest-took : (file : List ℕ) (s : Spot) (f : ℕ) {k next : ℕ} → ((tags n : ℕ) → count any maxKeys file (s .at) tags n ≡ ok k next tags n) →
-    (c c1 c2 w w1 w2 w3 : List ℕ) (t u : Spot) → w1 ≡ sets w (4 * s .row) (k ∷ 0 ∷ 0 ∷ 0 ∷ []) → (n : ℕ) →
-    Took (listStore keyStore) (spot next (s .tags) (s .made) (s .row + 1)) c c1 w1 w2 n (times k readKey file next (s .tags) n) t →
+pub rest-took : (file : List ℕ) (s : Spot) (f : ℕ) {k next : ℕ} → ((tags n : ℕ) → count 1 any maxKeys file (s .at) tags n ≡ ok k next tags n) →
+    (c c1 c2 w w1 w2 : List ℕ) (t u : Spot) (n : ℕ) →
+    Took (listStore keyStore) (spot next (s .tags) (s .made) (s .row + 1)) c c1 w w1 n (times k readKey file next (s .tags) n) t →
     Took callStore t c1 c2 [] [] n (readCall f file (t .at) (t .tags) n) u → (e : ℕ) → (u .made ≡ t .made → e ≡ 0) → (t .made < u .made → e ≡ u .made - 1) →
-    w3 ≡ sets w2 (4 * u .row) (0 ∷ 0 ∷ 0 ∷ e ∷ []) → Took restStore s c c2 w w3 n (readRest f file (s .at) (s .tags) n) (spot (u .at) (u .tags) (u .made) (u .row + 1))
+    w2 ≡ sets w1 (4 * s .row) (k ∷ 0 ∷ 0 ∷ e ∷ []) → Took restStore s c c2 w w2 n (readRest f file (s .at) (s .tags) n) u
 unfolding counted restCells restRows restNodes restRowsIn
-rest-took file s f {k} {next} h c c1 c2 w w1 w2 w3 t u p n a b e z o q =
+rest-took file s f {k} {next} h c c1 c2 w w1 w2 t u n a b e z o q =
     let ks = a .value in
     let sized = list-sized keyStore key-sized in
-    let rows : List ℕ = allRows keyStore (s .made) ks in
-    let last : List ℕ = 0 ∷ 0 ∷ 0 ∷ e ∷ [] in
     record {
       value = rest ks (b .value);
       is = rw (h (s .tags) n, a .is, b .is);
@@ -61,9 +58,7 @@ rest-took file s f {k} {next} h c c1 c2 w w1 w2 w3 t u p n a b e z o q =
           (omega (arith, a .made-is, sized .cells-long (s .made) ks)));
       rows-are =
           rw (← (a .made-is), call-root (t .made) (u .made) e (b .value) (b .made-is) z o, times-length k readKey file next (s .tags) n (a .is))
-          (sets-then (k ∷ 0 ∷ 0 ∷ 0 ∷ []) (rows ++ last) w w1 w3 (4 * s .row) (4 * (s .row + 1)) p
-          (sets-then rows last w1 w2 w3 (4 * (s .row + 1)) (4 * u .row) (a .rows-are) q (omega (arith, a .row-is, b .row-is, sized .rows-long (s .made) ks)))
-          (omega arith));
+          (sets-before (k ∷ 0 ∷ 0 ∷ e ∷ []) (allRows keyStore (s .made) ks) w w1 w2 (4 * s .row) (4 * (s .row + 1)) (a .rows-are) q (omega arith));
       grown = omega (arith, a .grown, b .grown);
       few = b .few;
     }
@@ -76,7 +71,7 @@ rest-number : (f : ℕ) → f < 5 → (file : List ℕ) (at tags n : ℕ) {v : R
 unfolding restNumber
 rest-number f l file at tags n e =
     holds-ok (λ (v : Rest) a t m. restNumber v ≡ f) e
-    (holds-then (λ x a t m. Unit {0}) (λ (v : Rest) a t m. restNumber v ≡ f) (counted any maxKeys readKey file at tags n) _ (any-holds (counted any maxKeys readKey file at tags n)) λ ks a t m h.
+    (holds-then (λ x a t m. Unit {0}) (λ (v : Rest) a t m. restNumber v ≡ f) (counted 1 any maxKeys readKey file at tags n) _ (any-holds (counted 1 any maxKeys readKey file at tags n)) λ ks a t m h.
     holds-then (λ (g : Call) a t m. callNumber g ≡ f) (λ (v : Rest) a t m. restNumber v ≡ f) (readCall f file a t m) _ (call-holds f l file a t m) λ g a′ t′ m′ h′. h′)
 
 -- ── windows ─────────────────────────────────────────────────────────────────────────────────
@@ -86,9 +81,9 @@ asWin c ps (rest ks g) = win c g ps ks
 
 -- what follows the parts
 rest-win : (f : ℕ) (c : Pair) (ps : List Expr) (file : List ℕ) (at tags n : ℕ) →
-    (counted any maxKeys readKey >>= λ ks. readCall f >>= λ g. give (win c g ps ks)) file at tags n ≡ andThen (readRest f file at tags n) (λ v a t m. ok (asWin c ps v) a t m)
+    (counted 1 any maxKeys readKey >>= λ ks. readCall f >>= λ g. give (win c g ps ks)) file at tags n ≡ andThen (readRest f file at tags n) (λ v a t m. ok (asWin c ps v) a t m)
 unfolding asWin
-rest-win f c ps file at tags n = go (counted any maxKeys readKey file at tags n)
+rest-win f c ps file at tags n = go (counted 1 any maxKeys readKey file at tags n)
   where
     last : (ks : List Key) (x : Res Call) →
         andThen x (λ g a t m. ok (win c g ps ks) a t m) ≡ andThen (andThen x (λ g a t m. ok (rest ks g) a t m)) (λ v a t m. ok (asWin c ps v) a t m)
@@ -106,11 +101,11 @@ module _ (c : Pair) (file : List ℕ) (at tags : ℕ) where
   over-bad e n = rw (e tags n)
 
   module _ {f after : ℕ} (e : (tags n : ℕ) → below 5 file at tags n ≡ ok f after tags n) where
-    pub over-count-bad : {code place : ℕ} → ((tags n : ℕ) → count any maxKeys file after tags n ≡ bad code place) → (n : ℕ) → winRest c file at tags n ≡ bad code place
+    pub over-count-bad : {code place : ℕ} → ((tags n : ℕ) → count 1 any maxKeys file after tags n ≡ bad code place) → (n : ℕ) → winRest c file at tags n ≡ bad code place
     unfolding counted
     over-count-bad h n = rw (e tags n, h tags n)
 
-    module _ {p next : ℕ} (h : (tags n : ℕ) → count any maxKeys file after tags n ≡ ok p next tags n) where
+    module _ {p next : ℕ} (h : (tags n : ℕ) → count 1 any maxKeys file after tags n ≡ ok p next tags n) where
       pub over-parts-bad : {code place : ℕ} → ((n : ℕ) → times p readExpr file next tags n ≡ bad code place) → (n : ℕ) → winRest c file at tags n ≡ bad code place
       unfolding counted
       over-parts-bad g n = rw (e tags n, h tags n, g n)
@@ -157,7 +152,7 @@ over-took file s q m f p next l c c1 c2 w w1 w2 w3 t u h n a e b =
     }
 
 pub over-right : (file : List ℕ) (s : Spot) (q m : ℕ) {f after p next : ℕ} → ((tags n : ℕ) → below 5 file (s .at) tags n ≡ ok f after tags n) → f < 5 →
-    ((tags n : ℕ) → count any maxKeys file after tags n ≡ ok p next tags n) → (c c1 c2 w w1 w2 w3 : List ℕ) (t : Spot) → w1 ≡ sets w (4 * s .row) (q ∷ m ∷ f ∷ p ∷ []) →
+    ((tags n : ℕ) → count 1 any maxKeys file after tags n ≡ ok p next tags n) → (c c1 c2 w w1 w2 w3 : List ℕ) (t : Spot) → w1 ≡ sets w (4 * s .row) (q ∷ m ∷ f ∷ p ∷ []) →
     RightAt (listStore exprStore) (times p readExpr) file (spot next (s .tags) (s .made) (s .row + 1)) (s .tags) c c1 w1 w2 (Done t) → (r : Parsed) →
     RightAt restStore (readRest f) file t (t .tags) c1 c2 w2 w3 r → RightAt winStore (winRest (pair q m)) file s (s .tags) c c2 w w3 r
 over-right file s q m {f} {after} {p} {next} e l h c c1 c2 w w1 w2 w3 t g a (Done u) b n =
@@ -196,12 +191,12 @@ win-sized = record { cells-long = λ made v. elim v [ win c g ps ks ↦ cells ma
         simp length-append
         (omega (arith, parts .rows-long made ps, keys .rows-long made₁ ks, all-one exprStore (λ x. refl) ps, all-one keyStore (λ x. refl) ks, pair-row-long c (callNumber g) (length ps)))
 
--- three rows, and no more others than nodes
-pub win-rows : (v : Win) → winRowsIn v ≤ 3 + winNodes v
+-- two rows, and no more others than nodes
+pub win-rows : (v : Win) → winRowsIn v ≤ 2 + winNodes v
 unfolding winNodes winRowsIn
 win-rows (win c g ps ks) = omega (arith, many-nodes exprStore expr-some ps, many-nodes keyStore key-some ks)
 
-pub wins-rows : (vs : List Win) → allRowsIn winStore vs ≤ 3 * length vs + allNodes winStore vs
+pub wins-rows : (vs : List Win) → allRowsIn winStore vs ≤ 2 * length vs + allNodes winStore vs
 unfolding allRowsIn allNodes
 wins-rows [] = omega arith
 wins-rows (v ∷ vs) = omega (arith, win-rows v, wins-rows vs)

@@ -6,7 +6,7 @@ use lib.ListN.{length}
 use Rattle.cpl.specs.Limits.{maxKeys}
 use Rattle.cpl.specs.Plan.{Pair, Expr, Item, Key, Call, Agg, agg, Win, win, On}
 use Rattle.cpl.specs.Exprs.{exprTags}
-use Rattle.cpl.specs.Read.{Reader, _>>=_, give, below, any, counted}
+use Rattle.cpl.specs.Read.{Reader, _>>=_, give, index, below, any, counted}
 use Rattle.cpl.specs.ReadExpr.{readPair, readExpr, readItem, readKey, readCall, readAgg, readOn}
 use Rattle.tree.specs.Layout.{Store, exprCells, rootOf, allCells, allRows, allNodes, itemStore, exprStore, keyStore, callCells, callNodes, callRoot, aggStore, onStore, pairStore, columnStore}
 use Rattle.reader_fields.specs.declared.Spot.{Spot}
@@ -28,7 +28,17 @@ Thing kind.Expr = Expr
 Thing kind.Agg = Agg
 Thing kind.On = On
 Thing kind.Pair = Pair
-Thing (kind.Column columns) = ℕ
+Thing (kind.Column k columns) = ℕ
+
+-- the bytes of a column index, 0 for what has a width of its own
+abbrev pub bytesOf : Kind → ℕ
+bytesOf kind.Item = 0
+bytesOf kind.Key = 0
+bytesOf kind.Expr = 0
+bytesOf kind.Agg = 0
+bytesOf kind.On = 0
+bytesOf kind.Pair = 0
+bytesOf (kind.Column k columns) = k
 
 abbrev pub storeOf : (k : Kind) → Store (Thing k)
 storeOf kind.Item = itemStore
@@ -37,7 +47,7 @@ storeOf kind.Expr = exprStore
 storeOf kind.Agg = aggStore
 storeOf kind.On = onStore
 storeOf kind.Pair = pairStore
-storeOf (kind.Column columns) = columnStore
+storeOf (kind.Column k columns) = columnStore
 
 abbrev pub readerOf : (k : Kind) → Reader (Thing k)
 readerOf kind.Item = readItem
@@ -46,7 +56,7 @@ readerOf kind.Expr = readExpr
 readerOf kind.Agg = readAgg
 readerOf kind.On = readOn
 readerOf kind.Pair = readPair
-readerOf (kind.Column columns) = below columns
+readerOf (kind.Column k columns) = index k columns
 
 -- ── parts of parts ──────────────────────────────────────────────────────────────────────────
 
@@ -63,26 +73,26 @@ abbrev pub aggRest : Pair → Reader Agg
 aggRest c = below 5 >>= λ f. readCall f >>= λ g. give (agg c g)
 
 abbrev pub winRest : Pair → Reader Win
-winRest c = below 5 >>= λ f. counted any maxKeys readExpr >>= λ ps. counted any maxKeys readKey >>= λ ks. readCall f >>= λ g. give (win c g ps ks)
+winRest c = below 5 >>= λ f. counted 1 any maxKeys readExpr >>= λ ps. counted 1 any maxKeys readKey >>= λ ks. readCall f >>= λ g. give (win c g ps ks)
 
 -- a window's keys and what its function has at the end
 pub data Rest : Type 0 where
   rest : List Key → Call → Rest
 
 abbrev pub readRest : (f : ℕ) → Reader Rest
-readRest f = counted any maxKeys readKey >>= λ ks. readCall f >>= λ g. give (rest ks g)
+readRest f = counted 1 any maxKeys readKey >>= λ ks. readCall f >>= λ g. give (rest ks g)
 
 unfoldable pub restCells : (made : ℕ) → Rest → List ℕ
 restCells made (rest ks g) = allCells keyStore made ks ++ callCells (made + allNodes keyStore ks) g
 
 unfoldable pub restRows : (made : ℕ) → Rest → List ℕ
-restRows made (rest ks g) = (length ks ∷ 0 ∷ 0 ∷ 0 ∷ []) ++ (allRows keyStore made ks ++ (0 ∷ 0 ∷ 0 ∷ callRoot (made + allNodes keyStore ks) g ∷ []))
+restRows made (rest ks g) = (length ks ∷ 0 ∷ 0 ∷ callRoot (made + allNodes keyStore ks) g ∷ []) ++ allRows keyStore made ks
 
 unfoldable pub restNodes : Rest → ℕ
 restNodes (rest ks g) = allNodes keyStore ks + callNodes g
 
 unfoldable pub restRowsIn : Rest → ℕ
-restRowsIn (rest ks g) = 2 + length ks
+restRowsIn (rest ks g) = 1 + length ks
 
 abbrev pub restStore : Store Rest
 restStore = record { cellsOf = restCells; rowsOf = restRows; nodesIn = restNodes; rowsIn = restRowsIn }

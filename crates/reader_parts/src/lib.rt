@@ -6,17 +6,17 @@ ghost use Prim.Native.Nat.{ℕ, _+_, _*_, _-_, _≤_, _<_};
 ghost use lib.ListN.{length};
 ghost use lib.Seq.{sets};
 ghost use Rattle.cpl.specs.Plan.{pair};
-ghost use Rattle.cpl.specs.Read.{below, times, counted};
+ghost use Rattle.cpl.specs.Read.{index, times, counted};
 ghost use Rattle.cpl.specs.ReadExpr.{readPair, readExpr, readBare, readAlias, readItem, readKey, readCall, readAgg, readWin, readOn};
 ghost use Rattle.tree.specs.Layout.{itemStore, keyStore, aggStore, winStore, onStore, pairStore, columnStore, listStore};
 ghost use Rattle.reader_fields.specs.Answers.{From};
-ghost use Rattle.reader_parts.specs.Parts.{RightAt, storeOf, readerOf, memberStore, callStore, readRest, restStore, aggRest, winRest};
+ghost use Rattle.reader_parts.specs.Parts.{RightAt, bytesOf, storeOf, readerOf, memberStore, callStore, readRest, restStore, aggRest, winRest};
 use reader_fields::Field;
 use reader_fields::PairField;
 use reader_fields::Parsed;
 use reader_fields::Spot;
 
-// What a list holds. A column index is below the number given.
+// What a list holds. A column index has so many bytes, and is below the number given.
 pub enum Kind {
     Item,
     Key,
@@ -24,7 +24,7 @@ pub enum Kind {
     Agg,
     On,
     Pair,
-    Column(u64),
+    Column(usize, u64),
 }
 
 // The four numbers of a row.
@@ -268,12 +268,12 @@ fn read_field(file: &[u8], s: Spot, rows: &mut [u16]) -> Parsed
     }
 }
 
-// A column index of a scan.
-fn read_index(file: &[u8], s: Spot, columns: u64, rows: &mut [u16]) -> Parsed
-    requires { ⌜ (s .tags ≤ 4096) × (4 * s .row + 4 ≤ length (now rows)) ⌝ }
-    ensures { λ r. ⌜ ((cells : List ℕ) → RightAt columnStore (below columns) (now (file .entry)) s (s .tags) cells cells (now (rows .entry)) (now (rows .exit)) r) ⌝ }
+// A column index of a scan, of k bytes.
+fn read_index(file: &[u8], s: Spot, k: usize, columns: u64, rows: &mut [u16]) -> Parsed
+    requires { ⌜ (s .tags ≤ 4096) × (4 * s .row + 4 ≤ length (now rows)) × (k ≤ 2) ⌝ }
+    ensures { λ r. ⌜ ((cells : List ℕ) → RightAt columnStore (index k columns) (now (file .entry)) s (s .tags) cells cells (now (rows .entry)) (now (rows .exit)) r) ⌝ }
 {
-    let index = reader_fields::read_below(file, s.at, columns);
+    let index = reader_fields::read_index(file, s.at, k, columns);
     match index {
         Field::Bad(code, place) => Parsed::Bad(code, place),
         Field::Got(i, next) => {
@@ -290,7 +290,7 @@ fn read_index(file: &[u8], s: Spot, columns: u64, rows: &mut [u16]) -> Parsed
 
 // One part.
 fn read_part(file: &[u8], s: Spot, kind: Kind, cells: &mut [u64], rows: &mut [u16]) -> Parsed
-    requires { ⌜ (s .made ≤ s .tags + 4096) × (s .tags ≤ 4096) × (3 * s .made + 12288 ≤ 3 * s .tags + length (now cells)) × (4 * s .row + 4 ≤ length (now rows)) ⌝ }
+    requires { ⌜ (s .made ≤ s .tags + 4096) × (s .tags ≤ 4096) × (3 * s .made + 12288 ≤ 3 * s .tags + length (now cells)) × (4 * s .row + 4 ≤ length (now rows)) × (bytesOf kind ≤ 2) ⌝ }
     ensures { λ r. ⌜ RightAt (storeOf kind) (readerOf kind) (now (file .entry)) s (s .tags) (now (cells .entry)) (now (cells .exit)) (now (rows .entry)) (now (rows .exit)) r ⌝ }
 {
     match kind {
@@ -300,7 +300,7 @@ fn read_part(file: &[u8], s: Spot, kind: Kind, cells: &mut [u64], rows: &mut [u1
         Kind::Agg => read_agg(file, s, cells, rows),
         Kind::On => read_on(file, s, cells, rows),
         Kind::Pair => read_field(file, s, rows),
-        Kind::Column(columns) => read_index(file, s, columns, rows),
+        Kind::Column(k, columns) => read_index(file, s, k, columns, rows),
     }
 }
 
@@ -313,7 +313,7 @@ fn read_parts(
     cells: &mut [u64],
     rows: &mut [u16],
 ) -> Parsed
-    requires { ⌜ (s .made ≤ s .tags + 4096) × (s .tags ≤ 4096) × (3 * s .made + 12288 ≤ 3 * s .tags + length (now cells)) × (4 * s .row + 4 * n ≤ length (now rows)) ⌝ }
+    requires { ⌜ (s .made ≤ s .tags + 4096) × (s .tags ≤ 4096) × (3 * s .made + 12288 ≤ 3 * s .tags + length (now cells)) × (4 * s .row + 4 * n ≤ length (now rows)) × (bytesOf kind ≤ 2) ⌝ }
     ensures { λ r. ⌜ RightAt (listStore (storeOf kind)) (times n (readerOf kind)) (now (file .entry)) s (s .tags) (now (cells .entry)) (now (cells .exit)) (now (rows .entry)) (now (rows .exit)) r ⌝ }
 {
     if n == 0 {
@@ -326,20 +326,21 @@ fn read_parts(
     read_parts(file, t, kind, n - 1, cells, rows)
 }
 
-// A count from `least` to `limit`, and as many parts.
+// A count of k bytes, from `least` to `limit`, and as many parts.
 pub fn read_list(
     file: &[u8],
     s: Spot,
     kind: Kind,
+    k: usize,
     least: u64,
     limit: u64,
     cells: &mut [u64],
     rows: &mut [u16],
 ) -> Parsed
-    requires { ⌜ (s .made ≤ s .tags + 4096) × (s .tags ≤ 4096) × (3 * s .made + 12288 ≤ 3 * s .tags + length (now cells)) × (4 * s .row + 4 * limit ≤ length (now rows)) ⌝ }
-    ensures { λ r. ⌜ ((allowed : ℕ → Bool) → From least allowed → RightAt (listStore (storeOf kind)) (counted allowed limit (readerOf kind)) (now (file .entry)) s (s .tags) (now (cells .entry)) (now (cells .exit)) (now (rows .entry)) (now (rows .exit)) r) ⌝ }
+    requires { ⌜ (s .made ≤ s .tags + 4096) × (s .tags ≤ 4096) × (3 * s .made + 12288 ≤ 3 * s .tags + length (now cells)) × (4 * s .row + 4 * limit ≤ length (now rows)) × (bytesOf kind ≤ 2) × (k ≤ 2) ⌝ }
+    ensures { λ r. ⌜ ((allowed : ℕ → Bool) → From least allowed → RightAt (listStore (storeOf kind)) (counted k allowed limit (readerOf kind)) (now (file .entry)) s (s .tags) (now (cells .entry)) (now (cells .exit)) (now (rows .entry)) (now (rows .exit)) r) ⌝ }
 {
-    let count = reader_fields::read_count(file, s.at, least, limit);
+    let count = reader_fields::read_count(file, s.at, k, least, limit);
     match count {
         Field::Bad(code, place) => Parsed::Bad(code, place),
         Field::Got(n, next) => {
@@ -354,16 +355,15 @@ pub fn read_list(
     }
 }
 
-// A window's keys and its function's expression.
+// A window's keys and its function's expression. The row before the keys has their number and the root, so it is put when that is known.
 fn read_rest(file: &[u8], s: Spot, f: u64, cells: &mut [u64], rows: &mut [u16]) -> Parsed
-    requires { ⌜ (s .made ≤ s .tags + 4096) × (s .tags ≤ 4096) × (3 * s .made + 12288 ≤ 3 * s .tags + length (now cells)) × (4 * s .row + 72 ≤ length (now rows)) ⌝ }
+    requires { ⌜ (s .made ≤ s .tags + 4096) × (s .tags ≤ 4096) × (3 * s .made + 12288 ≤ 3 * s .tags + length (now cells)) × (4 * s .row + 68 ≤ length (now rows)) ⌝ }
     ensures { λ r. ⌜ RightAt restStore (readRest f) (now (file .entry)) s (s .tags) (now (cells .entry)) (now (cells .exit)) (now (rows .entry)) (now (rows .exit)) r ⌝ }
 {
-    let count = reader_fields::read_count(file, s.at, 0, 16);
+    let count = reader_fields::read_count(file, s.at, 1, 0, 16);
     match count {
         Field::Bad(code, place) => Parsed::Bad(code, place),
         Field::Got(k, next) => {
-            put_row(rows, s.row, k, 0, 0, 0);
             let from = Spot {
                 at: next,
                 tags: s.tags,
@@ -379,27 +379,22 @@ fn read_rest(file: &[u8], s: Spot, f: u64, cells: &mut [u64], rows: &mut [u16]) 
                 return call;
             };
             let e = root(t.made, u.made);
-            put_row(rows, u.row, 0, 0, 0, e);
-            Parsed::Done(Spot {
-                at: u.at,
-                tags: u.tags,
-                made: u.made,
-                row: u.row + 1,
-            })
+            put_row(rows, s.row, k, 0, 0, e);
+            Parsed::Done(u)
         }
     }
 }
 
 // A window's function, its parts and what follows them, after its pair.
 fn read_over(file: &[u8], s: Spot, q: u64, n: u64, cells: &mut [u64], rows: &mut [u16]) -> Parsed
-    requires { ⌜ (s .made ≤ s .tags + 4096) × (s .tags ≤ 4096) × (3 * s .made + 12288 ≤ 3 * s .tags + length (now cells)) × (4 * s .row + 140 ≤ length (now rows)) × (q < 65536) × (n < 65536) ⌝ }
+    requires { ⌜ (s .made ≤ s .tags + 4096) × (s .tags ≤ 4096) × (3 * s .made + 12288 ≤ 3 * s .tags + length (now cells)) × (4 * s .row + 136 ≤ length (now rows)) × (q < 65536) × (n < 65536) ⌝ }
     ensures { λ r. ⌜ RightAt winStore (winRest (pair q n)) (now (file .entry)) s (s .tags) (now (cells .entry)) (now (cells .exit)) (now (rows .entry)) (now (rows .exit)) r ⌝ }
 {
     let function = reader_fields::read_below(file, s.at, 5);
     match function {
         Field::Bad(code, place) => Parsed::Bad(code, place),
         Field::Got(f, after) => {
-            let count = reader_fields::read_count(file, after, 0, 16);
+            let count = reader_fields::read_count(file, after, 1, 0, 16);
             match count {
                 Field::Bad(code, place) => Parsed::Bad(code, place),
                 Field::Got(p, next) => {
@@ -423,7 +418,7 @@ fn read_over(file: &[u8], s: Spot, q: u64, n: u64, cells: &mut [u64], rows: &mut
 
 // A window.
 fn read_win(file: &[u8], s: Spot, cells: &mut [u64], rows: &mut [u16]) -> Parsed
-    requires { ⌜ (s .made ≤ s .tags + 4096) × (s .tags ≤ 4096) × (3 * s .made + 12288 ≤ 3 * s .tags + length (now cells)) × (4 * s .row + 140 ≤ length (now rows)) ⌝ }
+    requires { ⌜ (s .made ≤ s .tags + 4096) × (s .tags ≤ 4096) × (3 * s .made + 12288 ≤ 3 * s .tags + length (now cells)) × (4 * s .row + 136 ≤ length (now rows)) ⌝ }
     ensures { λ r. ⌜ RightAt winStore readWin (now (file .entry)) s (s .tags) (now (cells .entry)) (now (cells .exit)) (now (rows .entry)) (now (rows .exit)) r ⌝ }
 {
     let pair = reader_fields::read_pair(file, s.at);
@@ -443,7 +438,7 @@ fn read_win(file: &[u8], s: Spot, cells: &mut [u64], rows: &mut [u16]) -> Parsed
 
 // n windows, one after the other.
 pub fn read_wins(file: &[u8], s: Spot, n: u64, cells: &mut [u64], rows: &mut [u16]) -> Parsed
-    requires { ⌜ (s .made ≤ s .tags + 4096) × (s .tags ≤ 4096) × (3 * s .made + 12288 ≤ 3 * s .tags + length (now cells)) × (4 * (s .row + 3 * n + (4096 - s .tags) + 32) ≤ length (now rows)) ⌝ }
+    requires { ⌜ (s .made ≤ s .tags + 4096) × (s .tags ≤ 4096) × (3 * s .made + 12288 ≤ 3 * s .tags + length (now cells)) × (4 * (s .row + 2 * n + (4096 - s .tags) + 32) ≤ length (now rows)) ⌝ }
     ensures { λ r. ⌜ RightAt (listStore winStore) (times n readWin) (now (file .entry)) s (s .tags) (now (cells .entry)) (now (cells .exit)) (now (rows .entry)) (now (rows .exit)) r ⌝ }
 {
     if n == 0 {

@@ -128,7 +128,7 @@ fn call(line: &[u8], mode: u8, mask: u16, file: &[u8], out: &mut [u8]) -> Called
     if vector_text::is_word(line, 3, b"*") {
         return Called::Got(pruner::prune_all(mode, mask, file, out));
     }
-    let mut list = [0u16; 256];
+    let mut list = [0u16; 640];
     let Parsed::Number(n) = vector_text::list_at(line, 3, &mut list) else {
         return Called::Not;
     };

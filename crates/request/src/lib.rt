@@ -26,9 +26,9 @@ fn refused_at(place: usize) -> Requested
     }
 }
 
-/// The indices asked for of `width` fields, at most 128, or the first position whose index is not above the one before it or not below `width`.
+/// The indices asked for of `width` fields, at most 512, or the first position whose index is not above the one before it or not below `width`.
 pub fn check_request(request: &[u16], width: usize) -> Requested
-    requires { ⌜ width ≤ 128 ⌝ }
+    requires { ⌜ width ≤ 512 ⌝ }
     ensures { λ r. ⌜ RequestIs width (now (request .entry)) r (requestFault width (now (request .entry))) ⌝ }
 {
     let mut set = RequiredIndices::new();
@@ -53,9 +53,9 @@ pub fn check_request(request: &[u16], width: usize) -> Requested
     }
 }
 
-/// All of `width` fields, at most 128.
+/// All of `width` fields, at most 512.
 pub fn all_fields(width: usize) -> RequiredIndices
-    requires { ⌜ width ≤ 128 ⌝ }
+    requires { ⌜ width ≤ 512 ⌝ }
     ensures { λ r. ⌜ Asks r (maskOf width (iota 0 width)) × (flagOf r ≡ false) ⌝ }
 {
     RequiredIndices::new_for_all_exprs(width)

@@ -18,8 +18,8 @@ use Rattle.tree.specs.declared.JoinType.{JoinType}
 use Rattle.lookup.specs.Fields.{RowIn}
 
 -- the fields of an input lie in the array, and a set has room for them
-pub record Below (fields : List ℕ) (k width : ℕ) : Type 0 where
-  pub inside : RowIn fields k width
+pub record Below (fields : List ℕ) (start width : ℕ) : Type 0 where
+  pub inside : RowIn fields start width
   pub few : width ≤ wordsN * 64
 
 -- a request with the columns that the references of the expressions find; the flag stays

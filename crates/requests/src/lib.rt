@@ -1,8 +1,8 @@
 //! requests: what is asked of the inputs of a node. Port of `with_exprs`, `with_plan_exprs` and `add_expr` of `required_indices.rs` and of
 //! `split_join_requirements` of `optimize_projections/mod.rs`.
 //!
-//! Each function adds to a request the columns of some expressions: what each reference finds among the fields of an input, the first `width`
-//! fields of node `k`. `Adds` says what mask the request then asks for.
+//! Each function adds to a request the columns of some expressions: what each reference finds among the fields of an input, `width` fields from
+//! field `start` on. `Adds` says what mask the request then asks for.
 ghost use mathlib.Core.Bool.{false};
 ghost use mathlib.Core.Path.{_≡_};
 ghost use mathlib.Core.List.{List, [], _∷_, map};
@@ -30,17 +30,17 @@ pub fn add_expr(
     cells: &[u64],
     i: usize,
     fields: &[u16],
-    k: usize,
+    start: usize,
     width: usize,
 ) -> RequiredIndices
     requires { ⌜ Wf (now cells) (i + 1) ⌝ }
-    requires { ⌜ Below (now fields) k width ⌝ }
-    ensures { λ out. ⌜ Adds (exprAt (now (cells .entry)) i ∷ []) (rowAt (now (fields .entry)) k width) r out ⌝ }
+    requires { ⌜ Below (now fields) start width ⌝ }
+    ensures { λ out. ⌜ Adds (exprAt (now (cells .entry)) i ∷ []) (rowAt (now (fields .entry)) start width) r out ⌝ }
 {
     let v = arena::node_at(cells, i);
     match v {
         View::Col(q, n) => {
-            let f = lookup::first_fit(fields, k * 128, width, q, n);
+            let f = lookup::first_fit(fields, start, width, q, n);
             let Fit::At(j) = f else {
                 return r;
             };
@@ -48,10 +48,10 @@ pub fn add_expr(
         }
         View::Lit(_) => r,
         View::Miss => r,
-        View::One(_, x) => add_expr(r, cells, x, fields, k, width),
+        View::One(_, x) => add_expr(r, cells, x, fields, start, width),
         View::Two(_, x, y) => {
-            let s = add_expr(r, cells, x, fields, k, width);
-            add_expr(s, cells, y, fields, k, width)
+            let s = add_expr(r, cells, x, fields, start, width);
+            add_expr(s, cells, y, fields, start, width)
         }
     }
 }
@@ -73,18 +73,18 @@ pub fn with_roots(
     at: usize,
     cells: &[u64],
     fields: &[u16],
-    k: usize,
+    start: usize,
     width: usize,
 ) -> RequiredIndices
     requires { ⌜ RootsOk (now rows) (now cells) at first count ⌝ }
-    requires { ⌜ Below (now fields) k width ⌝ }
-    ensures { λ out. ⌜ Adds (rootsAt (now (rows .entry)) (now (cells .entry)) at first count) (rowAt (now (fields .entry)) k width) r out ⌝ }
+    requires { ⌜ Below (now fields) start width ⌝ }
+    ensures { λ out. ⌜ Adds (rootsAt (now (rows .entry)) (now (cells .entry)) at first count) (rowAt (now (fields .entry)) start width) r out ⌝ }
 {
     let mut out = r;
     let mut i = 0;
     while i < count {
         let root = wide(rows[(first + i) * 4 + at]);
-        out = add_expr(out, cells, root, fields, k, width);
+        out = add_expr(out, cells, root, fields, start, width);
         i += 1;
     }
     out
@@ -99,19 +99,19 @@ pub fn with_items(
     cells: &[u64],
     kept: RequiredIndices,
     fields: &[u16],
-    k: usize,
+    start: usize,
     width: usize,
 ) -> RequiredIndices
     requires { ⌜ RowsOk (now items) (now cells) first count ⌝ }
-    requires { ⌜ Below (now fields) k width ⌝ }
-    ensures { λ out. ⌜ Adds (map itemExpr (select (requestMask count kept) (itemsAt (now (items .entry)) (now (cells .entry)) first count))) (rowAt (now (fields .entry)) k width) r out ⌝ }
+    requires { ⌜ Below (now fields) start width ⌝ }
+    ensures { λ out. ⌜ Adds (map itemExpr (select (requestMask count kept) (itemsAt (now (items .entry)) (now (cells .entry)) first count))) (rowAt (now (fields .entry)) start width) r out ⌝ }
 {
     let mut out = r;
     let mut i = 0;
     while i < count {
         if kept.contains(i) {
             let row = arena::row_at(items, first + i);
-            out = add_expr(out, cells, row.root, fields, k, width);
+            out = add_expr(out, cells, row.root, fields, start, width);
         }
         i += 1;
     }
@@ -125,17 +125,17 @@ pub fn with_call(
     root: usize,
     cells: &[u64],
     fields: &[u16],
-    k: usize,
+    start: usize,
     width: usize,
 ) -> RequiredIndices
     requires { ⌜ (0 < function → Wf (now cells) (root + 1)) ⌝ }
-    requires { ⌜ Below (now fields) k width ⌝ }
-    ensures { λ out. ⌜ Adds (callExprs (callOf function (exprAt (now (cells .entry)) root))) (rowAt (now (fields .entry)) k width) r out ⌝ }
+    requires { ⌜ Below (now fields) start width ⌝ }
+    ensures { λ out. ⌜ Adds (callExprs (callOf function (exprAt (now (cells .entry)) root))) (rowAt (now (fields .entry)) start width) r out ⌝ }
 {
     if function == 0 {
         return r;
     }
-    add_expr(r, cells, root, fields, k, width)
+    add_expr(r, cells, root, fields, start, width)
 }
 
 /// The columns of those aggregates of a list that `kept` has. The list's rows are well formed. Rust: `with_exprs` of `get_at_indices`.
@@ -147,19 +147,19 @@ pub fn with_aggregates(
     cells: &[u64],
     kept: RequiredIndices,
     fields: &[u16],
-    k: usize,
+    start: usize,
     width: usize,
 ) -> RequiredIndices
     requires { ⌜ EachOk (AggOk (now rows) (now cells)) (now rows) first count ⌝ }
-    requires { ⌜ Below (now fields) k width ⌝ }
-    ensures { λ out. ⌜ Adds (concatMap aggExprs (select (requestMask count kept) (aggsAt (now (rows .entry)) (now (cells .entry)) first count))) (rowAt (now (fields .entry)) k width) r out ⌝ }
+    requires { ⌜ Below (now fields) start width ⌝ }
+    ensures { λ out. ⌜ Adds (concatMap aggExprs (select (requestMask count kept) (aggsAt (now (rows .entry)) (now (cells .entry)) first count))) (rowAt (now (fields .entry)) start width) r out ⌝ }
 {
     let mut out = r;
     let mut i = 0;
     while i < count {
         if kept.contains(i) {
             let a = tree::agg_at(rows, first + i);
-            out = with_call(out, a.function, a.root, cells, fields, k, width);
+            out = with_call(out, a.function, a.root, cells, fields, start, width);
         }
         i += 1;
     }
@@ -173,17 +173,17 @@ pub fn with_window(
     i: usize,
     cells: &[u64],
     fields: &[u16],
-    k: usize,
+    start: usize,
     width: usize,
 ) -> RequiredIndices
     requires { ⌜ WinOk (now rows) (now cells) i ⌝ }
-    requires { ⌜ Below (now fields) k width ⌝ }
-    ensures { λ out. ⌜ Adds (winExprs (winAt (now (rows .entry)) (now (cells .entry)) i)) (rowAt (now (fields .entry)) k width) r out ⌝ }
+    requires { ⌜ Below (now fields) start width ⌝ }
+    ensures { λ out. ⌜ Adds (winExprs (winAt (now (rows .entry)) (now (cells .entry)) i)) (rowAt (now (fields .entry)) start width) r out ⌝ }
 {
     let w = tree::win_at(rows, i);
-    let s = with_call(r, w.function, w.root, cells, fields, k, width);
-    let t = with_roots(s, rows, i + 1, w.parts, 3, cells, fields, k, width);
-    with_roots(t, rows, w.key, w.keys, 3, cells, fields, k, width)
+    let s = with_call(r, w.function, w.root, cells, fields, start, width);
+    let t = with_roots(s, rows, i + 1, w.parts, 3, cells, fields, start, width);
+    with_roots(t, rows, w.key, w.keys, 3, cells, fields, start, width)
 }
 
 /// The columns of those windows of a list that `kept` has. They are well formed. Rust: `with_exprs` of `get_at_indices`.
@@ -195,12 +195,12 @@ pub fn with_windows(
     cells: &[u64],
     kept: RequiredIndices,
     fields: &[u16],
-    k: usize,
+    start: usize,
     width: usize,
 ) -> RequiredIndices
     requires { ⌜ AllAt (WinOk (now rows) (now cells)) (winSize (now rows)) first count ⌝ }
-    requires { ⌜ Below (now fields) k width ⌝ }
-    ensures { λ out. ⌜ Adds (concatMap winExprs (select (requestMask count kept) (winsAt (now (rows .entry)) (now (cells .entry)) first count))) (rowAt (now (fields .entry)) k width) r out ⌝ }
+    requires { ⌜ Below (now fields) start width ⌝ }
+    ensures { λ out. ⌜ Adds (concatMap winExprs (select (requestMask count kept) (winsAt (now (rows .entry)) (now (cells .entry)) first count))) (rowAt (now (fields .entry)) start width) r out ⌝ }
 {
     let mut out = r;
     let mut at = first;
@@ -208,7 +208,7 @@ pub fn with_windows(
     while i < count {
         let w = tree::win_at(rows, at);
         if kept.contains(i) {
-            out = with_window(out, rows, at, cells, fields, k, width);
+            out = with_window(out, rows, at, cells, fields, start, width);
         }
         at = w.next;
         i += 1;

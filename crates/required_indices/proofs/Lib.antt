@@ -10,8 +10,8 @@ pub mod Words
 pub mod Places
 pub mod Search
 pub mod Loops
+pub mod Pads
 pub mod Stored
 pub mod Parts
 pub mod Slides
 pub mod Shifts
-pub mod Determined

@@ -21,14 +21,14 @@ fit [] (y ∷ ys) e = absurd (omega arith)
 fit (x ∷ xs) [] e = absurd (omega arith)
 fit (x ∷ xs) (y ∷ ys) e = tt z∷ fit xs ys (omega arith)
 
--- ---- a loop that writes the words of a list t, k of them done
+-- ---- a loop that writes the words of a list t into the first ones of an array, k of them done
 
 pub record Filled (t cur : List ℕ) (k : ℕ) : Type 0 where
   pub front : take k cur ≡ take k t
-  pub long : length cur ≡ length t
+  pub long : length t ≤ length cur
   pub most : k ≤ length t
 
-pub fill-start : (t cur : List ℕ) → length cur ≡ length t → Filled t cur 0
+pub fill-start : (t cur : List ℕ) → length t ≤ length cur → Filled t cur 0
 fill-start t cur e = record { front = refl; long = e; most = omega arith }
 
 module _ (t cur : List ℕ) (k : ℕ) (j : Filled t cur k) where
@@ -39,15 +39,14 @@ module _ (t cur : List ℕ) (k : ℕ) (j : Filled t cur k) where
             ap (λ (x : ℕ). take x (set cur k v)) (add-one k) ∙ take-suc-set cur k v (omega (arith, j .long))
             ∙ ap₂ (λ (m : List ℕ) (x : ℕ). m ++ (x ∷ [])) (j .front) e
             ∙ sym (ap (λ (x : ℕ). take x t) (add-one k) ∙ take-suc t k 0 l);
-        long = length-set cur k v ∙ j .long;
+        long = omega (arith, length-set cur k v, j .long);
         most = omega arith;
       }
 
-  pub fill-end : length t ≤ k → cur ≡ t
+  pub fill-end : length t ≤ k → take (length t) cur ≡ t
   fill-end l =
-      let a : length cur ≡ k = omega (arith, j .long, j .most) in
       let b : k ≡ length t = omega (arith, j .most) in
-      sym (take-length cur) ∙ ap (λ (x : ℕ). take x cur) a ∙ j .front ∙ ap (λ (x : ℕ). take x t) b ∙ take-length t
+      ap (λ (x : ℕ). take x cur) (sym b) ∙ j .front ∙ ap (λ (x : ℕ). take x t) b ∙ take-length t
 
 -- ---- a loop that counts
 

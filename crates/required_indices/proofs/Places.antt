@@ -5,14 +5,17 @@ use mathlib.Core.List.{List, [], _∷_}
 use Prim.Native.Nat.{ℕ, suc, _+_, _-_, _*_, _/_, _%_, _^_, _≤_, _<_}
 use native.Mathlib.Omega.{arith}
 use lib.Bits.{bitOr}
-use lib.ListN.{length, getD, set}
+use lib.ListN.{length, getD, set, length-take}
 use mir.Val.{Fits}
 use mir.Syntax.{w64}
 use Rattle.cpl.specs.Lists.{All, a[], _a∷_}
 use Rattle.required_indices.specs.Set.{has}
 use Rattle.required_indices.specs.Words.{number, Word}
+use Rattle.required_indices.specs.Request.{wordsN, setOf}
+use Rattle.required_indices.specs.declared.RequiredIndices.{RequiredIndices}
 use Rattle.required_indices.proofs.Members.{side, has-none}
 use Rattle.required_indices.proofs.Words.{number-has, number-has-past, number-add, number-add-past}
+use Rattle.required_indices.proofs.Pads.{fits-long, words-take}
 
 -- the words of an array
 pub words : (ws : List ℕ) → ((i : ℕ) → Fits w64 (getD ws i 0)) → All Word ws
@@ -53,3 +56,12 @@ add-at (_a∷_ {x = w} {xs = ws} h hs) i b =
     let m : i % 64 ≡ i = omega arith in
     ap₂ (λ (x y : ℕ). number (set (w ∷ ws) x (bitOr (getD (w ∷ ws) x 0) (2 ^ y)))) q m ∙ number-add w ws i h l)
     (side 64 i)
+
+-- what is known of a request's array: how many words it has, and that they are words
+pub record Whole (r : RequiredIndices) : Type 0 where
+  pub long : length (r .indices) ≡ wordsN
+  pub each : All Word (r .indices)
+
+-- a request is below what its words can hold
+pub set-lt : (r : RequiredIndices) → length (r .indices) ≡ wordsN → All Word (r .indices) → setOf r < 2 ^ (wordsN * 64)
+set-lt r long hs = fits-long wordsN (words-take (r .used) hs) (omega (arith, length-take (r .used) (r .indices)))

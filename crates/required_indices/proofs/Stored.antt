@@ -1,20 +1,25 @@
 -- A set whose words stand in an array: each turn of the loops that store and load it, and what the array holds then.
-use mathlib.Core.Path.{_≡_, refl, sym, _∙_, ap, ap₂}
-use mathlib.Core.Bool.{Bool}
-use mathlib.Core.List.{List, _++_, append-assoc}
+use mathlib.Core.Path.{_≡_, sym, _∙_, ap, ap₂}
+use mathlib.Core.List.{List, _∷_, _++_, append-assoc}
 use Prim.Native.Nat.{ℕ, suc, _+_, _≤_, _<_}
 use native.Mathlib.Numerals.{add-one}
 use native.Mathlib.Omega.{arith}
-use lib.ListN.{length, getD, take, drop, set, length-append, length-take, length-drop}
+use lib.ListN.{length, getD, take, drop, set, length-drop}
 use lib.ListN.{List·getD-append}
-use lib.Seq.{paste, paste-zero, paste-suc, length-paste, take-at, drop-at, take-all, getD-take, getD-drop, length-take-le}
-use Rattle.required_indices.specs.Words.{number}
-use Rattle.required_indices.specs.Request.{wordsN, setOf}
-use Rattle.required_indices.specs.declared.RequiredIndices.{RequiredIndices}
+use lib.Seq.{paste, paste-suc, length-paste, append-snoc, take-suc-set, drop-set-lt, take-at, drop-at, take-all, getD-take, getD-drop, length-take-le}
 
 -- a turn of the loop that stores
 pub store-turn : (d s cur : List ℕ) (at j : ℕ) → cur ≡ paste d at s j → at + j < length d → j < length s → set cur (at + j) (getD s j 0) ≡ paste d at s (j + 1)
 store-turn d s cur at j e h l = ap (λ (x : List ℕ). set x (at + j) (getD s j 0)) e ∙ paste-suc d at s j 0 h l ∙ ap (paste d at s) (sym (add-one j))
+
+-- a number put at `at` and words pasted behind it are pasted together
+pub store-whole : (d : List ℕ) (at x : ℕ) (ws : List ℕ) (n : ℕ) → at < length d → paste (set d at x) (at + 1) ws n ≡ paste d at (x ∷ ws) (suc n)
+store-whole d at x ws n h =
+    let e : at + 1 + n ≡ at + suc n = omega arith in
+    ap₂ (λ (y z : List ℕ). y ++ take n ws ++ z)
+    (ap (λ (y : ℕ). take y (set d at x)) (add-one at) ∙ take-suc-set d at x h)
+    (drop-set-lt (at + 1 + n) d at x (omega arith) ∙ ap (λ (y : ℕ). drop y d) e)
+    ∙ ap (λ (y : List ℕ). y ++ drop (at + suc n) d) (append-snoc (take at d) x (take n ws))
 
 -- an array with the n words s pasted at `at`
 module _ (d : List ℕ) (at : ℕ) (s : List ℕ) (n : ℕ) (room : at + n ≤ length d) (long : length s ≡ n) where

@@ -1,8 +1,9 @@
 -- What a request means: the set that its words hold, and the mask that it stands for. Every contract says it by `setOf`.
 use mathlib.Core.Path.{_≡_}
 use mathlib.Core.Bool.{Bool, true, false}
-use Prim.Native.Nat.{ℕ, _^_, _≤_, _<_}
-use lib.ListN.{length}
+use mathlib.Core.List.{List, _∷_}
+use Prim.Native.Nat.{ℕ, _+_, _^_, _≤_, _<_, min}
+use lib.ListN.{length, getD, take, drop}
 use Rattle.rules.specs.Mask.{Mask}
 use Rattle.required_indices.specs.Set.{has, setMask}
 use Rattle.required_indices.specs.Words.{number}
@@ -12,10 +13,14 @@ use Rattle.required_indices.specs.declared.Next.the-variants.{At, Nothin
 
 -- how many words there are: WORDS of src/lib.rt. A wider set needs these two numbers and nothing else.
 abbrev pub wordsN : ℕ
-wordsN = 2
+wordsN = 8
+
+-- the words that are in use: what the others hold does not matter
+abbrev pub wordsOf : RequiredIndices → List ℕ
+wordsOf r = take (r .used) (r .indices)
 
 abbrev pub setOf : RequiredIndices → ℕ
-setOf r = number (r .indices)
+setOf r = number (wordsOf r)
 
 -- the flag: `projection_beneficial` of the Rust
 abbrev pub flagOf : RequiredIndices → Bool
@@ -39,3 +44,15 @@ requestMask n r = setMask n (setOf r)
 pub record Asks (r : RequiredIndices) (R : Mask) : Type 0 where
   pub mask : requestMask (length R) r ≡ R
   pub within : setOf r < 2 ^ length R
+
+-- how many numbers a stored set takes
+abbrev pub storedN : ℕ
+storedN = 1 + wordsN
+
+-- the numbers that are stored of a set: how many words are in use, and these
+abbrev pub stored : RequiredIndices → List ℕ
+stored r = length (wordsOf r) ∷ wordsOf r
+
+-- the set that is stored from at on
+abbrev pub storedAt : List ℕ → ℕ → ℕ
+storedAt s at = number (take (min (getD s at 0) wordsN) (drop (at + 1) s))

@@ -1,9 +1,10 @@
 //! required_indices: the set of field indices that are asked of a plan node. Port of
 //! `optimize_projections/required_indices.rs`.
 //!
-//! The Rust keeps a sorted `Vec` of indices. Here a set over 128 indices stands in two words: index
-//! i is in it where digit i of the words, the lowest word first, is 1. Every contract says what a set
-//! is by `setOf`, the number that the words hold; `proofs/Methods.antt` says the same by masks.
+//! The Rust keeps a sorted `Vec` of indices. Here a set over 512 indices stands in eight words: index
+//! i is in it where digit i of the words, the lowest word first, is 1. Only the first `used` words
+//! count, and every loop goes over these: what the others hold does not matter. Every contract says
+//! what a set is by `setOf`, the number that its words hold; `proofs/Methods.antt` says the same by masks.
 ghost use mathlib.Core.Path.{_≡_};
 ghost use mathlib.Core.Bool.{true, false};
 ghost use mathlib.Core.List.{_++_};
@@ -11,22 +12,23 @@ ghost use Prim.Native.Nat.{_+_, _-_, _*_, _/_, _%_, _^_, _≤_, _<_, min};
 ghost use lib.Bits.{bitOr};
 ghost use lib.Count.{ones};
 ghost use lib.Dec.{eqb};
-ghost use lib.ListN.{drop, getD, length, replicate, take};
+ghost use lib.ListN.{getD, length, replicate, take};
 ghost use lib.Seq.{paste};
 ghost use Rattle.required_indices.specs.Set.{has};
 ghost use Rattle.required_indices.specs.Words.{number};
-ghost use Rattle.required_indices.specs.Request.{wordsN, setOf, flagOf, Holds, IsNext};
+ghost use Rattle.required_indices.specs.Request.{wordsN, setOf, flagOf, Holds, IsNext, storedN, stored, storedAt};
 
 // The number of words; `wordsN` of specs/Request.antt is the same.
-const WORDS: usize = 2;
+const WORDS: usize = 8;
 
 // The number of indices that a set can have.
 const INDICES: usize = WORDS * 64;
 
 /// The Rust's `RequiredIndices`: indices in order and without duplicates, and whether putting a
-/// projection above the children is beneficial for the parent.
+/// projection above the children is beneficial for the parent. `used` is the number of words that count.
 pub struct RequiredIndices {
     indices: [u64; WORDS],
+    used: usize,
     projection_beneficial: bool,
 }
 
@@ -61,11 +63,59 @@ fn carry(w: u64, n: usize) -> u64
     if n == 0 { 0 } else { w << (64 - n) }
 }
 
-// Less 64, and no less than 0.
-fn less(n: usize) -> usize
-    ensures { λ r. ⌜ r ≡ n - 64 ⌝ }
+// Less by m, and no less than 0.
+fn less(n: usize, m: usize) -> usize
+    ensures { λ r. ⌜ r ≡ n - m ⌝ }
 {
-    if n < 64 { 0 } else { n - 64 }
+    if n < m { 0 } else { n - m }
+}
+
+// The smaller of two numbers.
+fn smaller(n: usize, m: usize) -> usize
+    ensures { λ r. ⌜ r ≡ min n m ⌝ }
+{
+    if n < m { n } else { m }
+}
+
+// The larger of two numbers.
+fn larger(n: usize, m: usize) -> usize
+    ensures { λ r. ⌜ r ≡ n + (m - n) ⌝ }
+{
+    if n < m { m } else { n }
+}
+
+// How many words the indices below n take, of the words that there are.
+fn words_for(n: usize) -> usize
+    ensures { λ r. ⌜ r ≡ min ((n + 63) / 64) wordsN ⌝ }
+{
+    if n < INDICES { (n + 63) / 64 } else { WORDS }
+}
+
+// Word k of the first n, and 0 past them.
+fn word(words: &[u64; WORDS], n: usize, k: usize) -> u64
+    requires { ⌜ n ≤ wordsN ⌝ }
+    ensures { λ r. ⌜ r ≡ getD (take n (now (words .entry))) k 0 ⌝ }
+{
+    if k < n { words[k] } else { 0 }
+}
+
+// Word k of the first n behind up words of 0, and 0 past them.
+fn word_behind(words: &[u64; WORDS], n: usize, up: usize, k: usize) -> u64
+    requires { ⌜ n ≤ wordsN ⌝ }
+    ensures { λ r. ⌜ r ≡ getD (replicate up 0 ++ take n (now (words .entry))) k 0 ⌝ }
+{
+    if k < up { 0 } else { word(words, n, k - up) }
+}
+
+// How many of the first n words are needed: one less where the last of them is 0.
+fn trimmed(words: &[u64; WORDS], n: usize) -> usize
+    requires { ⌜ n ≤ wordsN ⌝ }
+    ensures { λ r. ⌜ number (take r (now (words .entry))) ≡ number (take n (now (words .entry))) ⌝ }
+{
+    if n == 0 {
+        return 0;
+    }
+    if words[n - 1] == 0 { n - 1 } else { n }
 }
 
 impl RequiredIndices {
@@ -75,22 +125,25 @@ impl RequiredIndices {
     {
         Self {
             indices: [0u64; WORDS],
+            used: 0,
             projection_beneficial: false,
         }
     }
 
     /// Every index below width. Rust: `new_for_all_exprs`, which takes the width from the plan's
-    /// schema. Requires a width of at most 128, which every plan that was accepted has.
+    /// schema. Requires a width of at most 512, which every plan that was accepted has.
     pub fn new_for_all_exprs(width: usize) -> Self
         requires { ⌜ width ≤ wordsN * 64 ⌝ }
         ensures { λ r. ⌜ Holds r (2 ^ width - 1) false ⌝ }
     {
         let mut out = RequiredIndices::new();
+        let n = words_for(width);
+        out.used = n;
         let mut left = width;
         let mut k = 0;
-        while k < WORDS {
+        while k < n {
             out.indices[k] = low_bits(left);
-            left = less(left);
+            left = less(left, 64);
             k += 1;
         }
         out
@@ -115,21 +168,23 @@ impl RequiredIndices {
     pub fn contains(self, i: usize) -> bool
         ensures { λ r. ⌜ r ≡ has (setOf self) i ⌝ }
     {
-        let k = i / 64;
-        if i < INDICES {
-            (self.indices[k] >> (i % 64)) % 2 == 1
-        } else {
-            false
-        }
+        let w = word(&self.indices, smaller(self.used, WORDS), i / 64);
+        (w >> (i % 64)) % 2 == 1
     }
 
     /// The index i added; the flag stays. Rust: the push and `compact` of `add_expr`. Requires an
-    /// index below 128, which every field's is.
+    /// index below 512, which every field's is.
     pub fn with_index(mut self, i: usize) -> Self
         requires { ⌜ i < wordsN * 64 ⌝ }
         ensures { λ r. ⌜ Holds r (bitOr (setOf self) (2 ^ i)) (flagOf self) ⌝ }
     {
         let k = i / 64;
+        let mut j = smaller(self.used, WORDS);
+        while j <= k {
+            self.indices[j] = 0;
+            j += 1;
+        }
+        self.used = j;
         self.indices[k] = self.indices[k] | (1u64 << (i % 64));
         self
     }
@@ -139,9 +194,15 @@ impl RequiredIndices {
         ensures { λ r. ⌜ Holds r (bitOr (setOf self) (setOf other)) (flagOf self) ⌝ }
     {
         let mut out = self;
+        let a = smaller(self.used, WORDS);
+        let b = smaller(other.used, WORDS);
+        let n = larger(a, b);
+        out.used = n;
         let mut k = 0;
-        while k < WORDS {
-            out.indices[k] = self.indices[k] | other.indices[k];
+        while k < n {
+            let w = word(&self.indices, a, k);
+            let v = word(&other.indices, b, k);
+            out.indices[k] = w | v;
             k += 1;
         }
         out
@@ -151,9 +212,10 @@ impl RequiredIndices {
     pub fn len(self) -> usize
         ensures { λ r. ⌜ r ≡ ones (setOf self) ⌝ }
     {
+        let last = smaller(self.used, WORDS);
         let mut n: usize = 0;
         let mut k = 0;
-        while k < WORDS {
+        while k < last {
             n += u64::count_ones(self.indices[k]) as usize;
             k += 1;
         }
@@ -164,9 +226,10 @@ impl RequiredIndices {
     pub fn next(self, from: usize) -> Next
         ensures { λ r. ⌜ IsNext (setOf self) from r ⌝ }
     {
+        let last = smaller(self.used, WORDS);
         let mut k = from / 64;
         let mut at = from % 64;
-        while k < WORDS {
+        while k < last {
             let w = self.indices[k] >> at;
             if w != 0 {
                 return Next::At(k * 64 + at + u64::trailing_zeros(w) as usize);
@@ -188,7 +251,7 @@ impl RequiredIndices {
     }
 
     /// The indices, and those of rest each more by n; the flag stays. The inverse of `split_off`. Requires
-    /// that the moved indices are below 128, as they are where rest is over at most 128 - n fields.
+    /// that the moved indices are below 512, as they are where rest is over at most 512 - n fields.
     pub fn followed_by(self, n: usize, rest: RequiredIndices) -> Self
         requires { ⌜ setOf rest * 2 ^ n < 2 ^ (wordsN * 64) ⌝ }
         ensures { λ r. ⌜ Holds r (bitOr (setOf self) (setOf rest * 2 ^ n)) (flagOf self) ⌝ }
@@ -202,11 +265,13 @@ impl RequiredIndices {
         ensures { λ r. ⌜ Holds r (setOf self % 2 ^ n) (flagOf self) ⌝ }
     {
         let mut out = self;
+        let last = smaller(self.used, words_for(n));
+        out.used = last;
         let mut left = n;
         let mut k = 0;
-        while k < WORDS {
+        while k < last {
             out.indices[k] = self.indices[k] & low_bits(left);
-            left = less(left);
+            left = less(left, 64);
             k += 1;
         }
         out
@@ -215,40 +280,38 @@ impl RequiredIndices {
     // The indices, each more by up * 64 and then less n; those that are below n by then are left out. By
     // it the second half of the Rust's `partition` with `map_indices`, and its inverse.
     fn slide(self, up: usize, n: usize) -> RequiredIndices
+        requires { ⌜ up ≤ 2 ^ 60 ⌝ }
         requires { ⌜ setOf self * 2 ^ (up * 64) / 2 ^ n < 2 ^ (wordsN * 64) ⌝ }
         ensures { λ r. ⌜ Holds r (setOf self * 2 ^ (up * 64) / 2 ^ n) (flagOf self) ⌝ }
     {
         let mut out = self;
         let q = n / 64;
         let m = n % 64;
+        let a = smaller(self.used, WORDS);
+        let last = smaller(less(a + up, q), WORDS);
         let mut k = 0;
-        while k < WORDS {
-            let w = self.word(up, q + k);
-            let v = self.word(up, q + k + 1);
+        while k < last {
+            let w = word_behind(&self.indices, a, up, q + k);
+            let v = word_behind(&self.indices, a, up, q + k + 1);
             out.indices[k] = (w >> m) | carry(v, m);
             k += 1;
         }
+        out.used = trimmed(&out.indices, last);
         out
-    }
-
-    // Word k behind up words of 0, and 0 past the last.
-    fn word(self, up: usize, k: usize) -> u64
-        ensures { λ r. ⌜ r ≡ getD (replicate up 0 ++ self .indices) k 0 ⌝ }
-    {
-        if k < up {
-            return 0;
-        }
-        let i = k - up;
-        if i < WORDS { self.indices[i] } else { 0 }
     }
 
     /// Whether the two sets have the same indices. Rust: `==` of `indices()`.
     pub fn equals(self, other: RequiredIndices) -> bool
         ensures { λ r. ⌜ r ≡ eqb (setOf self) (setOf other) ⌝ }
     {
+        let a = smaller(self.used, WORDS);
+        let b = smaller(other.used, WORDS);
+        let n = larger(a, b);
         let mut k = 0;
-        while k < WORDS {
-            if self.indices[k] != other.indices[k] {
+        while k < n {
+            let w = word(&self.indices, a, k);
+            let v = word(&other.indices, b, k);
+            if w != v {
                 return false;
             }
             k += 1;
@@ -271,27 +334,32 @@ impl RequiredIndices {
         both.equals(self)
     }
 
-    /// The words of the set, stored from `at` on. Requires room for them. The flag is not stored.
+    /// The set stored from `at` on: how many words are in use, and these. Requires room for all words. The
+    /// flag is not stored.
     pub fn store(self, words: &mut [u64], at: usize)
-        requires { ⌜ at + wordsN ≤ length (now words) ⌝ }
-        ensures { λ _. ⌜ now (words .exit) ≡ paste (now (words .entry)) at (self .indices) wordsN ⌝ }
+        requires { ⌜ at + storedN ≤ length (now words) ⌝ }
+        ensures { λ _. ⌜ now (words .exit) ≡ paste (now (words .entry)) at (stored self) (length (stored self)) ⌝ }
     {
+        let last = smaller(self.used, WORDS);
+        words[at] = last as u64;
         let mut k = 0;
-        while k < WORDS {
-            words[at + k] = self.indices[k];
+        while k < last {
+            words[at + 1 + k] = self.indices[k];
             k += 1;
         }
     }
 
-    /// The set whose words stand from `at` on, without the flag.
+    /// The set that is stored from `at` on, without the flag.
     pub fn load(words: &[u64], at: usize) -> Self
-        requires { ⌜ at + wordsN ≤ length (now words) ⌝ }
-        ensures { λ r. ⌜ Holds r (number (take wordsN (drop at (now (words .entry))))) false ⌝ }
+        requires { ⌜ at + storedN ≤ length (now words) ⌝ }
+        ensures { λ r. ⌜ Holds r (storedAt (now (words .entry)) at) false ⌝ }
     {
         let mut out = RequiredIndices::new();
+        let last = smaller(words[at] as usize, WORDS);
+        out.used = last;
         let mut k = 0;
-        while k < WORDS {
-            out.indices[k] = words[at + k];
+        while k < last {
+            out.indices[k] = words[at + 1 + k];
             k += 1;
         }
         out

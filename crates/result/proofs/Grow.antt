@@ -1,5 +1,5 @@
 -- What was appended to the records, rows and nodes leaves what stood there before. Assumes nothing.
-use mathlib.Core.Path.{_≡_, refl, sym, ap, ap₂, subst, _∙_}
+use mathlib.Core.Path.{_≡_, refl, sym, ap, subst, _∙_}
 use mathlib.Core.Logic.{⊎-elim}
 use mathlib.Core.List.{List}
 use Prim.Native.Nat.{ℕ, zero, suc, _+_, _*_, _<_, _≤_, min}
@@ -11,14 +11,13 @@ use Rattle.cpl.specs.Limits.{maxTags}
 use Rattle.cpl.specs.Plan.{Catalogue, Item, Plan, projection, unary}
 use Rattle.cpl.specs.Tests.{sumOf}
 use Rattle.arena.specs.Kept.{Kept}
-use Rattle.arena.specs.Rows.{itemsAt, rootAt}
 use Rattle.arena.proofs.Kept.{kept-items, kept-refl, kept-root, kept-rows}
 use Rattle.required_indices.specs.Request.{wordsN}
 use Rattle.required_indices.specs.Words.{number}
 use Rattle.required_indices.proofs.Members.{side}
 use Rattle.tree.specs.Tree.{Arrays}
 use Rattle.result.specs.Result.{Results, firstAt, formAt, oldAt, recordN, resultAt, secondAt, setAt}
-use Rattle.result.specs.Records.{Appended, Grown, RecordOk, WfResults, firstOf, recordAt, recordOf, results, secondOf, standsFor}
+use Rattle.result.specs.Records.{Appended, Grown, RecordOk, WfResults, firstOf, recordAt, results, secondOf, standsFor}
 use Rattle.result.specs.declared.Record.{Record}
 use Rattle.result.specs.declared.Record.the-variants.{Columns, Items, Nothing}
 use Rattle.result.specs.declared.Record.the-variants
@@ -37,7 +36,10 @@ kept-part {s} {s′} n p at long h =
 -- the first n records
 module _ {s s′ : List ℕ} (n : ℕ) (p : Kept (n * recordN) s s′) (i : ℕ) (h : i < n) where
   pub kept-set : setAt s′ i ≡ setAt s i
-  kept-set = ap number (kept-part (n * recordN) p (i * recordN + 4) wordsN (omega arith))
+  kept-set =
+      let c = getD s (i * recordN + 4) 0 in
+      ap (λ (x : ℕ). number (take (min x wordsN) (drop (i * recordN + 4 + 1) s′))) (p .same (i * recordN + 4) (omega arith))
+      ∙ ap number (kept-part (n * recordN) p (i * recordN + 4 + 1) (min c wordsN) (omega arith))
 
   pub kept-record : recordAt s′ i ≡ recordAt s i
   unfolding recordAt

@@ -1,8 +1,7 @@
 -- The laws of `resultAt`, by which every proof goes: its text is opened here alone. Assumes nothing.
-use mathlib.Core.Path.{_≡_, refl, sym, ap, ap₂, subst, _∙_}
+use mathlib.Core.Path.{_≡_, refl, sym, ap, ap₂, _∙_}
 use mathlib.Core.Bool.{Bool, true, false}
-use mathlib.Core.List.{List}
-use Prim.Native.Nat.{ℕ, zero, suc, _+_, _*_, _<_, _≤_}
+use Prim.Native.Nat.{ℕ, zero, suc, _<_}
 use native.Mathlib.Omega.{arith}
 use lib.Dec.{eqb}
 use Rattle.cpl.specs.Fields.{fieldsOf}
@@ -12,7 +11,7 @@ use Rattle.cpl.specs.ReadPlan.{Head, h0, h1, h2}
 use Rattle.arena.specs.Rows.{itemsAt}
 use Rattle.tree.specs.Node.{nodeAt}
 use Rattle.tree.specs.Tree.{Arrays, headOf, planAt}
-use Rattle.result.specs.Result.{Results, columnsNode, firstAt, formAt, formed, keptNode, leafPart, nothingLeft, oldAt, resultAt, resultTo, secondAt, setAt, unaryPart}
+use Rattle.result.specs.Result.{Results, columnsNode, firstAt, formAt, formed, keptNode, nothingLeft, oldAt, resultAt, resultTo, secondAt, setAt, unaryPart}
 use Rattle.result.specs.Records.{InputsBelow, RecordOk, WfResults, firstOf, recordAt, recordOf, secondOf, standsFor}
 use Rattle.result.specs.declared.Record.{Record}
 use Rattle.result.specs.declared.Record.the-variants.{Columns, Items, Nothing}

@@ -1,13 +1,13 @@
 -- A record taken apart, what it stands for over its inputs, and when code can go through the records.
 use mathlib.Core.Path.{_≡_}
-use mathlib.Core.List.{List, []}
+use mathlib.Core.List.{List}
 use Prim.Native.Nat.{ℕ, _+_, _*_, _^_, _<_, _≤_}
 use lib.Dec.{eqb}
-use lib.ListN.{length, getD}
+use lib.ListN.{length}
 use Rattle.cpl.specs.Exprs.{itemTags}
 use Rattle.cpl.specs.Fields.{columnsOf, fieldsOf}
-use Rattle.cpl.specs.Limits.{maxItems, maxNodes, maxTags}
-use Rattle.cpl.specs.Plan.{Catalogue, Leaf, scan, empty, Unary, projection, filter, sort, limit, aggregate, window, subqueryAlias, distinct, Plan, unary}
+use Rattle.cpl.specs.Limits.{maxNodes, maxTags}
+use Rattle.cpl.specs.Plan.{Catalogue, namesOf, Leaf, scan, empty, Unary, projection, filter, sort, limit, aggregate, window, subqueryAlias, distinct, Plan, unary}
 use Rattle.cpl.specs.Read.{pick}
 use Rattle.cpl.specs.ReadPlan.{Head, h0, h1, h2}
 use Rattle.cpl.specs.Tests.{sumOf}
@@ -64,7 +64,7 @@ InputsBelow i f g (h2 h) = (f < i) × (g < i)
 
 -- a set is within the list that it takes from
 abbrev pub LeafSet : Catalogue → (set : ℕ) → Leaf → Type 0
-LeafSet C s (scan t q is) = s < 2 ^ length (columnsOf (getD C t []) is)
+LeafSet C s (scan t q is es) = s < 2 ^ length (columnsOf (namesOf C t) is)
 LeafSet C s (empty b cs) = Unit {0}
 
 abbrev pub UnarySet : (set : ℕ) → Unary → Type 0
@@ -94,18 +94,18 @@ pub record ColumnsOk (C : Catalogue) (a : Arrays) (count i set old first : ℕ) 
   pub within : set < 2 ^ length (fieldsOf C (planAt a old))
 
 -- its rows are among the first m, its expressions' roots among the first k nodes
-pub record ItemsOk (r : Results) (m k i row n first : ℕ) : Type 0 where
+pub record ItemsOk (C : Catalogue) (r : Results) (m k i row n first : ℕ) : Type 0 where
   pub input : first < i
   pub rows : RowsOk (r .items) (r .cells) row n
   pub used : row + n ≤ m
   pub roots : (j : ℕ) → row ≤ j → j < row + n → rootAt (r .items) j < k
-  pub few : n ≤ maxItems
+  pub few : n ≤ C .version .maxItems
   pub tags : sumOf itemTags (itemsAt (r .items) (r .cells) row n) ≤ maxTags
 
 abbrev pub RecordOk : Catalogue → Arrays → (count : ℕ) → Results → (m k i set : ℕ) → Record → Type 0
 RecordOk C a count r m k i s (the-variants.Kept old f g) = KeptOk C a count i s old f g
 RecordOk C a count r m k i s (Columns old f) = ColumnsOk C a count i s old f
-RecordOk C a count r m k i s (Items row n f) = ItemsOk r m k i row n f
+RecordOk C a count r m k i s (Items row n f) = ItemsOk C r m k i row n f
 RecordOk C a count r m k i s Nothing = Unit {0}
 
 -- the first n records, over a tree of `count` nodes, with m rows and k nodes of their own

@@ -1,19 +1,18 @@
 -- The rewritten plan in lent arrays: a record for each node, the inputs' records before it. A record names an old node and the part of it that is
 -- left, so nothing is copied but the merged projections, whose items stand in rows and cells of their own.
-use mathlib.Core.Bool.{Bool, true, false}
-use mathlib.Core.List.{List, [], _∷_, map}
+use mathlib.Core.Bool.{true}
+use mathlib.Core.List.{List, [], map}
 use Prim.Native.Nat.{ℕ, zero, suc, _+_, _*_}
 use lib.Dec.{eqb}
-use lib.ListN.{length, getD, take, drop}
-use Rattle.cpl.specs.Plan.{Pair, Item, bare, Leaf, empty, Unary, projection, filter, sort, limit, aggregate, window, subqueryAlias, distinct, Binary, Plan, leaf, unary, binary, Catalogue}
+use lib.ListN.{length, getD}
+use Rattle.cpl.specs.Plan.{Pair, bare, Leaf, empty, Unary, projection, filter, sort, limit, aggregate, window, subqueryAlias, distinct, Plan, leaf, unary, binary, Catalogue}
 use Rattle.cpl.specs.Fields.{leafFields, fieldsOf}
 use Rattle.cpl.specs.Read.{pick}
 use Rattle.cpl.specs.ReadPlan.{Head, h0, h1, h2}
-use Rattle.rules.specs.Mask.{Mask, select}
+use Rattle.rules.specs.Mask.{select}
 use Rattle.rules.specs.Rules.{leafRule}
-use Rattle.required_indices.specs.Words.{number}
 use Rattle.required_indices.specs.Set.{setMask}
-use Rattle.required_indices.specs.Request.{wordsN}
+use Rattle.required_indices.specs.Request.{storedAt, storedN}
 use Rattle.arena.specs.Rows.{itemsAt}
 use Rattle.tree.specs.Node.{nodeAt}
 use Rattle.tree.specs.Tree.{Arrays, headOf, planAt}
@@ -24,11 +23,11 @@ pub record Results : Type 0 where
   pub items : List ℕ
   pub cells : List ℕ
 
--- ── a record: its form, a number, its inputs' records, the words of a set ───────────────────
+-- ── a record: its form, a number, its inputs' records, a set as it is stored ────────────────
 
 -- numbers to a record
 abbrev pub recordN : ℕ
-recordN = 4 + wordsN
+recordN = 4 + storedN
 
 abbrev pub formAt : List ℕ → ℕ → ℕ
 formAt s i = getD s (i * recordN) 0
@@ -44,7 +43,7 @@ secondAt s i = getD s (i * recordN + 3) 0
 
 -- the set of a record
 abbrev pub setAt : List ℕ → ℕ → ℕ
-setAt s i = number (take wordsN (drop (i * recordN + 4) s))
+setAt s i = storedAt s (i * recordN + 4)
 
 -- ── what a record stands for ────────────────────────────────────────────────────────────────
 

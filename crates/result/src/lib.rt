@@ -1,6 +1,6 @@
 //! result: how a rewritten plan stands in the lent arrays.
 //!
-//! A record of `records` is four numbers (form, old node, first input, second input) and the words of a set. Its inputs are records before
+//! A record of `records` is four numbers (form, old node, first input, second input) and a set, as `RequiredIndices` stores it. Its inputs are records before
 //! it. What a record stands for is `resultAt` of specs/Result.antt.
 use required_indices::RequiredIndices;
 ghost use mathlib.Core.Path.{_≡_};
@@ -13,7 +13,7 @@ ghost use Rattle.result.specs.Result.{recordN, setAt};
 ghost use Rattle.result.specs.Records.{recordAt, Appended, PushedIs, Stored};
 
 // The numbers of a record: `recordN` of specs/Result.antt is the same.
-const RECORD: usize = 6;
+const RECORD: usize = 13;
 
 // The most nodes of a plan.
 const RECORDS: usize = 256;

@@ -23,7 +23,7 @@ pub data More : Job → Job → Type 0 where
 
 pub leaf-more : (C : Catalogue) (h : Leaf) (at : ℕ) (b b′ : Bool) {R R′ : Mask} → LeM R R′ → Into (Within C) (leafLeft C h at b R) (leafLeft C h at b′ R′)
 unfolding leafLeft numbered leafScans leafRule columnsOf
-leaf-more C (scan t q is) at b b′ l = record { same-node = refl; scan-within = narrower (select-more l _) } i∷ i[]
+leaf-more C (scan t q is es) at b b′ l = record { same-node = refl; scan-within = narrower (select-more l _) } i∷ i[]
 leaf-more C (empty one cs) at b b′ l = i[]
 
 -- ── nodes with one input ────────────────────────────────────────────────────────────────────

@@ -5,28 +5,28 @@ use mathlib.Core.Bool.{true, false}
 use mathlib.Core.Option.{Option, none, some}
 use Prim.Native.Nat.{ℕ}
 use lib.IntN.{pos}
-use Rattle.cpl.specs.Plan.{Pair, pair, o-add, Expr, col, lit, bin, Item, bare, named, j-inner, on, scan, projection, join, Plan, leaf, unary, binary, Catalogue}
+use Rattle.cpl.specs.Plan.{Pair, pair, o-add, Expr, col, lit, bin, Item, bare, named, j-inner, on, scan, projection, join, Plan, leaf, unary, binary, Catalogue, keyless}
 use Rattle.rules.specs.Mask.{Mask}
 use Rattle.rules.specs.Merge.{mergeStep}
 use Rattle.rules.specs.Rewrite.{rewrite}
 use Rattle.rules.specs.Computes.{rules-computes}
 
 abbrev C : Catalogue
-C = (1 ∷ 2 ∷ 3 ∷ []) ∷ (2 ∷ 3 ∷ 4 ∷ []) ∷ []
+C = keyless ((1 ∷ 2 ∷ 3 ∷ []) ∷ (2 ∷ 3 ∷ 4 ∷ []) ∷ [])
 
 -- a name without a qualifier
 abbrev c : ℕ → Pair
 c n = pair 0 n
 
 abbrev L : Option (List ℕ) → Plan
-L is = leaf (scan 0 1 is)
+L is = leaf (scan 0 1 is [])
 
 abbrev house : Plan → Mask → Plan
 house p K = rewrite (mergeStep true 0) C p K .plan
 
 -- left joined with right by c2 = c3
 abbrev J : Option (List ℕ) → Option (List ℕ) → Plan
-J is js = binary (join j-inner (on (col (c 2)) (col (c 3)) ∷ []) none) (L is) (leaf (scan 1 2 js))
+J is js = binary (join j-inner (on (col (c 2)) (col (c 3)) ∷ []) none) (L is) (leaf (scan 1 2 js []))
 
 -- [q1.c1 + 1 as q1.c1] under one item
 abbrev next : Expr

@@ -14,6 +14,7 @@ use Rattle.cpl.specs.Fields.{binaryFields, fieldsOf}
 use Rattle.cpl.specs.Accept.{Test, allPass, onPasses, binaryPasses, even, together}
 use Rattle.cpl.specs.Writable.{FitBinary, FitPlan}
 use Rattle.cpl.proofs.Bools.{halves, both-T}
+use Rattle.cpl.proofs.Versions.{Sound}
 use Rattle.cpl.proofs.Lists.{All-map, All-both, all-T, T-all}
 use Rattle.cpl.proofs.Clash.{Clear}
 use Rattle.cpl.proofs.Accepted.{Resolved, NodeOk, Accepted}
@@ -97,14 +98,14 @@ module _ (fl fr : List Pair) {R : Mask} where
   binary-clear union e f k = clear-select R k
   binary-clear (join t os c) e f k = subst Clear (select-++ (ask-fits (join t os c) fl fr e f .0) (rightAsk (join t os c) fl fr R) fr) (clear-select _ k)
 
-module _ (C : Catalogue) (h : Binary) {fl fr : List Pair} (l : Fields fl) (r : Fields fr) (o : NodeOk (binaryPasses h fl fr) (even h fl fr) (binaryFields h fl fr) (together h fl fr))
+module _ (C : Catalogue) (laws : Sound (C .version)) (h : Binary) {fl fr : List Pair} (l : Fields (C .version) fl) (r : Fields (C .version) fr) (o : NodeOk C (binaryPasses h fl fr) (even h fl fr) (binaryFields h fl fr) (together h fl fr))
     (fit : FitBinary h) (go₁ go₂ : Go) (g₁ : Good C fl go₁) (g₂ : Good C fr go₂) where
   pub binary-good : Good C (binaryFields h fl fr) (binaryWalk C h fl fr go₁ go₂)
   unfolding binaryWalk fieldsOf Accepted FitPlan
   binary-good b R f =
       let fits = ask-fits h fl fr (o .as-wide) f in
-      let i₁ = topped C l (fits .0) (g₁ true (leftAsk h fl fr R) (fits .0)) in
-      let i₂ = topped C r (fits .1) (g₂ true (rightAsk h fl fr R) (fits .1)) in
+      let i₁ = topped C laws l (fits .0) (g₁ true (leftAsk h fl fr R) (fits .0)) in
+      let i₂ = topped C laws r (fits .1) (g₂ true (rightAsk h fl fr R) (fits .1)) in
       let same = binary-fields fl fr h (o .as-wide) f in
       let e = ap₂ (binaryFields h) (i₁ .fields) (i₂ .fields) ∙ same in
       record {

@@ -1,20 +1,23 @@
 -- Masks that cover expressions: they keep each field that a reference of the expressions finds. What is asked of an input covers what its node uses.
-use mathlib.Core.Path.{_≡_, refl, _∙_, ap, subst}
+use mathlib.Core.Path.{_≡_, refl, sym, _∙_, ap, subst, subst⁻¹}
+use mathlib.Core.Logic.{_⊎_, inl, inr}
 use mathlib.Core.List.{List, [], _∷_, _++_, map}
-use mathlib.Core.Bool.{Bool, true, false}
-use mathlib.Core.Option.{Option, some}
-use Prim.Native.Nat.{ℕ, zero, suc, _+_, _<_}
+use mathlib.Core.Bool.{Bool, true, false, _||_}
+use mathlib.Core.Option.{Option, none, some}
+use Prim.Native.Nat.{ℕ, zero, suc, _+_, _<_, _≤_}
 use native.Mathlib.Omega.{arith}
-use lib.Dec.{T, eqb}
+use native.Mathlib.Nat.{eq-or-lt-of-le}
+use lib.Dec.{T, eqb, eqb→eq, eqb-refl}
 use lib.ListN.{length, getD}
 use Rattle.cpl.specs.Tests.{anyB, concatMap, iota}
 use Rattle.cpl.specs.Lists.{All, a[], _a∷_, z[], _z∷_, Fit}
 use Rattle.cpl.specs.Plan.{Pair, Expr, col, lit, miss, un, bin}
 use Rattle.cpl.specs.Exprs.{fits, next, find, found, places, references}
+use Rattle.cpl.proofs.Bools.{left-T, right-T}
 use Rattle.cpl.proofs.Lists.{each-number, All-left, All-right, All-map, All-both, All-++, Fit-++}
-use Rattle.cpl.proofs.Lookup.{find-here, find-past}
+use Rattle.cpl.proofs.Lookup.{find-here, find-past, found-below}
 use Rattle.rules.specs.Mask.{Mask, LeB, LeM}
-use Rattle.rules.specs.Request.{maskOf}
+use Rattle.rules.specs.Request.{maskOf, indicesFrom}
 use Rattle.rules.specs.Rules.{used}
 use Rattle.rules.proofs.Masks.{LeM-fit}
 use Rattle.rules.proofs.Requests.{fit-mask}
@@ -122,3 +125,71 @@ module _ {fs : List Pair} {K : Mask} (fit : Fit K fs) where
 pub used-cov : (es : List Expr) (fs : List Pair) {K : Mask} → LeM (used es fs) K → Cov es fs K
 unfolding used
 used-cov es fs l = cov-placed (LeM-fit l (fit-mask (concatMap (places fs) es) fs)) es (placed fs (concatMap (places fs) es) l)
+
+-- ── the indices of the fields that are used are the places that are found ───────────────────
+
+module _ (P : ℕ → Bool) (i : ℕ) where
+  from-index : (k n : ℕ) → T (anyB (eqb i) (indicesFrom k (map P (iota k n)))) → T (P i)
+  unfolding iota indicesFrom anyB
+  from-index k zero t = absurd t
+  from-index k (suc n) t = go (P k) (λ u. u) (from-index (suc k) n) t
+    where
+      later : List ℕ
+      later = indicesFrom (suc k) (map P (iota (suc k) n))
+
+      either : (b : Bool) → (T b → T (P i)) → (T (anyB (eqb i) later) → T (P i)) → T (b || anyB (eqb i) later) → T (P i)
+      either true f g t = f tt
+      either false f g t = g t
+
+      go : (b : Bool) → (T b → T (P k)) → (T (anyB (eqb i) later) → T (P i)) → T (anyB (eqb i) (indicesFrom k (b ∷ map P (iota (suc k) n)))) → T (P i)
+      go true f ih t = either (eqb i k) (λ u. subst⁻¹ (λ j. T (P j)) (eqb→eq i k u) (f tt)) ih t
+      go false f ih t = ih t
+
+  to-index : (k n : ℕ) → k ≤ i → i < k + n → T (P i) → T (anyB (eqb i) (indicesFrom k (map P (iota k n))))
+  unfolding iota indicesFrom anyB
+  to-index k zero l h t = absurd (omega arith)
+  to-index k (suc n) l h t = elim (eq-or-lt-of-le l) [ inl e ↦ go (P k) (inl (subst (λ j. T (eqb i j)) (sym e) (eqb-refl i), subst (λ j. T (P j)) (sym e) t)) | inr m ↦ go (P k) (inr (to-index (suc k) n m (omega arith) t)) ]
+    where
+      later : List ℕ
+      later = indicesFrom (suc k) (map P (iota (suc k) n))
+
+      go : (b : Bool) → (T (eqb i k) × T b) ⊎ T (anyB (eqb i) later) → T (anyB (eqb i) (indicesFrom k (b ∷ map P (iota (suc k) n))))
+      go true (inl x) = left-T (eqb i k) (anyB (eqb i) later) (x .0)
+      go true (inr y) = right-T (eqb i k) (anyB (eqb i) later) y
+      go false (inl x) = absurd (x .1)
+      go false (inr y) = y
+
+module _ (fs : List Pair) where
+  places-below : (e : Expr) → All (λ i. i < length fs) (places fs e)
+  unfolding places found
+  places-below (col c) = go (find c fs) (found-below c fs)
+    where
+      go : (o : Option ℕ) → ((i : ℕ) → o ≡ some i → i < length fs) → All (λ i. i < length fs) (found o)
+      go none h = a[]
+      go (some i) h = h i refl a∷ a[]
+  places-below (lit z) = a[]
+  places-below miss = a[]
+  places-below (un o a) = places-below a
+  places-below (bin o a b) = All-++ (places-below a) (places-below b)
+
+  all-below : (es : List Expr) → All (λ i. i < length fs) (concatMap (places fs) es)
+  unfolding concatMap
+  all-below [] = a[]
+  all-below (e ∷ es) = All-++ (places-below e) (all-below es)
+
+  one-below : (i : ℕ) {is : List ℕ} → All (λ i. i < length fs) is → T (anyB (eqb i) is) → i < length fs
+  unfolding anyB
+  one-below i a[] t = absurd t
+  one-below i (_a∷_ {x = j} {xs = is} h hs) t = go (eqb i j) (eqb→eq i j) (one-below i hs) t
+    where
+      go : (b : Bool) → (T b → i ≡ j) → (T (anyB (eqb i) is) → i < length fs) → T (b || anyB (eqb i) is) → i < length fs
+      go true f g t = let e = f tt in omega arith
+      go false f g t = g t
+
+  pub index-used : (es : List Expr) (i : ℕ) → T (anyB (eqb i) (concatMap (places fs) es)) → T (anyB (eqb i) (indicesFrom 0 (used es fs)))
+  unfolding used maskOf
+  index-used es i t = to-index _ i 0 (length fs) (omega arith) (let h = one-below i (all-below es) t in omega arith) t
+
+  pub used-index : (es : List Expr) (i : ℕ) → T (anyB (eqb i) (indicesFrom 0 (used es fs))) → T (anyB (eqb i) (concatMap (places fs) es))
+  unfolding used maskOf
+  used-index es i t = from-index (λ j. anyB (eqb j) (concatMap (places fs) es)) i 0 (length fs) t

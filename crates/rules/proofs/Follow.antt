@@ -167,7 +167,7 @@ module _ (C : Catalogue) where
 
   leaf-among : (h : Leaf) (at : ℕ) → Among (leafLeft C h at) (numbered at (leafScans h))
   unfolding leafLeft numbered leafScans leafRule columnsOf
-  leaf-among (scan t q is) at b R = record { same-node = refl; scan-within = narrower (select-part R _) } i∷ i[]
+  leaf-among (scan t q is es) at b R = record { same-node = refl; scan-within = narrower (select-part R _) } i∷ i[]
   leaf-among (empty one cs) at b R = i[]
 
   merged-among : (r : Option (List Item)) (s : List Item → Left) (s′ : Left) (ys : List Numbered) → ((ks : List Item) → Among (s ks) ys) → Among s′ ys → Among (mergedScans r s s′) ys
@@ -202,7 +202,7 @@ rising-++ l m (_r∷_ {least = least} {x = x} h hs) k = _r∷_ {least = least} {
 
 pub rising : (p : Plan) (at : ℕ) → Rising (at + planNodes p) at (scansOf p at)
 unfolding scansOf planNodes numbered leafScans
-rising (leaf (scan t q is)) at = _r∷_ {least = at} {x = record { number = at; head = scan t q is }} (omega arith, omega arith) r[]
+rising (leaf (scan t q is es)) at = _r∷_ {least = at} {x = record { number = at; head = scan t q is es }} (omega arith, omega arith) r[]
 rising (leaf (empty b cs)) at = r[]
 rising (unary h p) at = rising-from at (omega arith) (let e : suc at + planNodes p ≡ at + suc (planNodes p) = omega arith in subst (λ n. Rising n (suc at) (scansOf p (suc at))) e (rising p (suc at)))
 rising (binary h p₁ p₂) at =

@@ -7,7 +7,7 @@ use Prim.Native.Nat.{_≤_}
 use native.Mathlib.Omega.{arith}
 use lib.Dec.{T, ltb, nltb→le}
 use lib.ListN.{length, length-map}
-use Rattle.cpl.specs.Limits.{maxFields}
+use Rattle.cpl.specs.Limits.{Version}
 use Rattle.cpl.specs.Lists.{All, Fit}
 use Rattle.cpl.specs.Plan.{Pair, bare, projection, Plan, unary, Catalogue, itemExpr}
 use Rattle.cpl.specs.Exprs.{unaryExprs}
@@ -15,6 +15,7 @@ use Rattle.cpl.specs.Accept.{allPass}
 use Rattle.cpl.specs.Fields.{unaryFields, fieldsOf}
 use Rattle.cpl.specs.Writable.{FitList, FitPair, FitItem, FitUnary, FitPlan}
 use Rattle.cpl.proofs.Lists.{All-mapped}
+use Rattle.cpl.proofs.Versions.{Sound}
 use Rattle.cpl.proofs.Clash.{Clear}
 use Rattle.cpl.proofs.Accepted.{Resolved, NodeOk, Accepted}
 use Rattle.rules.specs.Mask.{Mask, select, count}
@@ -27,8 +28,8 @@ use Rattle.rules.proofs.Known.{own-resolved, bare-fields, clear-select}
 -- ── what is known of a field list, and of a result ──────────────────────────────────────────
 
 -- the fields of an accepted, writable plan
-pub record Fields (fs : List Pair) : Type 0 where
-  pub few : length fs ≤ maxFields
+pub record Fields (v : Version) (fs : List Pair) : Type 0 where
+  pub few : length fs ≤ v .maxFields
   pub distinct : Clear fs
   pub pairs : All FitPair fs
 
@@ -53,7 +54,7 @@ bare-fit : {cs : List Pair} → All FitPair cs → All FitItem (map bare cs)
 unfolding FitItem
 bare-fit h = All-mapped bare (λ c k. k) h
 
-module _ (C : Catalogue) {fs : List Pair} (known-fields : Fields fs) {Q : Mask} (fits-fields : Fit Q fs) {w : Walked} (r : Result C fs Q w) where
+module _ (C : Catalogue) (laws : Sound (C .version)) {fs : List Pair} (known-fields : Fields (C .version) fs) {Q : Mask} (fits-fields : Fit Q fs) {w : Walked} (r : Result C fs Q w) where
   -- the requested columns over the input
   topped-fields : unaryFields (projection (map bare (select Q fs))) (fieldsOf C (w .plan)) ≡ select Q fs
   unfolding unaryFields
@@ -66,7 +67,7 @@ module _ (C : Catalogue) {fs : List Pair} (known-fields : Fields fs) {Q : Mask} 
       (subst (λ cs. Resolved (allPass (map itemExpr (map bare cs)) (select (w .kept) fs))) (select-select (r .kept .keeps) fs)
       (own-resolved (select (w .kept) Q) (clear-select (w .kept) (known-fields .distinct))))
 
-  topped-ok : NodeOk (allPass (unaryExprs (projection (map bare (select Q fs)))) (fieldsOf C (w .plan))) true
+  topped-ok : NodeOk C (allPass (unaryExprs (projection (map bare (select Q fs)))) (fieldsOf C (w .plan))) true
       (unaryFields (projection (map bare (select Q fs))) (fieldsOf C (w .plan))) (unaryFields (projection (map bare (select Q fs))) (fieldsOf C (w .plan)))
   topped-ok =
       record {
@@ -76,9 +77,9 @@ module _ (C : Catalogue) {fs : List Pair} (known-fields : Fields fs) {Q : Mask} 
         distinct = rw topped-fields (clear-select Q (known-fields .distinct));
       }
 
-  topped-fit : FitUnary (projection (map bare (select Q fs)))
+  topped-fit : FitUnary (C .version) (projection (map bare (select Q fs)))
   unfolding FitUnary FitList
-  topped-fit = (rw (length-map (select Q fs) bare) (let h = select-short Q fs in let k = known-fields .few in omega arith), bare-fit (All-select Q (known-fields .pairs)))
+  topped-fit = (rw (length-map (select Q fs) bare) (let h = select-short Q fs in let k = known-fields .few in let l = laws .fields-fit in omega arith), bare-fit (All-select Q (known-fields .pairs)))
 
   pub topped : Input C fs Q (topUp C fs Q (w .plan))
   unfolding topUp fieldsOf Accepted FitPlan

@@ -12,6 +12,7 @@ pub mod MergeTidy
 pub mod Held
 pub mod Results
 pub mod Samples
+pub mod Samples2
 pub mod BareNames
 pub mod Answers
 pub mod Successes

@@ -10,7 +10,7 @@ use native.Mathlib.Nat.{add-zero}
 use lib.ListN.{length, length-map, length-append, getD, List·getD-eq-default, List·getD-append, List·getD-map}
 use lib.Seq.{getD-append-add}
 use Rattle.cpl.specs.Lists.{All, a[], _a∷_}
-use Rattle.cpl.specs.Plan.{Leaf, scan, empty, Plan, leaf, unary, binary, Catalogue}
+use Rattle.cpl.specs.Plan.{Leaf, scan, empty, Plan, leaf, unary, binary, Catalogue, namesOf}
 use Rattle.cpl.specs.Exprs.{planNodes}
 use Rattle.cpl.proofs.Lists.{map-map, map-congA, map-++, All-++}
 use Rattle.rules.specs.Mask.{Mask}
@@ -56,7 +56,7 @@ module _ (d : Plan) (f : ℕ → Plan) where
   -- each scan stands at its number
   scans-stand : (p : Plan) (at : ℕ) → Says d f at (nodes p) → All (λ x. f (x .number) ≡ leaf (x .head)) (scansOf p at)
   unfolding scansOf nodes numbered leafScans
-  scans-stand (leaf (scan t q is)) at s = says-head s a∷ a[]
+  scans-stand (leaf (scan t q is es)) at s = says-head s a∷ a[]
   scans-stand (leaf (empty b cs)) at s = a[]
   scans-stand (unary h p) at s = scans-stand p (suc at) (says-tail s)
   scans-stand (binary h p₁ p₂) at s =
@@ -84,20 +84,20 @@ module _ (C : Catalogue) where
   length-tables p = length-map (nodes p) (nodeTable C) ∙ length-nodes p
 
   -- the old tables put back
-  put-back : (u : ℕ → ℕ) (p : Plan) (at : ℕ) → Says (length C) u at (tables p) → retable u (ownTables p at) ≡ p
+  put-back : (u : ℕ → ℕ) (p : Plan) (at : ℕ) → Says (length (C .tables)) u at (tables p) → retable u (ownTables p at) ≡ p
   unfolding retable ownTables retableLeaf nodes nodeTable leafTable
-  put-back u (leaf (scan t q is)) at s = ap (λ v. leaf (scan v q is)) (says-head s)
+  put-back u (leaf (scan t q is es)) at s = ap (λ v. leaf (scan v q is es)) (says-head s)
   put-back u (leaf (empty b cs)) at s = refl
   put-back u (unary h p) at s = ap (unary h) (put-back u p (suc at) (says-tail s))
   put-back u (binary h p₁ p₂) at s =
-      let t : Says (length C) u (suc at) (tables p₁ ++ tables p₂) = subst (Says (length C) u (suc at)) (map-++ (nodeTable C) (nodes p₁) (nodes p₂)) (says-tail s) in
+      let t : Says (length (C .tables)) u (suc at) (tables p₁ ++ tables p₂) = subst (Says (length (C .tables)) u (suc at)) (map-++ (nodeTable C) (nodes p₁) (nodes p₂)) (says-tail s) in
       let e : suc at + planNodes p₁ ≡ suc (at + planNodes p₁) = omega arith in
       ap₂ (binary h) (put-back u p₁ (suc at) (says-left (tables p₁) (tables p₂) t))
-      (put-back u p₂ (suc (at + planNodes p₁)) (subst (λ n. Says (length C) u n (tables p₂)) e (says-right (tables p₁) (tables p₂) (planNodes p₁) (length-tables p₁) t)))
+      (put-back u p₂ (suc (at + planNodes p₁)) (subst (λ n. Says (length (C .tables)) u n (tables p₂)) e (says-right (tables p₁) (tables p₂) (planNodes p₁) (length-tables p₁) t)))
 
   own-numbers : (p : Plan) (at : ℕ) → All (λ x. leafTable C (x .head) ≡ x .number) (scansOf (ownTables p at) at)
   unfolding scansOf ownTables retableLeaf numbered leafScans leafTable
-  own-numbers (leaf (scan t q is)) at = _a∷_ {x = record { number = at; head = scan at q is }} refl a[]
+  own-numbers (leaf (scan t q is es)) at = _a∷_ {x = record { number = at; head = scan at q is es }} refl a[]
   own-numbers (leaf (empty b cs)) at = a[]
   own-numbers (unary h p) at = own-numbers p (suc at)
   own-numbers (binary h p₁ p₂) at =
@@ -114,17 +114,17 @@ module _ (C : Catalogue) where
   numbers-left (pass hs) (e a∷ es) = numbers-left hs es
 
   -- the catalogue of their own has the names of the old tables
-  own-names : (p : Plan) (t : ℕ) → getD C (tableAt C p t) [] ≡ getD (ownCatalogue C p) t []
+  own-names : (p : Plan) (t : ℕ) → namesOf C (tableAt C p t) ≡ namesOf (ownCatalogue C p) t
   unfolding tableAt ownCatalogue
   own-names p t =
-      sym (List·getD-map (λ n. getD C n []) (tables p) t (length C)) ∙ ap (getD (map (λ n. getD C n []) (tables p)) t) (List·getD-eq-default C [] (omega arith))
+      sym (List·getD-map (namesOf C) (tables p) t (length (C .tables))) ∙ ap (getD (map (namesOf C) (tables p)) t) (List·getD-eq-default (C .tables) [] (omega arith))
 
   pub traced : (M : Merge) (p : Plan) (R : Mask) → Traced M C p R
   traced M p R =
       let u = tableAt C p in
       let D = ownCatalogue C p in
       let o = ownTables p 0 in
-      let back : retable u o ≡ p = put-back u p 0 (unfold tableAt in says-itself (length C) (tables p)) in
+      let back : retable u o ≡ p = put-back u p 0 (unfold tableAt in says-itself (length (C .tables)) (tables p)) in
       let xs = scansUnder M D o R in
       let own : All (λ x. leafTable C (x .head) ≡ x .number) xs = numbers-left (walk-among D M o 0 none false R) (own-numbers p 0) in
       record {

@@ -5,8 +5,8 @@ use mathlib.Core.Bool.{Bool, true, false, cond, _||_}
 use mathlib.Core.Option.{Option, none, some}
 use Prim.Native.Nat.{ℕ, suc, _+_}
 use lib.Dec.{ltb}
-use lib.ListN.{length, getD}
-use Rattle.cpl.specs.Plan.{Pair, Item, bare, Agg, Win, Leaf, scan, empty, Unary, projection, filter, sort, limit, aggregate, window, subqueryAlias, distinct, Binary, Plan, leaf, unary, binary, Catalogue, itemPair}
+use lib.ListN.{length}
+use Rattle.cpl.specs.Plan.{Pair, Item, bare, Agg, Win, Leaf, scan, empty, Unary, projection, filter, sort, limit, aggregate, window, subqueryAlias, distinct, Binary, Plan, leaf, unary, binary, Catalogue, namesOf, itemPair}
 use Rattle.cpl.specs.Exprs.{planNodes}
 use Rattle.cpl.specs.Fields.{columnsOf, scanField, leafFields, unaryFields, binaryFields, fieldsOf}
 use Rattle.cpl.proofs.Bools.{cond-ap}
@@ -18,7 +18,7 @@ use Rattle.rules.specs.Rewrite.{Walked, Go, input, runJob, pend, counted
 use Rattle.rules.specs.Scans.{leafScans, Numbered, numbered, Left, jobScans, pendScans, mergedScans, leafLeft, itemsOf, unaryScans, binaryScans, walkScans}
 use Rattle.rules.specs.OwnTables.{retableLeaf, retable}
 
-module _ (u : ℕ → ℕ) (C D : Catalogue) (names : (t : ℕ) → getD C (u t) [] ≡ getD D t []) where
+module _ (u : ℕ → ℕ) (C D : Catalogue) (names : (t : ℕ) → namesOf C (u t) ≡ namesOf D t) where
   abbrev walked : Walked → Walked
   walked w = record { plan = retable u (w .plan); kept = w .kept; overlong = w .overlong }
 
@@ -29,7 +29,7 @@ module _ (u : ℕ → ℕ) (C D : Catalogue) (names : (t : ℕ) → getD C (u t)
 
   leaf-fields : (h : Leaf) → leafFields C (retableLeaf u h) ≡ leafFields D h
   unfolding leafFields retableLeaf
-  leaf-fields (scan t q is) = ap (λ ns. map (scanField ns q) (columnsOf ns is)) (names t)
+  leaf-fields (scan t q is es) = ap (λ ns. map (scanField ns q) (columnsOf ns is)) (names t)
   leaf-fields (empty b cs) = refl
 
   fields : (p : Plan) → fieldsOf C (retable u p) ≡ fieldsOf D p
@@ -42,12 +42,12 @@ module _ (u : ℕ → ℕ) (C D : Catalogue) (names : (t : ℕ) → getD C (u t)
 
   leaf-rule : (h : Leaf) (R : Mask) → leafRule C (retableLeaf u h) R ≡ retableLeaf u (leafRule D h R)
   unfolding leafRule retableLeaf
-  leaf-rule (scan t q is) R = ap (λ ns. scan (u t) q (some (select R (columnsOf ns is)))) (names t)
+  leaf-rule (scan t q is es) R = ap (λ ns. scan (u t) q (some (select R (columnsOf ns is))) es) (names t)
   leaf-rule (empty b cs) R = refl
 
   leaf-kept : (h : Leaf) (R : Mask) → leafKept (retableLeaf u h) R ≡ leafKept h R
   unfolding leafKept retableLeaf
-  leaf-kept (scan t q is) R = refl
+  leaf-kept (scan t q is es) R = refl
   leaf-kept (empty b cs) R = refl
 
   top-up : (fs : List Pair) (Q : Mask) (p′ : Plan) → topUp C fs Q (retable u p′) ≡ retable u (topUp D fs Q p′)
@@ -182,7 +182,7 @@ module _ (u : ℕ → ℕ) (C D : Catalogue) (names : (t : ℕ) → getD C (u t)
 
   leaf-scans : (at : ℕ) (h : Leaf) → numbered at (leafScans (retableLeaf u h)) ≡ map found (numbered at (leafScans h))
   unfolding numbered leafScans retableLeaf
-  leaf-scans at (scan t q is) = refl
+  leaf-scans at (scan t q is es) = refl
   leaf-scans at (empty b cs) = refl
 
   leaf-left : (h : Leaf) (at : ℕ) → SameLeft (leafLeft C (retableLeaf u h) at) (leafLeft D h at)

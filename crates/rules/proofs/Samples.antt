@@ -19,17 +19,17 @@ use Rattle.rules.specs.Computes.{rules-computes}
 
 -- ── the test ────────────────────────────────────────────────────────────────────────────────
 
-sameBytes : List ℕ → List ℕ → Bool
+unfoldable pub sameBytes : List ℕ → List ℕ → Bool
 sameBytes [] [] = true
 sameBytes [] (y ∷ ys) = false
 sameBytes (x ∷ xs) [] = false
 sameBytes (x ∷ xs) (y ∷ ys) = eqb x y && sameBytes xs ys
 
-gives : Verdict → List ℕ → Bool
+unfoldable pub gives : Verdict → List ℕ → Bool
 gives (refused code place) bs = false
 gives (narrowed s) bs = sameBytes (bytesOf s) bs
 
-requestOf : Option (List ℕ) → ℕ → List ℕ
+unfoldable pub requestOf : Option (List ℕ) → ℕ → List ℕ
 requestOf none width = iota 0 width
 requestOf (some request) width = request
 
@@ -46,7 +46,7 @@ same-bytes (x ∷ xs) [] t = absurd t
 same-bytes (x ∷ xs) (y ∷ ys) t = let h = halves (eqb x y) (sameBytes xs ys) t in ap₂ _∷_ (eqb→eq x y (h .0)) (same-bytes xs ys (h .1))
 
 -- a result that fits the buffer is delivered
-delivered : (v : Verdict) (bs out : List ℕ) → T (gives v bs) → length bs ≤ length out → deliver v out ≡ success bs out
+pub delivered : (v : Verdict) (bs out : List ℕ) → T (gives v bs) → length bs ≤ length out → deliver v out ≡ success bs out
 unfolding gives deliver written
 delivered (refused code place) bs out t l = absurd t
 delivered (narrowed s) bs out t l =

@@ -1,6 +1,6 @@
 -- An answer of code 0: where it comes from, and that it reads back as the rewritten plan, accepted.
 use mathlib.Core.Path.{_≡_, refl, sym, _∙_, ap, subst⁻¹}
-use mathlib.Core.List.{List, []}
+use mathlib.Core.List.{List}
 use mathlib.Core.Bool.{Bool, true, false, _||_, not, true≢false}
 use mathlib.Core.Option.{Option, none, some}
 use Prim.Native.Nat.{ℕ, _≤_}
@@ -52,11 +52,7 @@ refused≢narrowed : {X : Type 0} {code place : ℕ} {s : Source} → refused co
 refused≢narrowed e = absurd (let z : true ≡ false = cc in true≢false z)
 
 narrowed-eq : {s t : Source} → narrowed s ≡ narrowed t → s ≡ t
-narrowed-eq e = ap out e
-  where
-    out : Verdict → Source
-    out (refused c p) = sourceOf [] (Rattle.cpl.specs.Plan.Plan.leaf (Rattle.cpl.specs.Plan.Leaf.empty false []))
-    out (narrowed s) = s
+narrowed-eq e = cc
 
 module _ (M : Merge) (request : ℕ → List ℕ) where
   from-judged : (r : Res Source) (s : Source) → judged M request r ≡ narrowed s → From M request r s
@@ -124,20 +120,38 @@ small-counts w t =
     let k = nor (ltb maxNodes (planNodes (w .plan))) (ltb maxTags (planTags (w .plan))) (h .1) in
     (nltb→le maxNodes (planNodes (w .plan)) (k .0), nltb→le maxTags (planTags (w .plan)) (k .1))
 
+module _ (mode mask : ℕ) (file : List ℕ) (bytes-file : AreBytes file) (request : ℕ → List ℕ) where
+  -- what the pass makes of the plan that was read is good, and can be written
+  passed : (s : Source) (f : From (mergeOf mode mask) request (readFile file) s) → let C = f .C in
+      let R = maskOf (length (fieldsOf C (f .p))) (request (length (fieldsOf C (f .p)))) in
+      let w = rewrite (mergeOf mode mask) C (f .p) R in
+      Result C (fieldsOf C (f .p)) R w × Writable (sourceOf C (w .plan))
+  unfolding mergeOf
+  passed s f =
+      let C = f .C in
+      let p = f .p in
+      let R = maskOf (length (fieldsOf C p)) (request (length (fieldsOf C p))) in
+      let w = rewrite (mergeOf mode mask) C p R in
+      let fits = written-read file bytes-file (sourceOf C p) (f .next) (f .tags) (f .nodes) (f .read) .writable in
+      let r : Result C (fieldsOf C p) R w =
+      walk-good (eqb mode 1) mask C (fits .tables) p (accepted C p 0 (f .checks)) (fits .nodes-fit) none tt false R (fit-mask (request (length (fieldsOf C p))) (fieldsOf C p)) in
+      let counts = small-counts w (f .small) in
+      (r, record { tables = fits .tables; nodes-fit = r .fit; few-nodes = counts .0; few-tags = counts .1 })
+
+  -- a narrowed source can be written, whether or not the output has room for it
+  pub narrowed-writable : (s : Source) → verdict mode mask file request ≡ narrowed s → Writable s
+  narrowed-writable s e = let f = from-verdict mode mask file request s e in subst⁻¹ Writable (f .result) (passed s f .1)
+
 module _ (mode mask : ℕ) (file : List ℕ) (bytes-file : AreBytes file) (request : ℕ → List ℕ) (a : Answer) where
   succeeded : (s : Source) → wrote a ≡ bytesOf s → From (mergeOf mode mask) request (readFile file) s → Success mode mask file request a
-  unfolding mergeOf
   succeeded s e f =
       let C = f .C in
       let p = f .p in
       let R = maskOf (length (fieldsOf C p)) (request (length (fieldsOf C p))) in
       let w = rewrite (mergeOf mode mask) C p R in
       let o = written-read file bytes-file (sourceOf C p) (f .next) (f .tags) (f .nodes) (f .read) in
-      let fits = o .writable in
-      let r : Result C (fieldsOf C p) R w =
-      walk-good (eqb mode 1) mask C (fits .tables) p (accepted C p 0 (f .checks)) (fits .nodes-fit) none tt false R (fit-mask (request (length (fieldsOf C p))) (fieldsOf C p)) in
-      let counts = small-counts w (f .small) in
-      let good : Writable (sourceOf C (w .plan)) = record { tables = fits .tables; nodes-fit = r .fit; few-nodes = counts .0; few-tags = counts .1 } in
+      let r : Result C (fieldsOf C p) R w = passed mode mask file bytes-file request s f .0 in
+      let good : Writable (sourceOf C (w .plan)) = passed mode mask file bytes-file request s f .1 in
       record {
         catalogue = C;
         old = p;

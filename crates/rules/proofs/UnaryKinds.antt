@@ -9,13 +9,14 @@ use lib.ListN.{length, take, drop}
 use Rattle.cpl.specs.Tests.{allB, concatMap}
 use Rattle.cpl.specs.Lists.{All, a[], Fit}
 use Rattle.cpl.specs.Plan.{Pair, eqP, Expr, Item, bare, named, Agg, Win, Unary, projection, filter, sort, limit, aggregate, window, subqueryAlias, distinct, Plan, unary, Catalogue, itemPair, itemExpr, keyExpr, aggPair, winPair}
-use Rattle.cpl.specs.Exprs.{aggExprs, winExprs, unaryExprs}
+use Rattle.cpl.specs.Exprs.{leafExprs, aggExprs, winExprs, unaryExprs}
 use Rattle.cpl.specs.Accept.{allPass}
 use Rattle.cpl.specs.Fields.{leafFields, unaryFields, requalify, fieldsOf}
 use Rattle.cpl.specs.Writable.{FitList, FitItem, FitAgg, FitWin, FitLeaf, FitUnary, FitPlan}
 use Rattle.cpl.proofs.Bools.{halves}
 use Rattle.cpl.proofs.Lists.{All-left, All-right, All-++, Fit-map, Fit-trans, take-fit}
 use Rattle.cpl.proofs.Pairs.{eqP-eq}
+use Rattle.cpl.proofs.Versions.{Sound}
 use Rattle.cpl.proofs.Clash.{n[]}
 use Rattle.cpl.proofs.Accepted.{Resolved, Sees, each-sees, all-see, Accepted}
 use Rattle.rules.specs.Mask.{Mask, select, ones, LeM}
@@ -30,12 +31,12 @@ use Rattle.rules.proofs.Inputs.{Fields, Result, Good, Input, topped, as
 -- ── a node over a rewritten input ───────────────────────────────────────────────────────────
 
 -- the node h′ over an input with the fields fs at K stands for the old node h, whose fields are left at L
-module _ (C : Catalogue) {fs : List Pair} (h h′ : Unary) (own : Fields (unaryFields h fs)) {K : Mask} (L : Mask) {p′ : Plan} (i : Input C fs K p′)
+module _ (C : Catalogue) {fs : List Pair} (h h′ : Unary) (own : Fields (C .version) (unaryFields h fs)) {K : Mask} (L : Mask) {p′ : Plan} (i : Input C fs K p′)
     (same : unaryFields h′ (select K fs) ≡ select L (unaryFields h fs)) where
   node-fields : unaryFields h′ (fieldsOf C p′) ≡ select L (unaryFields h fs)
   node-fields = ap (unaryFields h′) (i .fields) ∙ same
 
-  pub node : {R : Mask} (overlong : Bool) → LeM R L → Resolved (allPass (unaryExprs h′) (select K fs)) → FitUnary h′
+  pub node : {R : Mask} (overlong : Bool) → LeM R L → Resolved (allPass (unaryExprs h′) (select K fs)) → FitUnary (C .version) h′
       → Result C (unaryFields h fs) R (record { plan = unary h′ p′; kept = L; overlong = overlong })
   unfolding fieldsOf Accepted FitPlan
   node o k t f =
@@ -87,7 +88,7 @@ same-columns (named c e ∷ is) (f ∷ fs) t = absurd t
 selected-resolved : (R : Mask) (is : List Item) (fs : List Pair) → Resolved (allPass (map itemExpr is) fs) → Resolved (allPass (map itemExpr (select R is)) fs)
 selected-resolved R is fs t = all-see fs (subst (All (Sees fs)) (select-map itemExpr R is) (All-select R (each-sees (map itemExpr is) fs t)))
 
-module _ (C : Catalogue) (is : List Item) {fs : List Pair} (resolved-items : Resolved (allPass (map itemExpr is) fs)) (own : Fields (map itemPair is)) (few : FitList FitItem 128 is)
+module _ (C : Catalogue) (is : List Item) {fs : List Pair} (resolved-items : Resolved (allPass (map itemExpr is) fs)) (own : Fields (C .version) (map itemPair is)) (few : FitList FitItem (C .version .maxItems) is)
     (go : Go) (g : Good C fs go) (R : Mask) (f : Fit R (map itemPair is)) where
   pub projection-good : Result C (map itemPair is) R (runJob C fs (projectionJob C is fs R) go)
   unfolding projectionJob runJob input overChild unaryFields unaryExprs FitUnary fieldsOf
@@ -115,12 +116,12 @@ module _ (C : Catalogue) (is : List Item) {fs : List Pair} (resolved-items : Res
           }
       choose false t =
           node C (projection is) (projection js) own R (as-it-is C r) (sym (select-map itemPair R is)) (w .overlong) (LeM-refl R)
-          (used-resolved (map itemExpr js) fs (r .kept .keeps) (selected-resolved R is fs resolved-items)) (fit-select FitItem 128 R is few)
+          (used-resolved (map itemExpr js) fs (r .kept .keeps) (selected-resolved R is fs resolved-items)) (fit-select FitItem _ R is few)
 
 -- ── Aggregate ───────────────────────────────────────────────────────────────────────────────
 
-module _ (C : Catalogue) {fs : List Pair} (below : Fields fs) (gs : List Item) (vs : List Agg) (resolved-exprs : Resolved (allPass (unaryExprs (aggregate gs vs)) fs))
-    (own : Fields (unaryFields (aggregate gs vs) fs)) (fit : FitUnary (aggregate gs vs)) (go : Go) (g : Good C fs go) (R : Mask) (f : Fit R (unaryFields (aggregate gs vs) fs)) where
+module _ (C : Catalogue) (laws : Sound (C .version)) {fs : List Pair} (below : Fields (C .version) fs) (gs : List Item) (vs : List Agg) (resolved-exprs : Resolved (allPass (unaryExprs (aggregate gs vs)) fs))
+    (own : Fields (C .version) (unaryFields (aggregate gs vs) fs)) (fit : FitUnary (C .version) (aggregate gs vs)) (go : Go) (g : Good C fs go) (R : Mask) (f : Fit R (unaryFields (aggregate gs vs) fs)) where
   abbrev A : Mask
   A = drop (length gs) R
 
@@ -139,12 +140,12 @@ module _ (C : Catalogue) {fs : List Pair} (below : Fields fs) (gs : List Item) (
       let h = aggregate gs ws in
       let Q = used (unaryExprs h) fs in
       let r = g false Q (used-fit (unaryExprs h) fs) in
-      node C (aggregate gs vs) h own (ones gs ++ A) (topped C below (used-fit (unaryExprs h) fs) r) (ap (λ us. map itemPair gs ++ map aggPair us) e ∙ aggregate-fields gs A vs) _
+      node C (aggregate gs vs) h own (ones gs ++ A) (topped C laws below (used-fit (unaryExprs h) fs) r) (ap (λ us. map itemPair gs ++ map aggPair us) e ∙ aggregate-fields gs A vs) _
       (all-groups gs (map aggPair vs) f) (used-resolved (unaryExprs h) fs (LeM-refl Q) (subst⁻¹ (λ us. Resolved (allPass (unaryExprs (aggregate gs us)) fs)) e kept-resolved))
-      (m, fit .1, subst⁻¹ (FitList FitAgg 128) e (fit-select FitAgg 128 A vs (fit .2)))
+      (m, fit .1, subst⁻¹ (FitList FitAgg (C .version .maxItems)) e (fit-select FitAgg _ A vs (fit .2)))
 
   pub aggregate-good : Result C (unaryFields (aggregate gs vs) fs) R (runJob C fs (aggregateJob gs (select A vs) fs (ones gs ++ A)) go)
-  unfolding aggregateJob runJob unaryFields fieldsOf leafFields Accepted FitPlan FitLeaf FitList
+  unfolding aggregateJob runJob unaryFields fieldsOf leafFields leafExprs allB Accepted FitPlan FitLeaf FitList
   aggregate-good = cases gs (select A vs) refl refl
     where
       cases : (gs′ : List Item) (ws : List Agg) → gs′ ≡ gs → ws ≡ select A vs → Result C (unaryFields (aggregate gs vs) fs) R (runJob C fs (aggregateJob gs′ ws fs (ones gs ++ A)) go)
@@ -161,8 +162,8 @@ module _ (C : Catalogue) {fs : List Pair} (below : Fields fs) (gs : List Item) (
 
 -- ── Window ──────────────────────────────────────────────────────────────────────────────────
 
-module _ (C : Catalogue) {fs : List Pair} (below : Fields fs) (ws : List Win) (resolved-exprs : Resolved (allPass (unaryExprs (window ws)) fs))
-    (own : Fields (unaryFields (window ws) fs)) (fit : FitUnary (window ws)) (go : Go) (g : Good C fs go) (b : Bool) (R : Mask) (f : Fit R (unaryFields (window ws) fs)) where
+module _ (C : Catalogue) (laws : Sound (C .version)) {fs : List Pair} (below : Fields (C .version) fs) (ws : List Win) (resolved-exprs : Resolved (allPass (unaryExprs (window ws)) fs))
+    (own : Fields (C .version) (unaryFields (window ws) fs)) (fit : FitUnary (C .version) (window ws)) (go : Go) (g : Good C fs go) (b : Bool) (R : Mask) (f : Fit R (unaryFields (window ws) fs)) where
   -- the pass-through part, and the windows' part
   abbrev R₀ : Mask
   R₀ = take (length fs) R
@@ -198,31 +199,31 @@ module _ (C : Catalogue) {fs : List Pair} (below : Fields fs) (ws : List Win) (r
           let es = unaryExprs (window (v ∷ vs)) in
           let Q = plus es fs R₀ in
           let r = g b Q (plus-fit es pass-fit) in
-          node C (window ws) (window (v ∷ vs)) own (Q ++ S) (topped C below (plus-fit es pass-fit) r) (ap (λ us. select Q fs ++ map winPair us) e ∙ window-fields (plus-fit es pass-fit) S ws) _
+          node C (window ws) (window (v ∷ vs)) own (Q ++ S) (topped C laws below (plus-fit es pass-fit) r) (ap (λ us. select Q fs ++ map winPair us) e ∙ window-fields (plus-fit es pass-fit) S ws) _
           (LeM-parts (length fs) R (plus-keeps es pass-fit (LeM-refl _)) (LeM-refl S)) (plus-resolved es pass-fit (subst⁻¹ (λ us. Resolved (allPass (unaryExprs (window us)) fs)) e kept-windows))
-          (omega arith, subst⁻¹ (FitList FitWin 128) e (fit-select FitWin 128 S ws (fit .1)))
+          (omega arith, subst⁻¹ (FitList FitWin (C .version .maxItems)) e (fit-select FitWin _ S ws (fit .1)))
 
 -- ── every kind ──────────────────────────────────────────────────────────────────────────────
 
-module _ (C : Catalogue) {fs : List Pair} (below : Fields fs) (go : Go) (g : Good C fs go) where
-  pub unary-good : (h : Unary) → Resolved (allPass (unaryExprs h) fs) → Fields (unaryFields h fs) → FitUnary h → (b : Bool) (R : Mask) → Fit R (unaryFields h fs)
+module _ (C : Catalogue) (laws : Sound (C .version)) {fs : List Pair} (below : Fields (C .version) fs) (go : Go) (g : Good C fs go) where
+  pub unary-good : (h : Unary) → Resolved (allPass (unaryExprs h) fs) → Fields (C .version) (unaryFields h fs) → FitUnary (C .version) h → (b : Bool) (R : Mask) → Fit R (unaryFields h fs)
       → Result C (unaryFields h fs) R (runJob C fs (unaryJob C h fs b R) go)
   unfolding unaryJob runJob input unaryFields unaryExprs allB
   unary-good (projection is) k own fit b R f = projection-good C is k own (unfold FitUnary in fit) go g R f
   unary-good (filter e) k own fit b R f =
       let q = plus-fit (e ∷ []) f in
-      node C (filter e) (filter e) own _ (topped C below q (g true _ q)) refl _ (plus-keeps (e ∷ []) f (LeM-refl _)) (plus-resolved (e ∷ []) f k) fit
+      node C (filter e) (filter e) own _ (topped C laws below q (g true _ q)) refl _ (plus-keeps (e ∷ []) f (LeM-refl _)) (plus-resolved (e ∷ []) f k) fit
   unary-good (sort ks) k own fit b R f =
       let es = map keyExpr ks in
       let q = plus-fit es f in
-      node C (sort ks) (sort ks) own _ (topped C below q (g true _ q)) refl _ (plus-keeps es f (LeM-refl _)) (plus-resolved es f k) fit
-  unary-good (limit s n) k own fit true R f = node C (limit s n) (limit s n) own R (topped C below f (g true R f)) refl _ (LeM-refl R) (record { all-found = tt; all-definite = tt }) fit
+      node C (sort ks) (sort ks) own _ (topped C laws below q (g true _ q)) refl _ (plus-keeps es f (LeM-refl _)) (plus-resolved es f k) fit
+  unary-good (limit s n) k own fit true R f = node C (limit s n) (limit s n) own R (topped C laws below f (g true R f)) refl _ (LeM-refl R) (record { all-found = tt; all-definite = tt }) fit
   unary-good (limit s n) k own fit false R f = let r = g false R f in node C (limit s n) (limit s n) own _ (as-it-is C r) refl _ (r .kept .keeps) (record { all-found = tt; all-definite = tt }) fit
-  unary-good (aggregate gs vs) k own fit b R f = aggregate-good C below gs vs k own fit go g R f
-  unary-good (window ws) k own fit b R f = window-good C below ws k own fit go g b R f
+  unary-good (aggregate gs vs) k own fit b R f = aggregate-good C laws below gs vs k own fit go g R f
+  unary-good (window ws) k own fit b R f = window-good C laws below ws k own fit go g b R f
   unary-good (subqueryAlias q) k own fit b R f =
       let i = Fit-trans f (Fit-map (requalify q) fs) in
-      node C (subqueryAlias q) (subqueryAlias q) own R (topped C below i (g true R i)) (sym (select-map (requalify q) R fs)) _ (LeM-refl R) (record { all-found = tt; all-definite = tt }) fit
+      node C (subqueryAlias q) (subqueryAlias q) own R (topped C laws below i (g true R i)) (sym (select-map (requalify q) R fs)) _ (LeM-refl R) (record { all-found = tt; all-definite = tt }) fit
   unary-good distinct k own fit b R f =
       let r = g false (ones fs) (unfold ones in Fit-map (λ x. true) fs) in
       node C distinct distinct own _ (as-it-is C r) refl _ (LeM-trans (fit-ones f) (r .kept .keeps)) (record { all-found = tt; all-definite = tt }) fit

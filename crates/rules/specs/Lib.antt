@@ -12,4 +12,5 @@ pub mod Scans
 pub mod OwnTables
 pub mod Larger
 pub mod Samples
+pub mod Samples2
 pub mod Computes

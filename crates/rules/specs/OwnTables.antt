@@ -5,7 +5,7 @@ use mathlib.Core.Path.{_≡_}
 use mathlib.Core.List.{List, [], _∷_, _++_, map}
 use Prim.Native.Nat.{ℕ, suc, _+_}
 use lib.ListN.{length, getD}
-use Rattle.cpl.specs.Plan.{Leaf, scan, empty, Plan, leaf, unary, binary, Catalogue}
+use Rattle.cpl.specs.Plan.{Leaf, scan, empty, Plan, leaf, unary, binary, Catalogue, namesOf}
 use Rattle.cpl.specs.Exprs.{planNodes}
 use Rattle.rules.specs.Mask.{Mask}
 use Rattle.rules.specs.Merge.{Merge}
@@ -14,7 +14,7 @@ use Rattle.rules.specs.Scans.{scans, scansUnder}
 
 -- other numbers for the tables
 unfoldable pub retableLeaf : (ℕ → ℕ) → Leaf → Leaf
-retableLeaf u (scan t q is) = scan (u t) q is
+retableLeaf u (scan t q is es) = scan (u t) q is es
 retableLeaf u (empty b cs) = empty b cs
 
 unfoldable pub retable : (ℕ → ℕ) → Plan → Plan
@@ -30,13 +30,13 @@ ownTables (binary h p₁ p₂) at = binary h (ownTables p₁ (suc at)) (ownTable
 
 -- the table of a scan; of another node one that the catalogue lacks
 unfoldable pub leafTable : Catalogue → Leaf → ℕ
-leafTable C (scan t q is) = t
-leafTable C (empty b cs) = length C
+leafTable C (scan t q is es) = t
+leafTable C (empty b cs) = length (C .tables)
 
 unfoldable pub nodeTable : Catalogue → Plan → ℕ
 nodeTable C (leaf h) = leafTable C h
-nodeTable C (unary h p) = length C
-nodeTable C (binary h p₁ p₂) = length C
+nodeTable C (unary h p) = length (C .tables)
+nodeTable C (binary h p₁ p₂) = length (C .tables)
 
 -- the nodes of a plan, each with all that is beneath it, "in prefix order"
 unfoldable pub nodes : Plan → List Plan
@@ -46,11 +46,11 @@ nodes (binary h p₁ p₂) = binary h p₁ p₂ ∷ (nodes p₁ ++ nodes p₂)
 
 -- the table that node n had
 unfoldable pub tableAt : Catalogue → Plan → (n : ℕ) → ℕ
-tableAt C p n = getD (map (nodeTable C) (nodes p)) n (length C)
+tableAt C p n = getD (map (nodeTable C) (nodes p)) n (length (C .tables))
 
 -- the tables of their own
 unfoldable pub ownCatalogue : Catalogue → Plan → Catalogue
-ownCatalogue C p = map (λ n. getD C n []) (map (nodeTable C) (nodes p))
+ownCatalogue C p = record { version = C .version; tables = map (namesOf C) (map (nodeTable C) (nodes p)); keys = [] }
 
 pub record Traced (M : Merge) (C : Catalogue) (p : Plan) (R : Mask) : Type 0 where
   -- with its old tables back it is the old plan

@@ -4,8 +4,8 @@ use mathlib.Core.List.{List, [], _∷_, _++_, map}
 use mathlib.Core.Bool.{Bool, true, false, cond, _&&_}
 use mathlib.Core.Option.{Option, some}
 use lib.Dec.{ltb}
-use lib.ListN.{length, take, drop, getD}
-use Rattle.cpl.specs.Plan.{Pair, eqP, Expr, Item, bare, named, Agg, Win, JoinType, j-inner, j-left, j-right, j-full, j-lsemi, j-lanti, j-rsemi, j-ranti, On, Leaf, scan, empty, Unary, projection, filter, sort, limit, aggregate, window, subqueryAlias, distinct, Binary, union, join, Plan, leaf, unary, Catalogue, itemExpr, keyExpr, onLeft, onRight}
+use lib.ListN.{length, take, drop}
+use Rattle.cpl.specs.Plan.{Pair, eqP, Expr, Item, bare, named, Agg, Win, JoinType, j-inner, j-left, j-right, j-full, j-lsemi, j-lanti, j-rsemi, j-ranti, On, Leaf, scan, empty, Unary, projection, filter, sort, limit, aggregate, window, subqueryAlias, distinct, Binary, union, join, Plan, leaf, unary, Catalogue, namesOf, itemExpr, keyExpr, onLeft, onRight}
 use Rattle.cpl.specs.Tests.{concatMap}
 use Rattle.cpl.specs.Exprs.{places, unaryExprs, condExprs}
 use Rattle.cpl.specs.Fields.{columnsOf, fieldsOf, joinFields}
@@ -40,13 +40,13 @@ overChild C is p′ = cond (sameColumns is (fieldsOf C p′)) p′ (unary (proje
 
 -- ── nodes with no input ─────────────────────────────────────────────────────────────────────
 
--- "Scan. New projection: the old at the request, or the request." "Empty: unchanged."
+-- "Scan. New projection: the old at the request, or the request." "Filters stay". "Empty: unchanged."
 unfoldable pub leafRule : Catalogue → Leaf → Mask → Leaf
-leafRule C (scan t q is) R = scan t q (some (select R (columnsOf (getD C t []) is)))
+leafRule C (scan t q is es) R = scan t q (some (select R (columnsOf (namesOf C t) is))) es
 leafRule C (empty b cs) R = empty b cs
 
 unfoldable pub leafKept : Leaf → Mask → Mask
-leafKept (scan t q is) R = R
+leafKept (scan t q is es) R = R
 leafKept (empty b cs) R = ones cs
 
 -- ── nodes with one input ────────────────────────────────────────────────────────────────────

@@ -5,9 +5,8 @@ use mathlib.Core.Bool.{Bool, true, false, _&&_}
 use mathlib.Core.Option.{Option, none, some}
 use Prim.Native.Nat.{ℕ, suc, _+_, _≤_, _<_}
 use lib.Dec.{T, eqb}
-use lib.ListN.{getD}
 use Rattle.cpl.specs.Tests.{anyB}
-use Rattle.cpl.specs.Plan.{Pair, Item, Leaf, scan, empty, Unary, projection, filter, sort, limit, aggregate, window, subqueryAlias, distinct, Binary, Plan, leaf, unary, binary, Catalogue}
+use Rattle.cpl.specs.Plan.{Pair, Expr, Item, Leaf, scan, empty, Unary, projection, filter, sort, limit, aggregate, window, subqueryAlias, distinct, Binary, Plan, leaf, unary, binary, Catalogue, namesOf}
 use Rattle.cpl.specs.Exprs.{planNodes}
 use Rattle.cpl.specs.Fields.{columnsOf, leafFields, unaryFields, binaryFields, fieldsOf}
 use Rattle.rules.specs.Mask.{Mask}
@@ -17,7 +16,7 @@ use Rattle.rules.specs.Rules.{leafRule, Job, done, ask, projectionJob, u
 -- ── the scans of a plan ─────────────────────────────────────────────────────────────────────
 
 unfoldable pub leafScans : Leaf → List Leaf
-leafScans (scan t q is) = scan t q is ∷ []
+leafScans (scan t q is es) = scan t q is es ∷ []
 leafScans (empty b cs) = []
 
 -- in prefix order, as they stand in the file
@@ -105,7 +104,7 @@ scansUnder M C p R = walkScans M C p 0 none false R
 -- ── what they read ──────────────────────────────────────────────────────────────────────────
 
 unfoldable pub leafColumns : Catalogue → Leaf → List ℕ
-leafColumns C (scan t q is) = columnsOf (getD C t []) is
+leafColumns C (scan t q is es) = columnsOf (namesOf C t) is
 leafColumns C (empty b cs) = []
 
 -- is the scan of this number among them?
@@ -137,7 +136,7 @@ Part {A} xs ys = Into {A = A} {B = A} (λ x y. x ≡ y) xs ys
 
 -- the same scan, of the same table, with part of the columns
 pub data Narrower (C : Catalogue) : Leaf → Leaf → Type 0 where
-  narrower : {t q : ℕ} {is js : Option (List ℕ)} → Part (columnsOf (getD C t []) is) (columnsOf (getD C t []) js) → Narrower C (scan t q is) (scan t q js)
+  narrower : {t q : ℕ} {is js : Option (List ℕ)} {es : List Expr} → Part (columnsOf (namesOf C t) is) (columnsOf (namesOf C t) js) → Narrower C (scan t q is es) (scan t q js es)
 
 pub record Within (C : Catalogue) (x y : Numbered) : Type 0 where
   pub same-node : x .number ≡ y .number

@@ -64,13 +64,13 @@ fn parts(r: RequiredIndices, n: usize) {
     indices(both);
 }
 
-// All indices below n: how many, whether r has all of them, what r is with them, whether that is all below 128.
+// All indices below n: how many, whether r has all of them, what r is with them, whether that is all below 512.
 fn all(r: RequiredIndices, n: usize)
-    requires { ⌜ n ≤ 128 ⌝ }
+    requires { ⌜ n ≤ 512 ⌝ }
 {
     let a = RequiredIndices::new_for_all_exprs(n);
     let both = r.append(a);
-    let whole = RequiredIndices::new_for_all_exprs(128);
+    let whole = RequiredIndices::new_for_all_exprs(512);
     text(b"all below ");
     number(n);
     text(b": ");
@@ -90,7 +90,9 @@ fn main() {
         .with_index(127)
         .with_index(0)
         .with_index(64)
+        .with_index(511)
         .with_index(63)
+        .with_index(300)
         .with_index(0);
     text(b"set:");
     indices(r);
@@ -98,10 +100,14 @@ fn main() {
     parts(r, 63);
     parts(r, 64);
     parts(r, 127);
-    parts(r, 128);
+    parts(r, 300);
+    parts(r, 511);
+    parts(r, 512);
     all(r, 0);
     all(r, 63);
     all(r, 64);
     all(r, 127);
-    all(r.with_projection_beneficial(), 128);
+    all(r, 300);
+    all(r, 511);
+    all(r.with_projection_beneficial(), 512);
 }

@@ -49,25 +49,25 @@ pub extern "C" fn simmerroof_prune_all(
     put(pruner::prune_all(mode, mask, file, out), answer);
 }
 
-/// `simmerroof_prune` in lent arrays.
+/// `simmerroof_prune` in lent arrays. The number at the end of the name goes with their lengths: a program that was compiled for others does not link.
 #[no_mangle]
-pub extern "C" fn simmerroof_prune_in(
+pub extern "C" fn simmerroof_prune_in2(
     mode: u8,
     mask: u16,
     file: &[u8],
     request: &[u16],
     out: &mut [u8],
     cells: &mut [u64; 12288],
-    rows: &mut [u16; 409728],
+    rows: &mut [u16; 1065088],
     nodes: &mut [u64; 1792],
-    names: &mut [u16; 1040],
-    fields: &mut [u16; 65536],
-    widths: &mut [u64; 256],
-    arows: &mut [u16; 512],
+    names: &mut [u16; 8208],
+    fields: &mut [u16; 262144],
+    widths: &mut [u64; 512],
+    arows: &mut [u16; 2048],
     acells: &mut [u64; 12288],
-    brows: &mut [u16; 512],
+    brows: &mut [u16; 2048],
     bcells: &mut [u64; 12288],
-    records: &mut [u64; 1536],
+    records: &mut [u64; 3328],
     items: &mut [u16; 16896],
     icells: &mut [u64; 12288],
     answer: &mut [u64; 3],
@@ -99,24 +99,24 @@ pub extern "C" fn simmerroof_prune_in(
     put(a, answer);
 }
 
-/// `simmerroof_prune_all` in lent arrays.
+/// `simmerroof_prune_all` in lent arrays, with the same number.
 #[no_mangle]
-pub extern "C" fn simmerroof_prune_all_in(
+pub extern "C" fn simmerroof_prune_all_in2(
     mode: u8,
     mask: u16,
     file: &[u8],
     out: &mut [u8],
     cells: &mut [u64; 12288],
-    rows: &mut [u16; 409728],
+    rows: &mut [u16; 1065088],
     nodes: &mut [u64; 1792],
-    names: &mut [u16; 1040],
-    fields: &mut [u16; 65536],
-    widths: &mut [u64; 256],
-    arows: &mut [u16; 512],
+    names: &mut [u16; 8208],
+    fields: &mut [u16; 262144],
+    widths: &mut [u64; 512],
+    arows: &mut [u16; 2048],
     acells: &mut [u64; 12288],
-    brows: &mut [u16; 512],
+    brows: &mut [u16; 2048],
     bcells: &mut [u64; 12288],
-    records: &mut [u64; 1536],
+    records: &mut [u64; 3328],
     items: &mut [u16; 16896],
     icells: &mut [u64; 12288],
     answer: &mut [u64; 3],

@@ -9,6 +9,7 @@ use lib.Dec.{eqb}
 use lib.ListN.{length}
 use Rattle.cpl.specs.Bytes.{fetchNumber}
 use Rattle.cpl.specs.Codes.{bit, joinNumber}
+use Rattle.cpl.specs.Limits.{Version}
 use Rattle.cpl.specs.Plan.{Binary, Catalogue, Expr, Leaf, On, Unary, aggregate, distinct, empty, filter, j-full, j-inner, j-lanti, j-left, j-lsemi, j-ranti, j-right, j-rsemi, join, limit, projection, scan, sort, subqueryAlias, union, window}
 use Rattle.cpl.specs.Plan
 use Rattle.cpl.specs.ReadPlan.{Head, h0, h1, h2}
@@ -16,7 +17,7 @@ use Rattle.cpl.specs.Writable.{FitBinary, FitCond, FitLeaf, FitList, FitName, F
 use Rattle.cpl.proofs.CodeTrip.{number-bit}
 use Rattle.cpl.proofs.PartTrip.{number-fetch}
 use Rattle.arena.specs.Cells.{Wf, exprAt}
-use Rattle.tree.specs.Layout.{allCells, allNodes, allRows, allRowsIn, binaryCells, binaryNode, binaryNodes, binaryRows, columnsOf, condCells, condNodes, condRoot, given, itemStore, leafNode, leafRows, onStore, rootOf, unaryCells, unaryNode, unaryNodes, unaryRows, winStore}
+use Rattle.tree.specs.Layout.{allCells, allNodes, allRows, allRowsIn, binaryCells, binaryNode, binaryNodes, binaryRows, columnStore, columnsOf, condCells, condNodes, condRoot, given, itemStore, leafCells, leafNode, leafNodes, leafRows, onStore, rootOf, unaryCells, unaryNode, unaryNodes, unaryRows, winStore}
 use Rattle.tree.specs.Node.{Fits, NodeFits, joinIs, joinNode, nodeAt, nodeOf, scanNode, typeOf, wordsAt}
 use Rattle.tree.specs.Rows.{WinOk, columnsAt, winAt, winSize}
 use Rattle.tree.specs.Tree.{Arrays, PartsOk, headOf, if?, rightOf}
@@ -26,7 +27,7 @@ use Rattle.tree.specs.declared.Words.{Words}
 use Rattle.tree.proofs.Held.{Held, held-left, held-right, moved}
 use Rattle.tree.proofs.Exprs.{expr-back}
 use Rattle.tree.proofs.Lists.{all-cells-long, all-rows-long, items-list, list-back, one-each}
-use Rattle.tree.proofs.Stores.{aggs-back, columns-back, item-sized, items-back, keys-back, on-sized, ons-back, pairs-back, root-wf}
+use Rattle.tree.proofs.Stores.{aggs-back, columns-back, columns-long, exprs-back, item-sized, items-back, keys-back, on-sized, ons-back, pairs-back, root-wf}
 use Rattle.tree.proofs.Windows.{win-reads, win-sized}
 
 -- ── seven numbers ───────────────────────────────────────────────────────────────────────────
@@ -71,25 +72,25 @@ module _ (a : Arrays) {k t r f n x y z : ℕ} (h : Held (a .nodes) (k * 7) (t �
 -- ── one input ───────────────────────────────────────────────────────────────────────────────
 
 module _ (a : Arrays) where
-  pub unary-back : (h : Unary) (k made row : ℕ) → FitUnary h → Wf (a .cells) made → Held (a .cells) (made * 3) (unaryCells made h) → Held (a .rows) (row * 4) (unaryRows made h)
+  pub unary-back : (v : Version) (h : Unary) (k made row : ℕ) → FitUnary v h → Wf (a .cells) made → Held (a .cells) (made * 3) (unaryCells made h) → Held (a .rows) (row * 4) (unaryRows made h)
       → Held (a .nodes) (k * 7) (unaryNode made row h) → HeadBack a k 0 (h1 h) × Wf (a .cells) (made + unaryNodes h)
   unfolding unaryCells unaryRows unaryNode unaryNodes FitUnary FitList FitName nodeOf
-  unary-back (projection is) k made row f w h g n =
+  unary-back v (projection is) k made row f w h g n =
       let L = items-back (a .cells) (a .rows) is made row (f .1) w h g in (
         back a n (Projection row (length is)) (omega arith) refl (ap (λ l. h1 (projection l)) (items-list (a .rows) (a .cells) row (length is) ∙ L .0 .is))
             (record { room = L .1 .room; each = L .1 .each }) refl,
         L .0 .wf,
       )
-  unary-back (filter e) k made row f w h g n =
+  unary-back v (filter e) k made row f w h g n =
       let b = expr-back e made f w h in
       (back a n (Filter (rootOf made e)) (omega arith) refl (ap (λ x. h1 (filter x)) (b .is)) (root-wf b refl) refl, b .wf)
-  unary-back (sort ks) k made row f w h g n =
+  unary-back v (sort ks) k made row f w h g n =
       let L = keys-back (a .cells) (a .rows) ks made row (f .1 .1) w h g in
       (back a n (Sort row (length ks)) (omega arith) refl (ap (λ l. h1 (sort l)) (L .0 .is)) (L .1) refl, L .0 .wf)
-  unary-back (limit s m) k made row f w h g n =
+  unary-back v (limit s m) k made row f w h g n =
       let t = number-fetch m (f .1) in
       (back a n (Limit s (fetchNumber m)) (omega (arith, f .0, t .0)) refl (ap (λ x. h1 (limit s x)) (t .1)) tt refl, subst (Wf (a .cells)) (omega arith) w)
-  unary-back (aggregate gs vs) k made row f w h g n =
+  unary-back v (aggregate gs vs) k made row f w h g n =
       let made₁ = made + allNodes itemStore gs in
       let p : made * 3 + allNodes itemStore gs * 3 ≡ made₁ * 3 = omega arith in
       let q : row * 4 + allRowsIn itemStore gs * 4 ≡ (row + length gs) * 4 = omega (arith, one-each itemStore item-sized (λ x. refl) gs) in
@@ -103,12 +104,12 @@ module _ (a : Arrays) where
             (record { room = L .1 .room; each = L .1 .each }, M .1) refl,
         subst (Wf (a .cells)) (omega arith) (M .0 .wf),
       )
-  unary-back (window ws) k made row f w h g n =
+  unary-back v (window ws) k made row f w h g n =
       let L = list-back (a .cells) (a .rows) winStore win-sized FitWin (winAt (a .rows) (a .cells)) (WinOk (a .rows) (a .cells)) (winSize (a .rows)) (win-reads (a .cells) (a .rows)) made row (f .1 .1) w h g in
       (back a n (Window row (length ws)) (omega arith) refl (ap (λ l. h1 (window l)) (L .is)) (L .good) refl, L .wf)
-  unary-back (subqueryAlias q) k made row f w h g n =
+  unary-back v (subqueryAlias q) k made row f w h g n =
       (back a n (SubqueryAlias q) (omega (arith, f .1)) refl refl tt refl, subst (Wf (a .cells)) (omega arith) w)
-  unary-back distinct k made row f w h g n = (back a n Distinct (omega arith) refl refl tt refl, subst (Wf (a .cells)) (omega arith) w)
+  unary-back v distinct k made row f w h g n = (back a n Distinct (omega arith) refl refl tt refl, subst (Wf (a .cells)) (omega arith) w)
 
 -- ── two inputs ──────────────────────────────────────────────────────────────────────────────
 
@@ -160,11 +161,21 @@ given-is a row none e = refl
 given-is a row (some xs) e = ap some e
 
 module _ (C : Catalogue) (a : Arrays) where
-  pub leaf-back : (h : Leaf) (k row : ℕ) → FitLeaf C h → Held (a .rows) (row * 4) (leafRows h) → Held (a .nodes) (k * 7) (leafNode row h) → HeadBack a k 0 (h0 h)
-  unfolding leafRows leafNode FitLeaf FitName nodeOf scanNode
-  leaf-back (scan t q is) k row f g n =
-      let L = columns-back (a .rows) row (columnsOf is) g in
-      back a n (Scan (scanNode (words 11 0 row (length (columnsOf is)) t q (bit (given is))))) (omega (arith, f .1 .1)) refl (ap (λ x. h0 (scan t q x)) (given-is a row is (L .0))) (L .1) refl
-  leaf-back (empty b cs) k row f g n =
-      let L = pairs-back (a .rows) row cs g in
-      back a n (Empty (eqb (bit b) 1) row (length cs)) (omega arith) refl (ap₂ (λ x y. h0 (empty x y)) (number-bit b .1) (L .0)) (L .1) refl
+  pub leaf-back : (h : Leaf) (k made row : ℕ) → FitLeaf C h → Wf (a .cells) made → Held (a .cells) (made * 3) (leafCells made h) → Held (a .rows) (row * 4) (leafRows made h)
+      → Held (a .nodes) (k * 7) (leafNode row h) → HeadBack a k 0 (h0 h) × Wf (a .cells) (made + leafNodes h)
+  unfolding leafCells leafRows leafNodes leafNode FitLeaf FitList FitName nodeOf scanNode
+  leaf-back (scan t q is es) k made row f w h g n =
+      let m = length (columnsOf is) in
+      let long = columns-long made (columnsOf is) in
+      let p : row * 4 + m * 4 ≡ (row + m) * 4 = omega arith in
+      let L = columns-back (a .rows) made row (columnsOf is) (held-left (allRows columnStore made (columnsOf is)) _ g) in
+      let E = exprs-back (a .cells) (a .rows) es made (row + m) (f .3 .1) w h (moved p (held-right (allRows columnStore made (columnsOf is)) _ (m * 4) long g)) in (
+        back a n (Scan (scanNode (words 11 (length es) row m t q (bit (given is))))) (omega (arith, f .1 .1)) refl
+            (ap₂ (λ x y. h0 (scan t q x y)) (given-is a row is (L .0)) (E .0 .is)) (L .1, E .1) refl,
+        E .0 .wf,
+      )
+  leaf-back (empty b cs) k made row f w h g n =
+      let L = pairs-back (a .rows) made row cs g in (
+        back a n (Empty (eqb (bit b) 1) row (length cs)) (omega arith) refl (ap₂ (λ x y. h0 (empty x y)) (number-bit b .1) (L .0)) (L .1) refl,
+        subst (Wf (a .cells)) (omega arith) w,
+      )

@@ -6,10 +6,10 @@ use native.Mathlib.Omega.{arith}
 use lib.ListN.{length, length-append}
 use Rattle.cpl.specs.Exprs.{planNodes}
 use Rattle.cpl.specs.Plan.{Binary, Expr, Leaf, Plan, Unary, aggregate, binary, distinct, empty, filter, join, leaf, limit, projection, scan, sort, subqueryAlias, unary, union, window}
-use Rattle.tree.specs.Layout.{aggStore, allNodes, binaryCells, binaryNode, binaryNodes, binaryRows, binaryRowsIn, columnStore, columnsOf, condCells, condNodes, exprNodes, itemStore, keyStore, leafNode, leafRows, leafRowsIn, onStore, pairStore, planCells, planRows, planRowsIn, planTable, unaryCells, unaryNode, unaryNodes, unaryRows, unaryRowsIn, winStore}
+use Rattle.tree.specs.Layout.{aggStore, allNodes, binaryCells, binaryNode, binaryNodes, binaryRows, binaryRowsIn, columnsOf, condCells, condNodes, exprNodes, exprStore, itemStore, keyStore, leafCells, leafNode, leafNodes, leafRows, leafRowsIn, onStore, pairStore, planCells, planRows, planRowsIn, planTable, unaryCells, unaryNode, unaryNodes, unaryRows, unaryRowsIn, winStore}
 use Rattle.tree.proofs.Exprs.{cells-long}
 use Rattle.tree.proofs.Lists.{all-cells-long, all-rows-long, one-each}
-use Rattle.tree.proofs.Stores.{agg-sized, column-sized, item-sized, key-sized, on-sized, pair-sized}
+use Rattle.tree.proofs.Stores.{agg-sized, columns-long, expr-sized, exprs-long, item-sized, key-sized, on-sized, pair-sized}
 use Rattle.tree.proofs.Windows.{win-sized}
 
 pub unary-cells : (made : ℕ) (h : Unary) → length (unaryCells made h) ≡ unaryNodes h * 3
@@ -68,26 +68,31 @@ unfolding binaryNode
 binary-node made row right union = refl
 binary-node made row right (join t os c) = refl
 
-leaf-rows : (h : Leaf) → length (leafRows h) ≡ leafRowsIn h * 4
+leaf-cells : (made : ℕ) (h : Leaf) → length (leafCells made h) ≡ leafNodes h * 3
+unfolding leafCells leafNodes
+leaf-cells made (scan t q is es) = all-cells-long exprStore expr-sized made es
+leaf-cells made (empty b cs) = refl
+
+leaf-rows : (made : ℕ) (h : Leaf) → length (leafRows made h) ≡ leafRowsIn h * 4
 unfolding leafRows leafRowsIn
-leaf-rows (scan t q is) = omega (arith, all-rows-long columnStore column-sized 0 (columnsOf is), one-each columnStore column-sized (λ x. refl) (columnsOf is))
-leaf-rows (empty b cs) = omega (arith, all-rows-long pairStore pair-sized 0 cs, one-each pairStore pair-sized (λ x. refl) cs)
+leaf-rows made (scan t q is es) = simp length-append (omega (arith, columns-long made (columnsOf is), exprs-long made es))
+leaf-rows made (empty b cs) = omega (arith, all-rows-long pairStore pair-sized made cs, one-each pairStore pair-sized (λ x. refl) cs)
 
 leaf-node : (row : ℕ) (h : Leaf) → length (leafNode row h) ≡ 7
 unfolding leafNode
-leaf-node row (scan t q is) = refl
+leaf-node row (scan t q is es) = refl
 leaf-node row (empty b cs) = refl
 
 pub plan-cells : (made : ℕ) (p : Plan) → length (planCells made p) ≡ exprNodes p * 3
 unfolding planCells exprNodes
-plan-cells made (leaf h) = refl
+plan-cells made (leaf h) = leaf-cells made h
 plan-cells made (unary h p) = simp length-append (omega (arith, unary-cells made h, plan-cells (made + unaryNodes h) p))
 plan-cells made (binary h p₁ p₂) =
     simp length-append (omega (arith, binary-cells made h, plan-cells (made + binaryNodes h) p₁, plan-cells (made + binaryNodes h + exprNodes p₁) p₂))
 
 pub plan-rows : (made : ℕ) (p : Plan) → length (planRows made p) ≡ planRowsIn p * 4
 unfolding planRows planRowsIn
-plan-rows made (leaf h) = leaf-rows h
+plan-rows made (leaf h) = leaf-rows made h
 plan-rows made (unary h p) = simp length-append (omega (arith, unary-rows made h, plan-rows (made + unaryNodes h) p))
 plan-rows made (binary h p₁ p₂) =
     simp length-append (omega (arith, binary-rows made h, plan-rows (made + binaryNodes h) p₁, plan-rows (made + binaryNodes h + exprNodes p₁) p₂))

@@ -10,7 +10,7 @@ use Rattle.cpl.specs.Codes.{fnOf}
 use Rattle.cpl.specs.Plan.{Expr, keyExpr, over, rows}
 use Rattle.cpl.proofs.CodeTrip.{flags-number, fn-number}
 use Rattle.arena.specs.Rows.{RowIs, rootAt}
-use Rattle.tree.specs.Rows.{aggAt, callOf, keyAt, keyOf, keysRow, lastRow, numberAt, onAt, winAt, winSize}
+use Rattle.tree.specs.Rows.{aggAt, callOf, keyAt, keyOf, keysRow, numberAt, onAt, winAt, winSize}
 use Rattle.tree.specs.Shows.{AggIs, KeyIs, OnIs, WinIs}
 
 module _ {s : List ℕ} {i q n m k : ℕ} (e : RowIs s i q n m k) where
@@ -46,21 +46,19 @@ module _ {s : List ℕ} {i q n m k : ℕ} (e : RowIs s i q n m k) where
     right-node = λ cells o. rw (e .root-is) (o .right);
   }
 
-  -- a window: the number of its parts is k, that of its keys stands after them
-  module _ {l : ℕ} (d : l ≡ numberAt s (i + 1 + k)) where
-    mid : i + 1 + k ≡ keysRow s i
-    mid = ap (λ x. i + 1 + x) (e .root-is)
+-- a window: the number of its parts is k, that of its keys and its root stand after them
+module _ {s : List ℕ} {i q n m k : ℕ} (e : RowIs s i q n m k) where
+  mid : i + 1 + k ≡ keysRow s i
+  mid = ap (λ x. i + 1 + x) (e .root-is)
 
+  module _ {q′ n′ m′ z l : ℕ} (f : RowIs s (i + 1 + k) q′ n′ m′ z) (d : l ≡ q′) where
     keys-are : l ≡ numberAt s (keysRow s i)
-    keys-are = d ∙ ap (numberAt s) mid
+    keys-are = d ∙ number-is f ∙ ap (numberAt s) mid
 
-    pub last-is : i + 1 + k + 1 + l ≡ lastRow s i
-    last-is = omega (arith, mid, keys-are)
-
-    pub win-is : {q′ n′ m′ z : ℕ} → RowIs s (i + 1 + k + 1 + l) q′ n′ m′ z → WinIs s i q n m k (i + 1 + k + 1) l z (i + 1 + k + 1 + l + 1)
+    pub win-is : WinIs s i q n m k (i + 1 + k + 1) l z (i + 1 + k + 1 + l)
     unfolding winAt winSize
-    win-is {z = z} f =
-        let root : z ≡ rootAt s (lastRow s i) = f .root-is ∙ ap (rootAt s) last-is in
+    win-is =
+        let root : z ≡ rootAt s (keysRow s i) = f .root-is ∙ ap (rootAt s) mid in
         let after : i + 1 + k + 1 ≡ keysRow s i + 1 = ap (λ x. x + 1) mid in
         record {
           pair-is = e .pair-is;

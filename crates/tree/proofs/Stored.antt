@@ -66,12 +66,12 @@ module _ (C : Catalogue) (a : Arrays) (count : ℕ) (few : count ≤ maxNodes) w
       → Held (a .cells) (made * 3) (planCells made p) → Held (a .rows) (row * 4) (planRows made p) → Held (a .nodes) (k * 7) (planTable k made row p) → PlanBack C a count k made p
   unfolding planCells planRows planTable planNodes planTags exprNodes FitPlan
   plan-back (leaf h) k made row f t l w c r n =
-      let b = leaf-back C a h k row f r n in
-      let plan = deeper a k (leaf h) (λ d m. over a b d refl refl) in
-      let here = ok a b C count (leaf h) (at-once a k (leaf h) (omega arith) plan) f t l tt in
-      record { plan = plan; wf = subst (Wf (a .cells)) (omega arith) w; each = λ j lo hi. subst (WfNode C a count) (omega arith) here }
+      let b = leaf-back C a h k made row f w c r n in
+      let plan = deeper a k (leaf h) (λ d m. over a (b .0) d refl refl) in
+      let here = ok a (b .0) C count (leaf h) (at-once a k (leaf h) (omega arith) plan) f t l tt in
+      record { plan = plan; wf = b .1; each = λ j lo hi. subst (WfNode C a count) (omega arith) here }
   plan-back (unary h p) k made row f t l w c r n =
-      let u = unary-back a h k made row (f .0) w (held-left (unaryCells made h) _ c) (held-left (unaryRows made h) _ r) (held-left (unaryNode made row h) _ n) in
+      let u = unary-back a (C .version) h k made row (f .0) w (held-left (unaryCells made h) _ c) (held-left (unaryRows made h) _ r) (held-left (unaryNode made row h) _ n) in
       let x : made * 3 + unaryNodes h * 3 ≡ (made + unaryNodes h) * 3 = omega arith in
       let y : row * 4 + unaryRowsIn h * 4 ≡ (row + unaryRowsIn h) * 4 = omega arith in
       let z : k * 7 + 7 ≡ (k + 1) * 7 = omega arith in

@@ -1,6 +1,6 @@
 -- Each part of a node is read back from where it is stored. Assumes nothing.
 use mathlib.Core.Path.{_≡_, refl, sym, ap, ap₂, subst, _∙_}
-use mathlib.Core.List.{List, [], _∷_}
+use mathlib.Core.List.{List, [], _∷_, _++_}
 use Prim.Native.Nat.{ℕ, _+_, _*_, _<_}
 use native.Mathlib.Omega.{arith}
 use borrow.Author.Tests.{ne-eqb}
@@ -21,7 +21,7 @@ use Rattle.tree.specs.Rows.{AggOk, EachOk, ExprOk, Inside, KeyOk, OnOk, 
 use Rattle.tree.proofs.Held.{Held, held-left, held-right, moved}
 use Rattle.tree.proofs.Exprs.{cells-long, expr-back, tags-pos}
 use Rattle.tree.proofs.Exprs
-use Rattle.tree.proofs.Lists.{Reads, ReadsAll, Sized, all-cells-long, each-back}
+use Rattle.tree.proofs.Lists.{Reads, ReadsAll, Sized, all-cells-long, all-rows-long, each-back, one-each}
 
 -- ── one row ─────────────────────────────────────────────────────────────────────────────────
 
@@ -209,6 +209,16 @@ module _ (cells s : List ℕ) where
       let r = row g in
       record { is = r .number; good = r .inside; long = refl; wf = subst (Wf cells) (omega arith) w }
 
+-- the rows of expressions, of keys and of columns
+pub exprs-long : (made : ℕ) (es : List Expr) → length (allRows exprStore made es) ≡ length es * 4
+exprs-long made es = omega (arith, all-rows-long exprStore expr-sized made es, one-each exprStore expr-sized (λ e. refl) es)
+
+pub keys-long : (made : ℕ) (ks : List Key) → length (allRows keyStore made ks) ≡ length ks * 4
+keys-long made ks = omega (arith, all-rows-long keyStore key-sized made ks, one-each keyStore key-sized (λ k. refl) ks)
+
+pub columns-long : (made : ℕ) (is : List ℕ) → length (allRows columnStore made is) ≡ length is * 4
+columns-long made is = omega (arith, all-rows-long columnStore column-sized made is, one-each columnStore column-sized (λ i. refl) is)
+
 -- ── lists of them ───────────────────────────────────────────────────────────────────────────
 
 module _ (cells s : List ℕ) where
@@ -233,17 +243,24 @@ unfolding allNodes
 no-nodes s o [] = refl
 no-nodes s o (x ∷ xs) = omega (arith, o x, no-nodes s o xs)
 
-module _ (rows : List ℕ) {A : Type 0} (s : Store A) (z : Sized s) (read : ℕ → A) (o : (x : A) → s .rowsIn x ≡ 1) (e : (x : A) → s .nodesIn x ≡ 0) where
+-- and their rows are the same wherever the cells stand
+same-rows : {A : Type 0} (s : Store A) → ((i j : ℕ) (x : A) → s .rowsOf i x ≡ s .rowsOf j x) → (i j : ℕ) (xs : List A) → allRows s i xs ≡ allRows s j xs
+unfolding allRows
+same-rows s o i j [] = refl
+same-rows s o i j (x ∷ xs) = ap₂ _++_ (o i j x) (same-rows s o (i + s .nodesIn x) (j + s .nodesIn x) xs)
+
+module _ (rows : List ℕ) {A : Type 0} (s : Store A) (z : Sized s) (read : ℕ → A) (o : (x : A) → s .rowsIn x ≡ 1) (e : (x : A) → s .nodesIn x ≡ 0) (same : (i j : ℕ) (x : A) → s .rowsOf i x ≡ s .rowsOf j x) where
   bare-back : Reads [] rows s (λ x. Unit {0}) read (Inside rows) one
-      → (row : ℕ) (xs : List A) → Held rows (row * 4) (allRows s 0 xs) → (listAt read one row (length xs) ≡ xs) × EachOk (Inside rows) rows row (length xs)
-  bare-back b row xs g =
+      → (made row : ℕ) (xs : List A) → Held rows (row * 4) (allRows s made xs) → (listAt read one row (length xs) ≡ xs) × EachOk (Inside rows) rows row (length xs)
+  bare-back b made row xs H =
+      let g = subst (Held rows (row * 4)) (same-rows s same made 0 xs) H in
       let none : length (allCells s 0 xs) ≡ 0 = omega (arith, all-cells-long s z 0 xs, no-nodes s e xs) in
       let l = each-back [] rows s z (λ x. Unit {0}) read (Inside rows) o b xs 0 row (always (λ x. tt) xs) (wf-none []) (record { room = omega arith; same = λ i h. absurd (omega arith) }) g in
       (l .0 .is, l .1)
 
 module _ (s : List ℕ) where
-  pub pairs-back : (row : ℕ) (xs : List Pair) → Held s (row * 4) (allRows pairStore 0 xs) → (pairsAt s row (length xs) ≡ xs) × EachOk (Inside s) s row (length xs)
-  pairs-back = bare-back s pairStore pair-sized (pairAt s) (λ x. refl) (λ x. refl) (pair-reads [] s)
+  pub pairs-back : (made row : ℕ) (xs : List Pair) → Held s (row * 4) (allRows pairStore made xs) → (pairsAt s row (length xs) ≡ xs) × EachOk (Inside s) s row (length xs)
+  pairs-back = bare-back s pairStore pair-sized (pairAt s) (λ x. refl) (λ x. refl) (λ i j x. refl) (pair-reads [] s)
 
-  pub columns-back : (row : ℕ) (xs : List ℕ) → Held s (row * 4) (allRows columnStore 0 xs) → (columnsAt s row (length xs) ≡ xs) × EachOk (Inside s) s row (length xs)
-  columns-back = bare-back s columnStore column-sized (numberAt s) (λ x. refl) (λ x. refl) (column-reads [] s)
+  pub columns-back : (made row : ℕ) (xs : List ℕ) → Held s (row * 4) (allRows columnStore made xs) → (columnsAt s row (length xs) ≡ xs) × EachOk (Inside s) s row (length xs)
+  columns-back = bare-back s columnStore column-sized (numberAt s) (λ x. refl) (λ x. refl) (λ i j x. refl) (column-reads [] s)

@@ -10,17 +10,10 @@ use Rattle.cpl.specs.Writable.{FitList, FitWin}
 use Rattle.arena.specs.Cells.{Wf, exprAt}
 use Rattle.arena.specs.Rows.{rootAt}
 use Rattle.tree.specs.Layout.{allCells, allNodes, allRows, callRoot, exprStore, keyStore, pairRow, winCells, winNodes, winRows, winRowsIn, winStore}
-use Rattle.tree.specs.Rows.{EachOk, ExprOk, Inside, KeyOk, WinOk, callOf, exprsAt, keysAt, keysRow, lastRow, numberAt, winAt, winSize}
+use Rattle.tree.specs.Rows.{EachOk, ExprOk, KeyOk, WinOk, callOf, exprsAt, keysAt, keysRow, numberAt, winAt, winSize}
 use Rattle.tree.proofs.Held.{held-left, held-right, moved}
-use Rattle.tree.proofs.Lists.{Reads, Sized, all-cells-long, all-rows-long, one-each}
-use Rattle.tree.proofs.Stores.{call-back, call-long, expr-sized, exprs-back, key-sized, keys-back, pair-is, row}
-
--- the rows of parts and of keys
-parts-long : (made : ℕ) (ps : List Expr) → length (allRows exprStore made ps) ≡ length ps * 4
-parts-long made ps = omega (arith, all-rows-long exprStore expr-sized made ps, one-each exprStore expr-sized (λ e. refl) ps)
-
-keys-long : (made : ℕ) (ks : List Key) → length (allRows keyStore made ks) ≡ length ks * 4
-keys-long made ks = omega (arith, all-rows-long keyStore key-sized made ks, one-each keyStore key-sized (λ k. refl) ks)
+use Rattle.tree.proofs.Lists.{Reads, Sized, all-cells-long}
+use Rattle.tree.proofs.Stores.{call-back, call-long, expr-sized, exprs-back, exprs-long, key-sized, keys-back, keys-long, pair-is, row}
 
 pub win-sized : Sized winStore
 win-sized = record { cells-long = three; rows-long = four }
@@ -34,7 +27,7 @@ win-sized = record { cells-long = three; rows-long = four }
     four : (made : ℕ) (x : Win) → length (winRows made x) ≡ winRowsIn x * 4
     four made (win (pair q n) g ps ks) =
         unfold winRows winRowsIn pairRow in
-        simp length-append (omega (arith, parts-long made ps, keys-long (made + allNodes exprStore ps) ks))
+        simp length-append (omega (arith, exprs-long made ps, keys-long (made + allNodes exprStore ps) ks))
 
 win-same : {c c′ : Pair} {g g′ : Call} {ps ps′ : List Expr} {ks ks′ : List Key} → c ≡ c′ → g ≡ g′ → ps ≡ ps′ → ks ≡ ks′ → win c g ps ks ≡ win c′ g′ ps′ ks′
 win-same p q r t = cc
@@ -52,33 +45,29 @@ win-reads cells s (win (pair q n) g ps ks) made i f w h H =
     let k₁ : i * 4 + 4 ≡ (i + 1) * 4 = omega arith in
     let k₂ : (i + 1) * 4 + length ps * 4 ≡ j * 4 = omega arith in
     let k₃ : j * 4 + 4 ≡ (j + 1) * 4 = omega arith in
-    let k₄ : (j + 1) * 4 + length ks * 4 ≡ (j + 1 + length ks) * 4 = omega arith in
     let H₁ = moved k₁ (held-right (pairRow (pair q n) (callNumber g) (length ps)) _ 4 refl H) in
-    let H₂ = moved k₂ (held-right (allRows exprStore made ps) _ (length ps * 4) (parts-long made ps) H₁) in
-    let H₃ = moved k₃ (held-right (length ks ∷ 0 ∷ 0 ∷ 0 ∷ []) _ 4 refl H₂) in
-    let H₄ = moved k₄ (held-right (allRows keyStore made₁ ks) _ (length ks * 4) (keys-long made₁ ks) H₃) in
+    let H₂ = moved k₂ (held-right (allRows exprStore made ps) _ (length ps * 4) (exprs-long made ps) H₁) in
+    let H₃ = moved k₃ (held-right (length ks ∷ 0 ∷ 0 ∷ callRoot made₂ g ∷ []) _ 4 refl H₂) in
     let r₀ = row (held-left (pairRow (pair q n) (callNumber g) (length ps)) _ H) in
-    let r₁ = row (held-left (length ks ∷ 0 ∷ 0 ∷ 0 ∷ []) _ H₂) in
-    let r₂ = row H₄ in
+    let r₁ = row (held-left (length ks ∷ 0 ∷ 0 ∷ callRoot made₂ g ∷ []) _ H₂) in
     let P = exprs-back cells s ps made (i + 1) (f .2 .1) w
     (held-left (allCells exprStore made ps) _ h) (held-left (allRows exprStore made ps) _ H₁) in
     let K = keys-back cells s ks made₁ (j + 1) (f .3 .1) (P .0 .wf)
-    (held-left (allCells keyStore made₁ ks) _ h₁) (held-left (allRows keyStore made₁ ks) _ H₃) in
+    (held-left (allCells keyStore made₁ ks) _ h₁) H₃ in
     let G = call-back g made₂ (f .1) (K .0 .wf) h₂ in
     let mid : keysRow s i ≡ j = ap (λ x. i + 1 + x) (r₀ .root) in
     let many : numberAt s (keysRow s i) ≡ length ks = ap (numberAt s) mid ∙ r₁ .number in
-    let last : lastRow s i ≡ j + 1 + length ks = omega (arith, mid, many) in
-    let root : rootAt s (lastRow s i) ≡ callRoot made₂ g = ap (rootAt s) last ∙ r₂ .root in
+    let root : rootAt s (keysRow s i) ≡ callRoot made₂ g = ap (rootAt s) mid ∙ r₁ .root in
     let after : keysRow s i + 1 ≡ j + 1 = ap (λ x. x + 1) mid in
     record {
       is = win-same (pair-is r₀) (ap₂ (λ k z. callOf k (exprAt cells z)) (r₀ .mark) root ∙ G .is)
           (ap (exprsAt s cells (i + 1)) (r₀ .root) ∙ P .0 .is) (ap₂ (keysAt s cells) after many ∙ K .0 .is);
       good = record {
-        inside = subst (Inside s) (sym last) (r₂ .inside);
+        inside = omega (arith, mid, many, K .1 .room);
         function = omega (arith, r₀ .mark, G .number);
         parts = subst (EachOk (ExprOk s cells) s (i + 1)) (sym (r₀ .root)) (P .1);
         keys = subst₂ (EachOk (KeyOk s cells) s) (sym after) (sym many) (K .1);
-        node = λ l. G .node (rootAt s (lastRow s i)) root (omega (arith, r₀ .mark));
+        node = λ l. G .node (rootAt s (keysRow s i)) root (omega (arith, r₀ .mark));
       };
       long = omega (arith, r₀ .root, many);
       wf = subst (Wf cells) (omega arith) (G .wf);

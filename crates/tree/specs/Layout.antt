@@ -2,8 +2,8 @@
 --   cells: expressions, three numbers a node (tag, x, y), operands before their parents. A column has its pair in x and y, a literal its 64 bits in x,
 --          an operator the numbers of its operands' nodes.
 --   rows:  the parts of a node, four numbers a row. An expression stands there by the number of its root in the cells.
---   nodes: the plan's nodes in prefix order, seven numbers a node: kind (the file's tag), number of the second input, first row, number of rows,
---          and three more that depend on the kind.
+--   nodes: the plan's nodes in prefix order, seven numbers a node: kind (the file's tag), number of the second input (of a scan: how many filters
+--          it has), first row, number of rows, and three more that depend on the kind.
 use mathlib.Core.List.{List, [], _∷_, _++_}
 use mathlib.Core.Bool.{Bool, true, false}
 use mathlib.Core.Option.{Option, none, some}
@@ -117,7 +117,7 @@ aggNodes (agg c g) = callNodes g
 abbrev pub aggStore : Store Agg
 aggStore = record { cellsOf = aggCells; rowsOf = aggRow; nodesIn = aggNodes; rowsIn = λ a. 1 }
 
--- a window: a row (pair, function, p), p rows of parts, a row (k, 0, 0, 0), k rows of keys, a row (0, 0, 0, the function's root)
+-- a window: a row (pair, function, p), p rows of parts, a row (k, 0, 0, the function's root), k rows of keys
 unfoldable pub winCells : (made : ℕ) → Win → List ℕ
 winCells made (win c g ps ks) =
     let made₁ = made + allNodes exprStore ps in
@@ -127,13 +127,13 @@ unfoldable pub winRows : (made : ℕ) → Win → List ℕ
 winRows made (win c g ps ks) =
     let made₁ = made + allNodes exprStore ps in
     pairRow c (callNumber g) (length ps)
-    ++ (allRows exprStore made ps ++ ((length ks ∷ 0 ∷ 0 ∷ 0 ∷ []) ++ (allRows keyStore made₁ ks ++ (0 ∷ 0 ∷ 0 ∷ callRoot (made₁ + allNodes keyStore ks) g ∷ []))))
+    ++ (allRows exprStore made ps ++ ((length ks ∷ 0 ∷ 0 ∷ callRoot (made₁ + allNodes keyStore ks) g ∷ []) ++ allRows keyStore made₁ ks))
 
 unfoldable pub winNodes : Win → ℕ
 winNodes (win c g ps ks) = allNodes exprStore ps + (allNodes keyStore ks + callNodes g)
 
 unfoldable pub winRowsIn : Win → ℕ
-winRowsIn (win c g ps ks) = 3 + (length ps + length ks)
+winRowsIn (win c g ps ks) = 2 + (length ps + length ks)
 
 abbrev pub winStore : Store Win
 winStore = record { cellsOf = winCells; rowsOf = winRows; nodesIn = winNodes; rowsIn = winRowsIn }
@@ -168,17 +168,27 @@ unfoldable pub given : {A : Type 0} → Option A → Bool
 given none = false
 given (some x) = true
 
-unfoldable pub leafRows : Leaf → List ℕ
-leafRows (scan t q is) = allRows columnStore 0 (columnsOf is)
-leafRows (empty b cs) = allRows pairStore 0 cs
+-- a scan's filters
+unfoldable pub leafCells : (made : ℕ) → Leaf → List ℕ
+leafCells made (scan t q is es) = allCells exprStore made es
+leafCells made (empty b cs) = []
+
+-- a scan: the rows of its columns, then those of its filters
+unfoldable pub leafRows : (made : ℕ) → Leaf → List ℕ
+leafRows made (scan t q is es) = allRows columnStore made (columnsOf is) ++ allRows exprStore made es
+leafRows made (empty b cs) = allRows pairStore made cs
+
+unfoldable pub leafNodes : Leaf → ℕ
+leafNodes (scan t q is es) = allNodes exprStore es
+leafNodes (empty b cs) = 0
 
 unfoldable pub leafRowsIn : Leaf → ℕ
-leafRowsIn (scan t q is) = length (columnsOf is)
+leafRowsIn (scan t q is es) = length (columnsOf is) + length es
 leafRowsIn (empty b cs) = length cs
 
--- kind, second input, first row, number of rows, and three more
+-- kind, the number of a scan's filters, first row, number of columns or of fields, and three more
 unfoldable pub leafNode : (row : ℕ) → Leaf → List ℕ
-leafNode row (scan t q is) = 11 ∷ 0 ∷ row ∷ length (columnsOf is) ∷ t ∷ q ∷ bit (given is) ∷ []
+leafNode row (scan t q is es) = 11 ∷ length es ∷ row ∷ length (columnsOf is) ∷ t ∷ q ∷ bit (given is) ∷ []
 leafNode row (empty b cs) = 12 ∷ 0 ∷ row ∷ length cs ∷ bit b ∷ 0 ∷ 0 ∷ []
 
 unfoldable pub unaryCells : (made : ℕ) → Unary → List ℕ
@@ -268,7 +278,7 @@ binaryNode made row right (join t os c) = 10 ∷ right ∷ row ∷ length os ∷
 -- ── plans ───────────────────────────────────────────────────────────────────────────────────
 
 unfoldable pub exprNodes : Plan → ℕ
-exprNodes (leaf h) = 0
+exprNodes (leaf h) = leafNodes h
 exprNodes (unary h p) = unaryNodes h + exprNodes p
 exprNodes (binary h p₁ p₂) = binaryNodes h + (exprNodes p₁ + exprNodes p₂)
 
@@ -278,12 +288,12 @@ planRowsIn (unary h p) = unaryRowsIn h + planRowsIn p
 planRowsIn (binary h p₁ p₂) = binaryRowsIn h + (planRowsIn p₁ + planRowsIn p₂)
 
 unfoldable pub planCells : (made : ℕ) → Plan → List ℕ
-planCells made (leaf h) = []
+planCells made (leaf h) = leafCells made h
 planCells made (unary h p) = unaryCells made h ++ planCells (made + unaryNodes h) p
 planCells made (binary h p₁ p₂) = binaryCells made h ++ (planCells (made + binaryNodes h) p₁ ++ planCells (made + binaryNodes h + exprNodes p₁) p₂)
 
 unfoldable pub planRows : (made : ℕ) → Plan → List ℕ
-planRows made (leaf h) = leafRows h
+planRows made (leaf h) = leafRows made h
 planRows made (unary h p) = unaryRows made h ++ planRows (made + unaryNodes h) p
 planRows made (binary h p₁ p₂) = binaryRows made h ++ (planRows (made + binaryNodes h) p₁ ++ planRows (made + binaryNodes h + exprNodes p₁) p₂)
 

@@ -46,7 +46,7 @@ unfoldable pub joinNode : Words → JoinNode
 joinNode w = record { «join_type» = typeOf (w .a); first = w .first; n = w .n; «has_filter» = eqb (w .b) 1; filter = w .c; right = w .right }
 
 unfoldable pub scanNode : Words → ScanNode
-scanNode w = record { table = w .a; qualifier = w .b; given = eqb (w .c) 1; first = w .first; n = w .n }
+scanNode w = record { table = w .a; qualifier = w .b; given = eqb (w .c) 1; first = w .first; n = w .n; filters = w .right }
 
 -- a node by its kind, the file's tag
 unfoldable pub nodeOf : Words → Node

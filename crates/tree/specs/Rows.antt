@@ -82,21 +82,22 @@ pub record AggOk (s cells : List ℕ) (i : ℕ) : Type 0 where
   pub function : markAt s i < 5
   pub node : 0 < markAt s i → Wf cells (rootAt s i + 1)
 
--- a window from row i on: (pair, function, parts), the parts, the row with the number of keys, the keys, the row with the function's root
+-- a window from row i on: (pair, function, parts), the parts, the row with the number of keys and the function's root, the keys
 abbrev pub keysRow : List ℕ → ℕ → ℕ
 keysRow s i = i + 1 + rootAt s i
 
+-- its last row
 abbrev pub lastRow : List ℕ → ℕ → ℕ
-lastRow s i = keysRow s i + 1 + numberAt s (keysRow s i)
+lastRow s i = keysRow s i + numberAt s (keysRow s i)
 
 unfoldable pub winAt : (s cells : List ℕ) → ℕ → Win
 winAt s cells i =
-    win (pairAt s i) (callOf (markAt s i) (exprAt cells (rootAt s (lastRow s i))))
+    win (pairAt s i) (callOf (markAt s i) (exprAt cells (rootAt s (keysRow s i))))
     (exprsAt s cells (i + 1) (rootAt s i)) (keysAt s cells (keysRow s i + 1) (numberAt s (keysRow s i)))
 
 -- the rows that it takes
 unfoldable pub winSize : List ℕ → ℕ → ℕ
-winSize s i = 3 + (rootAt s i + numberAt s (keysRow s i))
+winSize s i = 2 + (rootAt s i + numberAt s (keysRow s i))
 
 abbrev pub winsAt : (s cells : List ℕ) (first count : ℕ) → List Win
 winsAt s cells = listAt (winAt s cells) (winSize s)
@@ -106,7 +107,7 @@ pub record WinOk (s cells : List ℕ) (i : ℕ) : Type 0 where
   pub function : markAt s i < 5
   pub parts : EachOk (ExprOk s cells) s (i + 1) (rootAt s i)
   pub keys : EachOk (KeyOk s cells) s (keysRow s i + 1) (numberAt s (keysRow s i))
-  pub node : 0 < markAt s i → Wf cells (rootAt s (lastRow s i) + 1)
+  pub node : 0 < markAt s i → Wf cells (rootAt s (keysRow s i) + 1)
 
 -- ── pairs of a join, fields of an Empty, columns of a scan ──────────────────────────────────
 

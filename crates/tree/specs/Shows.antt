@@ -7,7 +7,7 @@ use Rattle.cpl.specs.Plan.{agg, Catalogue, on, Unary, Binary, leaf, unary, bina
 use Rattle.cpl.specs.ReadPlan.{Head, h0, h1, h2}
 use Rattle.arena.specs.Cells.{exprAt, Wf}
 use Rattle.arena.specs.Rows.{pairAt, markAt, rootAt}
-use Rattle.tree.specs.Rows.{AggOk, EachOk, ExprOk, KeyOk, OnOk, WinOk, aggAt, callOf, exprsAt, keyAt, keyOf, keysAt, keysRow, lastRow, numberAt, onAt, winAt, winSize}
+use Rattle.tree.specs.Rows.{AggOk, EachOk, ExprOk, KeyOk, OnOk, WinOk, aggAt, callOf, exprsAt, keyAt, keyOf, keysAt, keysRow, numberAt, onAt, winAt, winSize}
 use Rattle.tree.specs.Node.{nodeAt}
 use Rattle.tree.specs.Tree.{Arrays, PartsOk, WfTree, headOf, lent, planAt, rightOf}
 use Rattle.tree.specs.declared.Node.{Node}
@@ -61,7 +61,7 @@ pub record WinIs (s : List ℕ) (i q n f p key k root next : ℕ) : Type 0 where
   pub parts-are : p ≡ rootAt s i
   pub key-is : key ≡ keysRow s i + 1
   pub keys-are : k ≡ numberAt s (keysRow s i)
-  pub root-is : root ≡ rootAt s (lastRow s i)
+  pub root-is : root ≡ rootAt s (keysRow s i)
   pub next-is : next ≡ i + winSize s i
   pub means : (cells : List ℕ) → winAt s cells i ≡ win (pair q n) (callOf f (exprAt cells root)) (exprsAt s cells (i + 1) p) (keysAt s cells key k)
   pub parts : (cells : List ℕ) → WinOk s cells i → EachOk (ExprOk s cells) s (i + 1) p

@@ -11,7 +11,7 @@ use Rattle.cpl.specs.ReadPlan.{Head, h0, h1, h2, fetchOf}
 use Rattle.cpl.specs.Writable.{FitPlan}
 use Rattle.arena.specs.Cells.{exprAt, Wf}
 use Rattle.arena.specs.Rows.{itemsAt, RowsOk}
-use Rattle.tree.specs.Rows.{AllAt, EachOk, AggOk, Inside, KeyOk, OnOk, WinOk, aggsAt, columnsAt, keysAt, onsAt, pairsAt, winSize, winsAt}
+use Rattle.tree.specs.Rows.{AllAt, EachOk, AggOk, ExprOk, Inside, KeyOk, OnOk, WinOk, aggsAt, columnsAt, exprsAt, keysAt, onsAt, pairsAt, winSize, winsAt}
 use Rattle.tree.specs.Node.{NodeFits, joinIs, nodeAt}
 use Rattle.tree.specs.declared.Node.{Node}
 use Rattle.tree.specs.declared.Node.the-variants.{Projection, Filter, Sort, Limit, Aggregate, Window, SubqueryAlias, Union, Distinct, Join, Scan, Empty}
@@ -45,7 +45,8 @@ headOf a (Union r) = h2 union
 headOf a Distinct = h1 distinct
 headOf a (Join j) =
     h2 (join (joinIs (j .«join_type»)) (onsAt (a .rows) (a .cells) (j .first) (j .n)) (if? (j .«has_filter») (exprAt (a .cells) (j .filter))))
-headOf a (Scan s) = h0 (scan (s .table) (s .qualifier) (if? (s .given) (columnsAt (a .rows) (s .first) (s .n))))
+headOf a (Scan s) =
+    h0 (scan (s .table) (s .qualifier) (if? (s .given) (columnsAt (a .rows) (s .first) (s .n))) (exprsAt (a .rows) (a .cells) (s .first + s .n) (s .filters)))
 headOf a (Empty b f n) = h0 (empty b (pairsAt (a .rows) f n))
 
 -- the number of the second input, where there is one
@@ -75,7 +76,7 @@ PartsOk a (SubqueryAlias q) = Unit {0}
 PartsOk a (Union r) = Unit {0}
 PartsOk a Distinct = Unit {0}
 PartsOk a (Join j) = EachOk (OnOk (a .rows) (a .cells)) (a .rows) (j .first) (j .n) × (j .«has_filter» ≡ true → Wf (a .cells) (j .filter + 1))
-PartsOk a (Scan s) = EachOk (Inside (a .rows)) (a .rows) (s .first) (s .n)
+PartsOk a (Scan s) = EachOk (Inside (a .rows)) (a .rows) (s .first) (s .n) × EachOk (ExprOk (a .rows) (a .cells)) (a .rows) (s .first + s .n) (s .filters)
 PartsOk a (Empty b f n) = EachOk (Inside (a .rows)) (a .rows) f n
 
 -- ── plans ───────────────────────────────────────────────────────────────────────────────────

@@ -1,7 +1,7 @@
 //! A plan in lent arrays of numbers, taken apart node by node and row by row.
 //!
-//! A node of `nodes` is seven numbers (kind, second input, first row, number of rows, three more), in prefix order: the first input of node
-//! k is node k + 1. A row of `rows` is four numbers. An expression is named by the number of its root in the cells of the crate `arena`.
+//! A node of `nodes` is seven numbers (kind, second input or number of filters, first row, number of rows, three more), in prefix order: the
+//! first input of node k is node k + 1. A row of `rows` is four numbers. An expression is named by the number of its root in the cells of the crate `arena`.
 ghost use mathlib.Core.Path.{_≡_};
 ghost use Prim.Native.Nat.{_+_, _*_, _<_};
 ghost use lib.ListN.{length};
@@ -33,13 +33,14 @@ pub struct JoinNode {
     pub right: usize,
 }
 
-/// A scan: its table, its qualifier, the rows of its column indices if they are given.
+/// A scan: its table, its qualifier, the rows of its column indices if they are given, and how many filters have their rows behind those.
 pub struct ScanNode {
     pub table: usize,
     pub qualifier: u16,
     pub given: bool,
     pub first: usize,
     pub n: usize,
+    pub filters: usize,
 }
 
 /// A node without its inputs. `first` is its first row, `n` the number of things that its rows hold; an aggregate's rows are those of its
@@ -154,6 +155,7 @@ fn scan_node(w: Words) -> ScanNode
         given: w.c == 1,
         first: w.first as usize,
         n: w.n as usize,
+        filters: w.right as usize,
     }
 }
 
@@ -267,18 +269,18 @@ pub fn win_at(rows: &[u16], i: usize) -> WinRow
     let head = arena::row_at(rows, i);
     let parts = head.root;
     let mid = i + 1 + parts;
-    let keys = column_at(rows, mid);
-    let last = mid + 1 + keys;
-    let end = arena::row_at(rows, last);
+    let row = arena::row_at(rows, mid);
+    let key = mid + 1;
+    let keys = wide(row.qualifier);
     WinRow {
         qualifier: head.qualifier,
         name: head.name,
         function: head.mark,
-        root: end.root,
+        root: row.root,
         parts,
-        key: mid + 1,
+        key,
         keys,
-        next: last + 1,
+        next: key + keys,
     }
 }
 

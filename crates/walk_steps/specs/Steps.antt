@@ -5,7 +5,7 @@ use mathlib.Core.List.{List, map}
 use Prim.Native.Nat.{ℕ, _+_, _*_, _/_, _<_, _≤_}
 use lib.ListN.{length}
 use Rattle.cpl.specs.Exprs.{itemTags}
-use Rattle.cpl.specs.Limits.{maxItems, maxNodes, maxTags}
+use Rattle.cpl.specs.Limits.{maxNodes, maxTags}
 use Rattle.cpl.specs.Plan.{Item, Pair, itemExpr}
 use Rattle.cpl.specs.Tests.{allB, sumOf}
 use Rattle.rules.specs.Rules.{used}
@@ -52,11 +52,11 @@ keptPending l r rows cells arows acells = keptItems (side (l .scratch) arows row
 pub record ListOk (l : Pending) (rows cells arows acells : List ℕ) : Type 0 where
   pub rows-ok : RowsOk (side (l .scratch) arows rows) (side (l .scratch) acells cells) (l .first) (l .n)
   pub tags : sumOf itemTags (pendingItems l rows cells arows acells) ≤ maxTags
-  pub few : l .n ≤ maxItems
+  pub few : l .n ≤ 512
 
--- room for a list of 128 items, and for 4,096 nodes; a row names a node in 16 bits
+-- room for a list of 512 items, the most of every version, and for 4,096 nodes; a row names a node in 16 bits
 pub record Scratch (rows cells : List ℕ) : Type 0 where
-  pub rows-long : maxItems * 4 ≤ length rows
+  pub rows-long : 512 * 4 ≤ length rows
   pub cells-long : maxTags * 3 ≤ length cells
   pub cells-short : length cells ≤ 196608
 
@@ -128,16 +128,16 @@ ToppedIs s s′ k ask w v false e = (s′ ≡ s) × (v ≡ w)
 ToppedIs s s′ k ask w v true (ends.Done rec u) = Topping s s′ k ask rec u w v
 ToppedIs s s′ k ask w v true ends.Large = v .end ≡ ends.Large
 
--- the fields of node k that are left lie in the array
-abbrev pub FieldsFor : (fields : List ℕ) (k width : ℕ) → Walked → End → Type 0
-FieldsFor fields k width w (ends.Done rec u) = FieldsIn fields k width (w .kept)
-FieldsFor fields k width w ends.Large = Unit {0}
+-- the fields of an input that are left lie in the array
+abbrev pub FieldsFor : (fields : List ℕ) (start width : ℕ) → Walked → End → Type 0
+FieldsFor fields start width w (ends.Done rec u) = FieldsIn fields start width (w .kept)
+FieldsFor fields start width w ends.Large = Unit {0}
 
-pub record Putting (s s′ : List ℕ) (list : Selection) (fields : List ℕ) (top width : ℕ) (r : RequiredIndices) (k below rec : ℕ) (u : Used) (w v : Walked) : Type 0 where
+pub record Putting (s s′ : List ℕ) (list : Selection) (fields : List ℕ) (top start width : ℕ) (r : RequiredIndices) (lower below rec : ℕ) (u : Used) (w v : Walked) : Type 0 where
   pub t : Topped
-  pub on-top : ProjectionPut s s′ (u .records) rec list fields top width r k below (w .kept) t
+  pub on-top : ProjectionPut s s′ (u .records) rec list fields top start width r lower below (w .kept) t
   pub over : Over t u r v
 
-abbrev pub ListPut : (s s′ : List ℕ) (list : Selection) (fields : List ℕ) (top width : ℕ) (r : RequiredIndices) (k below : ℕ) (w v : Walked) → End → Type 0
-ListPut s s′ list fields top width r k below w v (ends.Done rec u) = Putting s s′ list fields top width r k below rec u w v
-ListPut s s′ list fields top width r k below w v ends.Large = v .end ≡ ends.Large
+abbrev pub ListPut : (s s′ : List ℕ) (list : Selection) (fields : List ℕ) (top start width : ℕ) (r : RequiredIndices) (lower below : ℕ) (w v : Walked) → End → Type 0
+ListPut s s′ list fields top start width r lower below w v (ends.Done rec u) = Putting s s′ list fields top start width r lower below rec u w v
+ListPut s s′ list fields top start width r lower below w v ends.Large = v .end ≡ ends.Large

@@ -132,7 +132,7 @@ pub fn merge_step(
     )
 }
 
-// The kept items of the list of `size` items from row `from` on of `lrows`.
+// The kept items of the list of `size` items from row `from` on of `lrows`, over `width` fields from field `start` on.
 fn choose(
     lrows: &[u16],
     from: usize,
@@ -140,7 +140,7 @@ fn choose(
     lcells: &[u64],
     request: RequiredIndices,
     fields: &[u16],
-    k: usize,
+    start: usize,
     width: usize,
     items: &mut [u16],
     icells: &mut [u64],
@@ -148,12 +148,22 @@ fn choose(
 ) -> Chosen
     requires { ⌜ RowsOk (now lrows) (now lcells) from size ⌝ }
     requires { ⌜ setOf request < 2 ^ size ⌝ }
-    requires { ⌜ Below (now fields) k width ⌝ }
+    requires { ⌜ Below (now fields) start width ⌝ }
     requires { ⌜ Room (now items) (now icells) (used .rows) (used .cells) ⌝ }
-    ensures { λ c. ⌜ Picked (keptItems (now (lrows .entry)) (now (lcells .entry)) from size request) (rowAt (now (fields .entry)) k width) used (now (items .entry)) (now (icells .entry)) (now (items .exit)) (now (icells .exit)) c ⌝ }
+    ensures { λ c. ⌜ Picked (keptItems (now (lrows .entry)) (now (lcells .entry)) from size request) (rowAt (now (fields .entry)) start width) used (now (items .entry)) (now (icells .entry)) (now (items .exit)) (now (icells .exit)) c ⌝ }
 {
     let none = RequiredIndices::new();
-    let ask = requests::with_items(none, lrows, from, size, lcells, request, fields, k, width);
+    let ask = requests::with_items(
+        none,
+        lrows,
+        from,
+        size,
+        lcells,
+        request,
+        fields,
+        start,
+        width,
+    );
     if projections::all_bare(lrows, from, size, request) {
         return Chosen {
             ask,
@@ -200,8 +210,8 @@ fn choose(
     }
 }
 
-/// The kept items of the pending list over node `k`, whose fields are the first `width` of its row: those that are not all bare columns are copied
-/// behind the rows and cells in use. Rust: `get_at_indices` and `with_exprs` in `rewrite_projection_given_requirements`.
+/// The kept items of the pending list over an input whose fields are the `width` from field `start` on: those that are not all bare columns are
+/// copied behind the rows and cells in use. Rust: `get_at_indices` and `with_exprs` in `rewrite_projection_given_requirements`.
 pub fn get_at_indices(
     list: Pending,
     cells: &[u64],
@@ -210,7 +220,7 @@ pub fn get_at_indices(
     acells: &[u64],
     request: RequiredIndices,
     fields: &[u16],
-    k: usize,
+    start: usize,
     width: usize,
     items: &mut [u16],
     icells: &mut [u64],
@@ -218,9 +228,9 @@ pub fn get_at_indices(
 ) -> Chosen
     requires { ⌜ ListOk list (now rows) (now cells) (now arows) (now acells) ⌝ }
     requires { ⌜ setOf request < 2 ^ (list .n) ⌝ }
-    requires { ⌜ Below (now fields) k width ⌝ }
+    requires { ⌜ Below (now fields) start width ⌝ }
     requires { ⌜ Room (now items) (now icells) (used .rows) (used .cells) ⌝ }
-    ensures { λ c. ⌜ Picked (keptPending list request (now (rows .entry)) (now (cells .entry)) (now (arows .entry)) (now (acells .entry))) (rowAt (now (fields .entry)) k width) used (now (items .entry)) (now (icells .entry)) (now (items .exit)) (now (icells .exit)) c ⌝ }
+    ensures { λ c. ⌜ Picked (keptPending list request (now (rows .entry)) (now (cells .entry)) (now (arows .entry)) (now (acells .entry))) (rowAt (now (fields .entry)) start width) used (now (items .entry)) (now (icells .entry)) (now (items .exit)) (now (icells .exit)) c ⌝ }
 {
     let from = list.first;
     let size = list.n;
@@ -232,7 +242,7 @@ pub fn get_at_indices(
             acells,
             request,
             fields,
-            k,
+            start,
             width,
             items,
             icells,
@@ -246,7 +256,7 @@ pub fn get_at_indices(
         cells,
         request,
         fields,
-        k,
+        start,
         width,
         items,
         icells,
@@ -380,23 +390,24 @@ pub fn top_up(
     over(t, used, ask)
 }
 
-/// The kept items of the pending list, whose pairs are the fields of node `top`, over node `k`, which became `w`. The fields of both nodes lie in
-/// the array. Rust: the end of `rewrite_projection_given_requirements`.
+/// The kept items of the pending list, whose pairs are the fields of node `top`, `width` from field `start` on, over an input that became `w`. Its
+/// fields are the `input_width` from field `lower` on. Both lie in the array. Rust: the end of `rewrite_projection_given_requirements`.
 pub fn put_list(
     records: &mut [u64],
     list: Selection,
     fields: &[u16],
     top: usize,
+    start: usize,
     width: usize,
     request: RequiredIndices,
-    k: usize,
+    lower: usize,
     input_width: usize,
     w: Walked,
 ) -> Walked
     requires { ⌜ maxNodes * recordN ≤ length (now records) ⌝ }
-    requires { ⌜ FieldsIn (now fields) top width request ⌝ }
-    requires { ⌜ FieldsFor (now fields) k «input_width» w (w .end) ⌝ }
-    ensures { λ v. ⌜ ListPut (now (records .entry)) (now (records .exit)) list (now (fields .entry)) top width request k «input_width» w v (w .end) ⌝ }
+    requires { ⌜ FieldsIn (now fields) start width request ⌝ }
+    requires { ⌜ FieldsFor (now fields) lower «input_width» w (w .end) ⌝ }
+    ensures { λ v. ⌜ ListPut (now (records .entry)) (now (records .exit)) list (now (fields .entry)) top start width request lower «input_width» w v (w .end) ⌝ }
 {
     let end = w.end;
     let kept = w.kept;
@@ -413,9 +424,10 @@ pub fn put_list(
         list,
         fields,
         top,
+        start,
         width,
         request,
-        k,
+        lower,
         input_width,
         kept,
     );

@@ -8,16 +8,16 @@ use native.Mathlib.Omega.{arith}
 use borrow.Author.Tests.{eqb-true}
 use lib.Dec.{eqb}
 use lib.ListN.{length}
-use Rattle.cpl.specs.Bytes.{aggBytes, binaryBytes, bytes, columnsBytes, condBytes, countedBytes, fetchNumber, itemBytes, keyBytes, leafBytes, onBytes, pairBytes, unaryBytes, winBytes}
+use Rattle.cpl.specs.Bytes.{aggBytes, binaryBytes, bytes, columnsBytes, condBytes, countedBytes, exprBytes, fetchNumber, itemBytes, keyBytes, leafBytes, onBytes, pairBytes, unaryBytes, winBytes}
 use Rattle.cpl.specs.Codes.{bit, joinNumber}
-use Rattle.cpl.specs.Exprs.{aggTags, binaryTags, condExprs, exprTags, itemTags, keyTags, onTags, unaryTags, winTags}
+use Rattle.cpl.specs.Exprs.{aggTags, binaryTags, condExprs, exprTags, itemTags, keyTags, leafTags, onTags, unaryTags, winTags}
 use Rattle.cpl.specs.Limits.{noFetch}
 use Rattle.cpl.specs.Read.{pick}
 use Rattle.cpl.specs.ReadPlan.{fetchOf}
 use Rattle.cpl.specs.Tests.{iota, sumOf}
 use Rattle.rules.specs.Mask.{select}
 use Rattle.arena.specs.Cells.{exprAt}
-use Rattle.arena.specs.Rows.{itemAt, itemsAt, pairAt}
+use Rattle.arena.specs.Rows.{itemAt, itemsAt, pairAt, rootAt}
 use Rattle.required_indices.specs.Set.{setMask}
 use Rattle.required_indices.specs.Request.{setOf}
 use Rattle.required_indices.specs.declared.RequiredIndices.{RequiredIndices}
@@ -28,7 +28,8 @@ use Rattle.tree.specs.declared.Node.{Node}
 use Rattle.tree.specs.declared.Node.the-variants.{Projection, Filter, Sort, Limit, Aggregate, Window, SubqueryAlias, Union, Distinct, Join, Scan, Empty}
 use Rattle.result.specs.Result.{unaryPart}
 use Rattle.writer_parts.specs.Lists.{chosenSum, takes}
-use Rattle.writer_parts.specs.declared.Part.the-variants
+use Rattle.versions.specs.Versions.{versionOf}
+use Rattle.versions.specs.declared.Version.{Version}
 use Rattle.writer_parts.proofs.Lists.{all-row-tags, counted-all-rows, counted-set, counted-set-rows, list-length, set-row-tags, set-tags}
 use Rattle.writer.specs.Shapes as Shapes
 use Rattle.writer.specs.Shapes.{keptBytes, keptTags, segBytes, segTags, shapeBytes, shapeOf, shapeTags, which}
@@ -105,21 +106,21 @@ scan-number t q h =
     let i : (256 + q / 256) / 256 ≡ 1 = omega arith in
     rw (a, b, c, d, e, f, g, i)
 
-module _ (a : Arrays) (r : RequiredIndices) where
+module _ (v : Version) (a : Arrays) (r : RequiredIndices) where
   -- the bytes of each kind: what its shape says is what the record keeps
   module _ (w : ℕ) where
     scan-columns : (b : Bool) (f n : ℕ) → setOf r < 2 ^ pick b n w →
-        segBytes (Shapes.columnSegment b f n w) (a .rows) (a .cells) r
-        ≡ countedBytes (bytes 1) (select (setMask (length (Shapes.scanColumns w (if? b (columnsAt (a .rows) f n)))) (setOf r)) (Shapes.scanColumns w (if? b (columnsAt (a .rows) f n))))
+        segBytes (Shapes.columnSegment v b f n w) (a .rows) (a .cells) r
+        ≡ countedBytes (v .wide) (bytes (v .wide)) (select (setMask (length (Shapes.scanColumns w (if? b (columnsAt (a .rows) f n)))) (setOf r)) (Shapes.scanColumns w (if? b (columnsAt (a .rows) f n))))
     scan-columns true f n h =
         let l = list-length (numberAt (a .rows)) one f n in
-        sym (ap (λ (x : ℕ). countedBytes (bytes 1) (select (setMask x (setOf r)) (columnsAt (a .rows) f n))) l
-        ∙ counted-set-rows (which false r) (bytes 1) (λ x. 0) (numberAt (a .rows)) f n refl h)
+        sym (ap (λ (x : ℕ). countedBytes (v .wide) (bytes (v .wide)) (select (setMask x (setOf r)) (columnsAt (a .rows) f n))) l
+        ∙ counted-set-rows (v .wide) (which false r) (bytes (v .wide)) (λ x. 0) (numberAt (a .rows)) f n refl h)
     scan-columns false f n h =
         let l = list-length (λ i. i) one 0 w in
-        sym (ap (λ (y : List ℕ). countedBytes (bytes 1) (select (setMask (length y) (setOf r)) y)) (iota-list 0 w)
-        ∙ ap (λ (x : ℕ). countedBytes (bytes 1) (select (setMask x (setOf r)) (listAt (λ i. i) one 0 w))) l
-        ∙ counted-set-rows (which false r) (bytes 1) (λ x. 0) (λ i. i) 0 w refl h)
+        sym (ap (λ (y : List ℕ). countedBytes (v .wide) (bytes (v .wide)) (select (setMask (length y) (setOf r)) y)) (iota-list 0 w)
+        ∙ ap (λ (x : ℕ). countedBytes (v .wide) (bytes (v .wide)) (select (setMask x (setOf r)) (listAt (λ i. i) one 0 w))) l
+        ∙ counted-set-rows (v .wide) (which false r) (bytes (v .wide)) (λ x. 0) (λ i. i) 0 w refl h)
 
     cond-bytes : (b : Bool) (x : ℕ) → segBytes (Shapes.condSegment b x) (a .rows) (a .cells) r ≡ condBytes (if? b (exprAt (a .cells) x))
     unfolding condBytes
@@ -131,26 +132,26 @@ module _ (a : Arrays) (r : RequiredIndices) where
     bit-number true = refl
     bit-number false = refl
 
-    pub shape-bytes : (n : Node) → NodeSet w (setOf r) n → Numbers n → shapeBytes (shapeOf n w) (a .rows) (a .cells) r ≡ keptBytes w (setOf r) (headOf a n)
+    pub shape-bytes : (n : Node) → NodeSet w (setOf r) n → Numbers n → shapeBytes (shapeOf v n w) (a .rows) (a .cells) r ≡ keptBytes (versionOf v) w (setOf r) (headOf a n)
     unfolding unaryBytes unaryPart binaryBytes leafBytes columnsBytes bytes
     shape-bytes (Projection f n) h z =
-        ap (1 ∷_) (append-nil _ ∙ sym (ap (countedBytes itemBytes) (items-list (a .rows) (a .cells) f n) ∙ counted-all-rows (which true r) itemBytes itemTags (itemAt (a .rows) (a .cells)) f n refl))
+        ap (1 ∷_) (append-nil _ ∙ sym (ap (countedBytes (v .wide) itemBytes) (items-list (a .rows) (a .cells) f n) ∙ counted-all-rows (v .wide) (which true r) itemBytes itemTags (itemAt (a .rows) (a .cells)) f n refl))
     shape-bytes (Filter x) h z = ap (2 ∷_) (append-nil _)
-    shape-bytes (Sort f n) h z = ap (3 ∷_) (append-nil _ ∙ sym (counted-all-rows (which true r) keyBytes keyTags (keyAt (a .rows) (a .cells)) f n refl))
+    shape-bytes (Sort f n) h z = ap (3 ∷_) (append-nil _ ∙ sym (counted-all-rows 1 (which true r) keyBytes keyTags (keyAt (a .rows) (a .cells)) f n refl))
     shape-bytes (Limit s n) h z = ap₂ _++_ (after-tag 4 4 s (omega arith)) (append-nil _ ∙ ap (bytes 4) (sym (fetch-number n)))
-    shape-bytes (Aggregate f g v) h z =
-        let l = list-length (aggAt (a .rows) (a .cells)) one (f + g) v in
+    shape-bytes (Aggregate f g m) h z =
+        let l = list-length (aggAt (a .rows) (a .cells)) one (f + g) m in
         ap (5 ∷_)
         (ap₂ _++_
-        (sym (ap (countedBytes itemBytes) (items-list (a .rows) (a .cells) f g) ∙ counted-all-rows (which true r) itemBytes itemTags (itemAt (a .rows) (a .cells)) f g refl))
-        (sym (ap (λ (x : ℕ). countedBytes aggBytes (select (setMask x (setOf r)) (aggsAt (a .rows) (a .cells) (f + g) v))) l
-        ∙ counted-set-rows (which false r) aggBytes aggTags (aggAt (a .rows) (a .cells)) (f + g) v refl h)))
+        (sym (ap (countedBytes (v .wide) itemBytes) (items-list (a .rows) (a .cells) f g) ∙ counted-all-rows (v .wide) (which true r) itemBytes itemTags (itemAt (a .rows) (a .cells)) f g refl))
+        (sym (ap (λ (x : ℕ). countedBytes (v .wide) aggBytes (select (setMask x (setOf r)) (aggsAt (a .rows) (a .cells) (f + g) m))) l
+        ∙ counted-set-rows (v .wide) (which false r) aggBytes aggTags (aggAt (a .rows) (a .cells)) (f + g) m refl h)))
     shape-bytes (Window f n) h z =
         let l = list-length (winAt (a .rows) (a .cells)) (winSize (a .rows)) f n in
         ap (6 ∷_)
         (append-nil _
-        ∙ sym (ap (λ (x : ℕ). countedBytes winBytes (select (setMask x (setOf r)) (winsAt (a .rows) (a .cells) f n))) l
-        ∙ counted-set (which false r) winBytes winTags (winAt (a .rows) (a .cells)) (winSize (a .rows)) f n refl h))
+        ∙ sym (ap (λ (x : ℕ). countedBytes (v .wide) winBytes (select (setMask x (setOf r)) (winsAt (a .rows) (a .cells) f n))) l
+        ∙ counted-set (v .wide) (which false r) winBytes winTags (winAt (a .rows) (a .cells)) (winSize (a .rows)) f n refl h))
     shape-bytes (SubqueryAlias q) h z = append-nil _ ∙ after-tag 2 7 q (omega arith)
     shape-bytes (Union x) h z = refl
     shape-bytes Distinct h z = refl
@@ -158,10 +159,13 @@ module _ (a : Arrays) (r : RequiredIndices) where
         let t : ℕ = joinNumber (joinIs (j .«join_type»)) in
         let e : t % 256 ≡ t = omega (arith, join-small (j .«join_type»)) in
         ap₂ _++_ (after-tag 1 10 t (omega arith) ∙ ap (λ (x : ℕ). 10 ∷ x ∷ []) e)
-        (ap₂ _++_ (sym (counted-all-rows (which true r) onBytes onTags (onAt (a .rows) (a .cells)) (j .first) (j .n) refl)) (cond-bytes (j .«has_filter») (j .filter)))
-    shape-bytes (Scan s) h z = ap₂ _++_ (scan-number (s .table) (s .qualifier) z) (append-nil _ ∙ scan-columns (s .given) (s .first) (s .n) h)
+        (ap₂ _++_ (sym (counted-all-rows 1 (which true r) onBytes onTags (onAt (a .rows) (a .cells)) (j .first) (j .n) refl)) (cond-bytes (j .«has_filter») (j .filter)))
+    shape-bytes (Scan s) h z =
+        ap₂ _++_ (scan-number (s .table) (s .qualifier) z)
+        (ap₂ _++_ (scan-columns (s .given) (s .first) (s .n) h)
+        (sym (counted-all-rows (v .late) (which true r) exprBytes exprTags (λ j. exprAt (a .cells) (rootAt (a .rows) j)) (s .first + s .n) (s .filters) refl)))
     shape-bytes (Empty b f n) h z =
-        ap₂ _++_ (bit-number b) (append-nil _ ∙ sym (counted-all-rows (which true r) pairBytes (λ c. 0) (pairAt (a .rows)) f n refl))
+        ap₂ _++_ (bit-number b) (append-nil _ ∙ sym (counted-all-rows (v .wide) (which true r) pairBytes (λ c. 0) (pairAt (a .rows)) f n refl))
 
 -- nothing is summed of things without tags
 sum-zero : (t : ℕ → Bool) (i n : ℕ) → chosenSum (λ j. 0) t i n ≡ 0
@@ -174,32 +178,35 @@ sum-zero t i (suc n) = by (t i) (sum-zero t (suc i) n)
     by false e = omega arith
 
 -- the tags likewise
-module _ (a : Arrays) (r : RequiredIndices) (w : ℕ) where
+module _ (v : Version) (a : Arrays) (r : RequiredIndices) (w : ℕ) where
   none-after : (x : ℕ) → x + 0 ≡ x
   none-after x = omega arith
+
+  none-before : {x y : ℕ} (z : ℕ) → x ≡ 0 → y ≡ z → x + y ≡ z
+  none-before z e d = omega (arith, e, d)
 
   cond-tags : (b : Bool) (x : ℕ) → segTags (Shapes.condSegment b x) (a .rows) (a .cells) r ≡ sumOf exprTags (condExprs (if? b (exprAt (a .cells) x)))
   unfolding condExprs sumOf
   cond-tags true x = omega arith
   cond-tags false x = refl
 
-  column-tags : (b : Bool) (f n : ℕ) → segTags (Shapes.columnSegment b f n w) (a .rows) (a .cells) r ≡ 0
+  column-tags : (b : Bool) (f n : ℕ) → segTags (Shapes.columnSegment v b f n w) (a .rows) (a .cells) r ≡ 0
   column-tags true f n = sum-zero (takes (which false r)) 0 n
   column-tags false f n = sum-zero (takes (which false r)) 0 w
 
-  pub shape-tags : (n : Node) → shapeTags (shapeOf n w) (a .rows) (a .cells) r ≡ keptTags w (setOf r) (headOf a n)
-  unfolding unaryTags unaryPart binaryTags
+  pub shape-tags : (n : Node) → shapeTags (shapeOf v n w) (a .rows) (a .cells) r ≡ keptTags w (setOf r) (headOf a n)
+  unfolding unaryTags unaryPart binaryTags leafTags
   shape-tags (Projection f n) =
       none-after _ ∙ sym (ap (sumOf itemTags) (items-list (a .rows) (a .cells) f n) ∙ all-row-tags (which true r) itemBytes itemTags (itemAt (a .rows) (a .cells)) f n refl)
   shape-tags (Filter x) = none-after _
   shape-tags (Sort f n) = none-after _ ∙ sym (all-row-tags (which true r) keyBytes keyTags (keyAt (a .rows) (a .cells)) f n refl)
   shape-tags (Limit s n) = refl
-  shape-tags (Aggregate f g v) =
-      let l = list-length (aggAt (a .rows) (a .cells)) one (f + g) v in
+  shape-tags (Aggregate f g m) =
+      let l = list-length (aggAt (a .rows) (a .cells)) one (f + g) m in
       ap₂ _+_
       (sym (ap (sumOf itemTags) (items-list (a .rows) (a .cells) f g) ∙ all-row-tags (which true r) itemBytes itemTags (itemAt (a .rows) (a .cells)) f g refl))
-      (sym (ap (λ (x : ℕ). sumOf aggTags (select (setMask x (setOf r)) (aggsAt (a .rows) (a .cells) (f + g) v))) l
-      ∙ set-row-tags (which false r) aggBytes aggTags (aggAt (a .rows) (a .cells)) (f + g) v refl))
+      (sym (ap (λ (x : ℕ). sumOf aggTags (select (setMask x (setOf r)) (aggsAt (a .rows) (a .cells) (f + g) m))) l
+      ∙ set-row-tags (which false r) aggBytes aggTags (aggAt (a .rows) (a .cells)) (f + g) m refl))
   shape-tags (Window f n) =
       let l = list-length (winAt (a .rows) (a .cells)) (winSize (a .rows)) f n in
       none-after _
@@ -210,5 +217,7 @@ module _ (a : Arrays) (r : RequiredIndices) (w : ℕ) where
   shape-tags Distinct = refl
   shape-tags (Join j) =
       ap₂ _+_ (sym (all-row-tags (which true r) onBytes onTags (onAt (a .rows) (a .cells)) (j .first) (j .n) refl)) (cond-tags (j .«has_filter») (j .filter))
-  shape-tags (Scan s) = none-after _ ∙ column-tags (s .given) (s .first) (s .n)
+  shape-tags (Scan s) =
+      none-before _ (column-tags (s .given) (s .first) (s .n))
+      (sym (all-row-tags (which true r) exprBytes exprTags (λ j. exprAt (a .cells) (rootAt (a .rows) j)) (s .first + s .n) (s .filters) refl))
   shape-tags (Empty b f n) = none-after _ ∙ sum-zero (takes (which true r)) 0 n

@@ -1,13 +1,15 @@
 -- What a record keeps of an old node, by the number of the node's fields in place of the catalogue. Assumes nothing.
 use mathlib.Core.Path.{_≡_, refl, sym, ap, subst, _∙_}
 use mathlib.Core.Bool.{Bool, true, false}
-use mathlib.Core.List.{List, []}
+use mathlib.Core.List.{List}
 use mathlib.Core.Option.{Option, none, some}
 use Prim.Native.Nat.{ℕ, _+_, _^_, _<_}
-use lib.ListN.{length, getD, length-map}
+use lib.ListN.{length, length-map}
 use Rattle.cpl.specs.Bytes.{leafBytes}
 use Rattle.cpl.specs.Fields.{columnsOf, leafFields, scanField}
-use Rattle.cpl.specs.Plan.{Catalogue, Leaf, Plan, empty, scan}
+use Rattle.cpl.specs.Exprs.{leafTags}
+use Rattle.cpl.specs.Limits.{Version}
+use Rattle.cpl.specs.Plan.{Catalogue, Expr, Leaf, Plan, empty, namesOf, scan}
 use Rattle.cpl.specs.Read.{pick}
 use Rattle.cpl.specs.ReadPlan.{Head, h0, h1, h2}
 use Rattle.cpl.specs.Tests.{iota}
@@ -32,44 +34,44 @@ Wide C w (h1 h) = Unit {0}
 Wide C w (h2 h) = Unit {0}
 
 module _ (C : Catalogue) (w s : ℕ) where
-  columns-long : (t q : ℕ) (is : Option (List ℕ)) → length (leafFields C (scan t q is)) ≡ length (columnsOf (getD C t []) is)
+  columns-long : (t q : ℕ) (is : Option (List ℕ)) (es : List Expr) → length (leafFields C (scan t q is es)) ≡ length (columnsOf (namesOf C t) is)
   unfolding leafFields
-  columns-long t q is = length-map (columnsOf (getD C t []) is) (scanField (getD C t []) q)
+  columns-long t q is es = length-map (columnsOf (namesOf C t) is) (scanField (namesOf C t) q)
 
   iota-long : (n : ℕ) → length (iota 0 n) ≡ n
   iota-long n = ap length (iota-list 0 n) ∙ list-length (λ i. i) one 0 n
 
-  same-columns : (t q : ℕ) (is : Option (List ℕ)) → length (leafFields C (scan t q is)) ≡ w → columnsOf (getD C t []) is ≡ scanColumns w is
+  same-columns : (t q : ℕ) (is : Option (List ℕ)) (es : List Expr) → length (leafFields C (scan t q is es)) ≡ w → columnsOf (namesOf C t) is ≡ scanColumns w is
   unfolding columnsOf
-  same-columns t q none e = ap (iota 0) (sym (columns-long t q none ∙ iota-long (length (getD C t []))) ∙ e)
-  same-columns t q (some is) e = refl
+  same-columns t q none es e = ap (iota 0) (sym (columns-long t q none es ∙ iota-long (length (namesOf C t))) ∙ e)
+  same-columns t q (some is) es e = refl
 
   leaf-keeps : (h : Leaf) → length (leafFields C h) ≡ w → leafPart C s h ≡ leafKeeps w s h
   unfolding leafPart leafRule
-  leaf-keeps (scan t q is) e =
-      ap (λ (n : ℕ). scan t q (some (select (setMask n s) (columnsOf (getD C t []) is)))) (columns-long t q is)
-      ∙ ap (λ (xs : List ℕ). scan t q (some (select (setMask (length xs) s) xs))) (same-columns t q is e)
+  leaf-keeps (scan t q is es) e =
+      ap (λ (n : ℕ). scan t q (some (select (setMask n s) (columnsOf (namesOf C t) is))) es) (columns-long t q is es)
+      ∙ ap (λ (xs : List ℕ). scan t q (some (select (setMask (length xs) s) xs)) es) (same-columns t q is es e)
   leaf-keeps (empty b cs) e = refl
 
-  pub kept-head : (h : Head) (p q : Plan) → Wide C w h → planHead (keptNode C s h p q) ≡ keptBytes w s h
+  pub kept-head : (v : Version) (h : Head) (p q : Plan) → Wide C w h → planHead v (keptNode C s h p q) ≡ keptBytes v w s h
   unfolding planHead
-  kept-head (h0 h) p q e = ap leafBytes (leaf-keeps h e)
-  kept-head (h1 h) p q e = refl
-  kept-head (h2 h) p q e = refl
+  kept-head v (h0 h) p q e = ap (leafBytes v) (leaf-keeps h e)
+  kept-head v (h1 h) p q e = refl
+  kept-head v (h2 h) p q e = refl
 
-  pub kept-tags : (h : Head) (p q : Plan) → headTags (keptNode C s h p q) ≡ keptTags w s h
+  pub kept-tags : (h : Head) (p q : Plan) → Wide C w h → headTags (keptNode C s h p q) ≡ keptTags w s h
   unfolding headTags
-  kept-tags (h0 h) p q = refl
-  kept-tags (h1 h) p q = refl
-  kept-tags (h2 h) p q = refl
+  kept-tags (h0 h) p q e = ap leafTags (leaf-keeps h e)
+  kept-tags (h1 h) p q e = refl
+  kept-tags (h2 h) p q e = refl
 
   -- a set within the head's list is within the node's
   module _ (a : Arrays) where
-    scan-set : (b : Bool) (t q f n : ℕ) → length (leafFields C (scan t q (if? b (listAt (numberAt (a .rows)) one f n)))) ≡ w →
-        s < 2 ^ length (columnsOf (getD C t []) (if? b (listAt (numberAt (a .rows)) one f n))) → s < 2 ^ pick b n w
+    scan-set : (b : Bool) (t q f n : ℕ) (es : List Expr) → length (leafFields C (scan t q (if? b (listAt (numberAt (a .rows)) one f n)) es)) ≡ w →
+        s < 2 ^ length (columnsOf (namesOf C t) (if? b (listAt (numberAt (a .rows)) one f n))) → s < 2 ^ pick b n w
     unfolding columnsOf
-    scan-set true t q f n e h = subst (λ (x : ℕ). s < 2 ^ x) (list-length (numberAt (a .rows)) one f n) h
-    scan-set false t q f n e h = subst (λ (x : ℕ). s < 2 ^ x) (sym (columns-long t q none) ∙ e) h
+    scan-set true t q f n es e h = subst (λ (x : ℕ). s < 2 ^ x) (list-length (numberAt (a .rows)) one f n) h
+    scan-set false t q f n es e h = subst (λ (x : ℕ). s < 2 ^ x) (sym (columns-long t q none es) ∙ e) h
 
     pub node-set : (n : Node) → Wide C w (headOf a n) → HeadSet C s (headOf a n) → NodeSet w s n
     node-set (Projection f n) e h = tt
@@ -82,5 +84,5 @@ module _ (C : Catalogue) (w s : ℕ) where
     node-set (Union x) e h = tt
     node-set Distinct e h = tt
     node-set (Join j) e h = tt
-    node-set (Scan x) e h = scan-set (x .given) (x .table) (x .qualifier) (x .first) (x .n) e h
+    node-set (Scan x) e h = scan-set (x .given) (x .table) (x .qualifier) (x .first) (x .n) _ e h
     node-set (Empty b f n) e h = tt

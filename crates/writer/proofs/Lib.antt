@@ -3,7 +3,6 @@ pub mod Segments
 pub mod Heads
 pub mod Ready
 pub mod Kept
-pub mod Fit
 pub mod Short
 pub mod Records
 pub mod Plans

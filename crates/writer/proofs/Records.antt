@@ -2,15 +2,14 @@
 use mathlib.Core.Path.{_≡_, refl, sym, ap, ap₂, subst, _∙_}
 use mathlib.Core.Bool.{true, false}
 use mathlib.Core.List.{List, [], _∷_, _++_, map, append-nil}
-use Prim.Native.Nat.{ℕ, _+_, _*_, _^_, _<_, _≤_}
+use Prim.Native.Nat.{ℕ, _+_, _^_, _<_, _≤_}
 use native.Mathlib.Omega.{arith}
-use lib.Count.{ones-le}
 use lib.ListN.{length, length-map}
 use Rattle.cpl.specs.Bytes.{bytes, countedBytes, itemBytes, leafBytes, unaryBytes}
-use Rattle.cpl.specs.Codes.{bit}
-use Rattle.cpl.specs.Exprs.{itemTags, planTags, unaryTags}
+use Rattle.cpl.specs.Exprs.{itemTags, leafTags, planTags, unaryTags}
 use Rattle.cpl.specs.Fields.{fieldsOf}
-use Rattle.cpl.specs.Limits.{maxItems, maxNodes, maxTags}
+use Rattle.cpl.specs.Limits.{maxTags}
+use Rattle.cpl.specs.Limits as limits
 use Rattle.cpl.specs.Plan.{Catalogue, Pair, Plan, bare, projection, unary}
 use Rattle.cpl.specs.ReadPlan.{Head, h0, h1, h2}
 use Rattle.cpl.specs.Tests.{concatMap, sumOf}
@@ -22,38 +21,40 @@ use Rattle.required_indices.specs.Request.{setOf}
 use Rattle.required_indices.specs.Set.{setMask}
 use Rattle.required_indices.specs.declared.RequiredIndices.{RequiredIndices}
 use Rattle.tree.specs.Node.{nodeAt}
-use Rattle.tree.specs.Rows.{one}
+use Rattle.tree.specs.Rows.{listAt, one}
 use Rattle.tree.specs.Tree.{Arrays, PartsOk, build, headOf, lent, planAt, rightOf}
 use Rattle.tree.specs.declared.Node.{Node}
 use Rattle.tree.specs.declared.Node.the-variants.{Projection, Filter, Sort, Limit, Aggregate, Window, SubqueryAlias, Union, Distinct, Join, Scan, Empty}
 use Rattle.tree.proofs.Plans.{plan-step}
-use Rattle.lookup.specs.Fields.{fieldAt, fieldsAt, rowAt, widthAt}
+use Rattle.lookup.specs.Fields.{fieldAt, fieldsAt, firstAt, rowAt, widthAt}
 use Rattle.lookup.specs.Standing.{Standing}
+use Rattle.versions.specs.Versions.{versionOf}
+use Rattle.versions.specs.declared.Version.{Version}
+use Rattle.versions.proofs.Small as versions
 use Rattle.result.specs.Result.{Results, columnsNode, keptNode, nothingLeft, unaryPart}
 use Rattle.result.specs.Records.{ColumnsOk, ItemsOk, KeptOk, RecordOk, standsFor}
 use Rattle.result.specs.declared.Record.{Record}
 use Rattle.result.specs.declared.Record.the-variants.{Kept, Columns, Items, Nothing}
 use Rattle.writer_parts.specs.declared.Part.the-variants.{Field, Item}
-use Rattle.writer_parts.proofs.Lists.{counted-set-rows, list-length, set-row-tags}
+use Rattle.writer_parts.proofs.Lists.{counted-length, counted-set-rows, list-length, set-row-tags}
 use Rattle.writer.specs.declared.Segment.the-variants as segments
 use Rattle.writer.specs.declared.Shape.{Shape}
-use Rattle.writer.specs.Shapes.{ShapeOk, Sums, headShape, shapeBytes, shapeOf, shapeTags, which}
+use Rattle.writer.specs.Shapes.{ShapeOk, Sums, emptyShape, headShape, shapeBytes, shapeOf, shapeTags, which}
 use Rattle.writer.specs.Plans.{Taken, cellsOf, headTags, planHead, recordShape, rowsOf}
 use Rattle.writer.proofs.Heads.{NodeSet, Numbers, items-list, shape-bytes, shape-tags}
 use Rattle.writer.proofs.Ready.{shape-ok}
 use Rattle.writer.proofs.Kept.{Wide, kept-head, kept-tags, node-set}
-use Rattle.writer.proofs.Fit.{FitHead, few}
-use Rattle.writer.proofs.Short.{fewer, kept-less, kept-short, ownTags, unary-short}
+use Rattle.writer.proofs.Short.{FitHead, fewer, kept-less, kept-short, ownTags, unary-short}
 
 -- segments that are a plan's own node and that code can write
-pub record Written (P : Plan) (h : Shape) (s c : List ℕ) (r : RequiredIndices) : Type 0 where
+pub record Written (v : limits.Version) (P : Plan) (h : Shape) (s c : List ℕ) (r : RequiredIndices) : Type 0 where
   pub ok : ShapeOk h s c r
-  pub bytes-are : shapeBytes h s c r ≡ planHead P
+  pub bytes-are : shapeBytes h s c r ≡ planHead v P
   pub tags-are : shapeTags h s c r ≡ headTags P
 
 -- a plan's own node of few bytes and tags
-pub record Small (P : Plan) : Type 0 where
-  pub short : length (planHead P) ≤ 65536
+pub record Small (v : limits.Version) (P : Plan) : Type 0 where
+  pub short : length (planHead v P) ≤ 65536
   pub few-tags : headTags P ≤ maxTags
 
 -- ── fields as items ─────────────────────────────────────────────────────────────────────────
@@ -73,9 +74,9 @@ unfolding concatMap
 bare-concat [] = refl
 bare-concat (x ∷ xs) = ap (itemBytes (bare x) ++_) (bare-concat xs)
 
-bare-bytes : (xs : List Pair) → countedBytes itemBytes (map bare xs) ≡ countedBytes (λ (c : Pair). itemBytes (bare c)) xs
+bare-bytes : (k : ℕ) (xs : List Pair) → countedBytes k itemBytes (map bare xs) ≡ countedBytes k (λ (c : Pair). itemBytes (bare c)) xs
 unfolding countedBytes
-bare-bytes xs = ap₂ _∷_ (length-map xs bare) (bare-concat xs)
+bare-bytes k xs = ap₂ (λ (n : ℕ) (y : List ℕ). bytes k n ++ y) (length-map xs bare) (bare-concat xs)
 
 -- ── an old node ─────────────────────────────────────────────────────────────────────────────
 
@@ -94,7 +95,7 @@ module _ (C : Catalogue) where
 
   head-few : (h : Head) (p q : Plan) → planTags (build h p q) ≤ maxTags → ownTags h ≤ maxTags
   unfolding planTags
-  head-few (h0 h) p q l = omega arith
+  head-few (h0 h) p q l = l
   head-few (h1 h) p q l = omega arith
   head-few (h2 h) p q l = omega arith
 
@@ -125,7 +126,7 @@ module _ (C : Catalogue) where
     sums h (Union x) o = tt
     sums h Distinct o = tt
     sums h (Join j) o = tt
-    sums h (Scan x) o = tt
+    sums h (Scan x) o = omega (arith, h, o .0 .room)
     sums h (Empty b f n) o = tt
 
 module _ {cells rows nodes fields widths : List ℕ} (st : Standing cells rows nodes fields widths) (old : ℕ) (l : old < st .count) where
@@ -138,18 +139,24 @@ module _ {cells rows nodes fields widths : List ℕ} (st : Standing cells rows n
   abbrev width : ℕ
   width = widthAt widths old
 
+  abbrev first : ℕ
+  first = firstAt widths old
+
+  narrow : versions.Small (st .C .version)
+  narrow = versions.small (st .tables .version-is)
+
   plan-is : planAt a old ≡ build (headOf a node) (planAt a (old + 1)) (planAt a (rightOf node))
   plan-is = plan-step (st .C) a (st .count) (st .tree) old l
 
-  fields-are : rowAt fields old width ≡ fieldsOf (st .C) (planAt a old)
+  fields-are : rowAt fields first width ≡ fieldsOf (st .C) (planAt a old)
   unfolding fieldsAt
   fields-are = st .stand old l
 
   width-is : length (fieldsOf (st .C) (planAt a old)) ≡ width
-  width-is = ap length (sym fields-are) ∙ list-length (fieldAt fields) one (old * 128) width
+  width-is = ap length (sym fields-are) ∙ list-length (fieldAt fields) one first width
 
-  width-few : width ≤ maxItems
-  width-few = omega (arith, few-fields (st .C) (planAt a old) (st .accepted old l), width-is)
+  width-few : width ≤ 512
+  width-few = omega (arith, few-fields (st .C) (planAt a old) (st .accepted old l), width-is, narrow .fields-small)
 
   wide : Wide (st .C) width (headOf a node)
   wide =
@@ -167,29 +174,26 @@ module _ {cells rows nodes fields widths : List ℕ} (st : Standing cells rows n
   pub kept-taken : length rows < 2 ^ 64 → Taken nodes (Kept old 0 0)
   kept-taken h = (st .tree .each old l .numbers, sums (st .C) a h node (st .tree .each old l .parts))
 
-  pub old-small : old * 128 < 2 ^ 64
-  old-small = omega (arith, l, st .tree .few)
-
   -- ── kept ──
   module _ (p q : Plan) where
-    pub kept-small : (s : ℕ) → Small (keptNode (st .C) s (headOf a node) p q)
+    pub kept-small : (s : ℕ) → Small (st .C .version) (keptNode (st .C) s (headOf a node) p q)
     kept-small s =
-        let b = kept-head (st .C) width s (headOf a node) p q wide in
-        let t = kept-tags (st .C) width s (headOf a node) p q in
+        let b = kept-head (st .C) width s (st .C .version) (headOf a node) p q wide in
+        let t = kept-tags (st .C) width s (headOf a node) p q wide in
         let n = kept-less width s (headOf a node) in
         record {
-          short = omega (arith, ap length b, kept-short width s (st .C) (headOf a node) width-few fit, n, own-few);
+          short = omega (arith, ap length b, kept-short width s (st .C) narrow width-few (headOf a node) fit, n, own-few);
           few-tags = omega (arith, t, n, own-few);
         }
 
-    pub kept-written : (r : RequiredIndices) {i f g : ℕ} → length rows < 2 ^ 64 → KeptOk (st .C) a (st .count) i (setOf r) old f g →
-        Written (keptNode (st .C) (setOf r) (headOf a node) p q) (shapeOf node width) rows cells r
-    kept-written r h o =
+    pub kept-written : (v : Version) (r : RequiredIndices) {i f g : ℕ} → length rows < 2 ^ 64 → KeptOk (st .C) a (st .count) i (setOf r) old f g →
+        Written (versionOf v) (keptNode (st .C) (setOf r) (headOf a node) p q) (shapeOf v node width) rows cells r
+    kept-written v r h o =
         let s : NodeSet width (setOf r) node = node-set (st .C) width (setOf r) a node wide (o .within) in
         record {
-          ok = shape-ok a r width h node (st .tree .each old l .parts) s (few (st .C) a width (omega (arith, width-few)) node fit);
-          bytes-are = shape-bytes a r width node s (numbers (st .C) a node fit) ∙ sym (kept-head (st .C) width (setOf r) (headOf a node) p q wide);
-          tags-are = shape-tags a r width node ∙ sym (kept-tags (st .C) width (setOf r) (headOf a node) p q);
+          ok = shape-ok v a r width (omega (arith, width-few)) h node (st .tree .each old l .parts);
+          bytes-are = shape-bytes v a r width node s (numbers (st .C) a node fit) ∙ sym (kept-head (st .C) width (setOf r) (versionOf v) (headOf a node) p q wide);
+          tags-are = shape-tags v a r width node ∙ sym (kept-tags (st .C) width (setOf r) (headOf a node) p q wide);
         }
 
   -- ── columns ──
@@ -197,103 +201,105 @@ module _ {cells rows nodes fields widths : List ℕ} (st : Standing cells rows n
   fs = fieldsOf (st .C) (planAt a old)
 
   module _ (p : Plan) where
-    pub columns-small : (s : ℕ) → Small (columnsNode fs s p)
+    pub columns-small : (s : ℕ) → Small (st .C .version) (columnsNode fs s p)
     unfolding columnsNode planHead headTags unaryTags
     columns-small s =
         let xs = select (setMask (length fs) s) fs in
         let n = fewer (setMask (length fs) s) fs in
         let e = bare-tags xs in
         record {
-          short = omega (arith, unary-short (projection (map bare xs)) (omega (arith, length-map xs bare, n, width-is, width-few)), e, n, width-is, width-few);
+          short = omega (arith, unary-short (st .C .version) narrow (projection (map bare xs)) (omega (arith, length-map xs bare, n, width-is, width-few)), e, n, width-is, width-few);
           few-tags = omega (arith, e, n, width-is, width-few);
         }
 
-    pub columns-written : (r : RequiredIndices) {i f : ℕ} → maxNodes * 256 ≤ length fields → ColumnsOk (st .C) a (st .count) i (setOf r) old f →
-        Written (columnsNode fs (setOf r) p) (headShape 1 1 (segments.List Field (old * 128) width false) segments.Nothing) fields cells r
+    pub columns-written : (v : Version) (r : RequiredIndices) {i f : ℕ} → length fields < 2 ^ 64 → ColumnsOk (st .C) a (st .count) i (setOf r) old f →
+        Written (versionOf v) (columnsNode fs (setOf r) p) (headShape 1 1 (segments.List (v .wide) Field first width false) segments.Nothing) fields cells r
     unfolding columnsNode planHead headTags unaryTags unaryBytes bytes
-    columns-written r room o =
+    columns-written v r room o =
         let s : setOf r < 2 ^ width = subst (λ (x : ℕ). setOf r < 2 ^ x) width-is (o .within) in
-        let n = ones-le width (setOf r) s in
-        let long = list-length (fieldAt fields) one (old * 128) width in
+        let long = list-length (fieldAt fields) one first width in
         record {
           ok = record {
             few = omega arith;
-            one = (
-              record { fits = omega (arith, width-few, l, st .tree .few); each = λ k z. omega (arith, width-few, l, st .tree .few, room) },
-              omega (arith, n, width-few),
-            );
+            one = record { fits = omega (arith, st .inside old l, room); each = λ k z. omega (arith, st .inside old l) };
             two = tt;
           };
           bytes-are =
               ap (1 ∷_)
               (append-nil _
-              ∙ sym (bare-bytes (select (setMask (length fs) (setOf r)) fs)
-              ∙ ap (λ (xs : List Pair). countedBytes (λ (c : Pair). itemBytes (bare c)) (select (setMask (length xs) (setOf r)) xs)) (sym fields-are)
-              ∙ ap (λ (x : ℕ). countedBytes (λ (c : Pair). itemBytes (bare c)) (select (setMask x (setOf r)) (rowAt fields old width))) long
-              ∙ counted-set-rows (which false r) (λ (c : Pair). itemBytes (bare c)) (λ (c : Pair). itemTags (bare c)) (fieldAt fields) (old * 128) width refl
+              ∙ sym (bare-bytes (v .wide) (select (setMask (length fs) (setOf r)) fs)
+              ∙ ap (λ (xs : List Pair). countedBytes (v .wide) (λ (c : Pair). itemBytes (bare c)) (select (setMask (length xs) (setOf r)) xs)) (sym fields-are)
+              ∙ ap (λ (x : ℕ). countedBytes (v .wide) (λ (c : Pair). itemBytes (bare c)) (select (setMask x (setOf r)) (rowAt fields first width))) long
+              ∙ counted-set-rows (v .wide) (which false r) (λ (c : Pair). itemBytes (bare c)) (λ (c : Pair). itemTags (bare c)) (fieldAt fields) first width refl
               s));
           tags-are =
               (let e : (x : ℕ) → x + 0 ≡ x = λ x. omega arith in e _)
               ∙ sym (bare-sum (select (setMask (length fs) (setOf r)) fs)
               ∙ ap (λ (xs : List Pair). sumOf (λ (c : Pair). itemTags (bare c)) (select (setMask (length xs) (setOf r)) xs)) (sym fields-are)
-              ∙ ap (λ (x : ℕ). sumOf (λ (c : Pair). itemTags (bare c)) (select (setMask x (setOf r)) (rowAt fields old width))) long
-              ∙ set-row-tags (which false r) (λ (c : Pair). itemBytes (bare c)) (λ (c : Pair). itemTags (bare c)) (fieldAt fields) (old * 128) width refl);
+              ∙ ap (λ (x : ℕ). sumOf (λ (c : Pair). itemTags (bare c)) (select (setMask x (setOf r)) (rowAt fields first width))) long
+              ∙ set-row-tags (which false r) (λ (c : Pair). itemBytes (bare c)) (λ (c : Pair). itemTags (bare c)) (fieldAt fields) first width refl);
         }
 
 -- ── items, and nothing ──────────────────────────────────────────────────────────────────────
 
-module _ (r : Results) {m k i row n f : ℕ} (o : ItemsOk r m k i row n f) (p : Plan) where
-  pub items-small : Small (unary (projection (itemsAt (r .items) (r .cells) row n)) p)
+module _ (C : Catalogue) (r : Results) {m k i row n f : ℕ} (o : ItemsOk C r m k i row n f) (p : Plan) where
+  pub items-small : versions.Small (C .version) → Small (C .version) (unary (projection (itemsAt (r .items) (r .cells) row n)) p)
   unfolding planHead headTags unaryTags
-  items-small =
+  items-small t =
       let e = ap length (items-list (r .items) (r .cells) row n) ∙ list-length (itemAt (r .items) (r .cells)) one row n in
       record {
-        short = omega (arith, unary-short (projection (itemsAt (r .items) (r .cells) row n)) (omega (arith, e, o .few)), o .tags);
+        short = omega (arith, unary-short (C .version) t (projection (itemsAt (r .items) (r .cells) row n)) (omega (arith, e, o .few, t .items-small)), o .tags);
         few-tags = o .tags;
       }
 
-  pub items-written : (t : RequiredIndices) → length (r .items) < 2 ^ 64 →
-      Written (unary (projection (itemsAt (r .items) (r .cells) row n)) p)
-      (headShape 1 1 (segments.List Item row n true) segments.Nothing) (r .items) (r .cells) t
+  pub items-written : (v : Version) (t : RequiredIndices) → length (r .items) < 2 ^ 64 →
+      Written (versionOf v) (unary (projection (itemsAt (r .items) (r .cells) row n)) p)
+      (headShape 1 1 (segments.List (v .wide) Item row n true) segments.Nothing) (r .items) (r .cells) t
   unfolding planHead headTags unaryPart
-  items-written t h =
+  items-written v t h =
       let b : Arrays = lent (r .cells) (r .items) [] in
       record {
-        ok = shape-ok b t 0 h (Projection row n) (o .rows) tt (omega (arith, o .few));
-        bytes-are = shape-bytes b t 0 (Projection row n) tt tt;
-        tags-are = shape-tags b t 0 (Projection row n);
+        ok = shape-ok v b t 0 (omega arith) h (Projection row n) (o .rows);
+        bytes-are = shape-bytes v b t 0 (Projection row n) tt tt;
+        tags-are = shape-tags v b t 0 (Projection row n);
       }
 
-nothing-small : Small nothingLeft
-unfolding planHead headTags leafBytes countedBytes concatMap
-nothing-small = record { short = omega arith; few-tags = omega arith }
+nothing-small : (v : limits.Version) → versions.Small v → Small v nothingLeft
+unfolding planHead headTags leafBytes leafTags countedBytes concatMap
+nothing-small v t = record { short = omega (arith, t .wide-small, counted-length (v .wide) 0 []); few-tags = omega arith }
 
-nothing-written : (s c : List ℕ) (t : RequiredIndices) → Written nothingLeft (headShape 3 268 segments.Nothing segments.Nothing) s c t
-unfolding planHead headTags leafBytes countedBytes concatMap bytes bit
-nothing-written s c t = record { ok = record { few = omega arith; one = tt; two = tt }; bytes-are = refl; tags-are = refl }
+nothing-written : (v : Version) (s c : List ℕ) (t : RequiredIndices) → Written (versionOf v) nothingLeft (emptyShape v true 0 0) s c t
+unfolding planHead headTags listAt
+nothing-written v s c t =
+    let b : Arrays = lent c s [] in
+    record {
+      ok = record { few = omega arith; one = record { fits = omega arith; each = λ k z. absurd (omega arith) }; two = tt };
+      bytes-are = shape-bytes v b t 0 (Empty true 0 0) tt tt;
+      tags-are = shape-tags v b t 0 (Empty true 0 0);
+    }
 
 -- ── every record ────────────────────────────────────────────────────────────────────────────
 
 module _ {cells rows nodes fields widths : List ℕ} (st : Standing cells rows nodes fields widths) (r : Results) (m k i : ℕ) where
   pub record-taken : (s : ℕ) (x : Record) → length rows < 2 ^ 64 → RecordOk (st .C) (lent cells rows nodes) (st .count) r m k i s x → Taken nodes x
   record-taken s (Kept old f g) h o = kept-taken st old (o .node) h
-  record-taken s (Columns old f) h o = old-small st old (o .node)
+  record-taken s (Columns old f) h o = tt
   record-taken s (Items row n f) h o = tt
   record-taken s Nothing h o = tt
 
   module _ (p q : Plan) where
     pub record-small : (s : ℕ) (x : Record) → RecordOk (st .C) (lent cells rows nodes) (st .count) r m k i s x →
-        Small (standsFor (st .C) (lent cells rows nodes) r s x p q)
+        Small (st .C .version) (standsFor (st .C) (lent cells rows nodes) r s x p q)
     record-small s (Kept old f g) o = kept-small st old (o .node) p q s
     record-small s (Columns old f) o = columns-small st old (o .node) p s
-    record-small s (Items row n f) o = items-small r o p
-    record-small s Nothing o = nothing-small
+    record-small s (Items row n f) o = items-small (st .C) r o p (versions.small (st .tables .version-is))
+    record-small s Nothing o = nothing-small (st .C .version) (versions.small (st .tables .version-is))
 
-    pub record-written : (t : RequiredIndices) (x : Record) → length rows < 2 ^ 64 → length (r .items) < 2 ^ 64 →
+    pub record-written : (v : Version) (t : RequiredIndices) (x : Record) → length rows < 2 ^ 64 → length fields < 2 ^ 64 → length (r .items) < 2 ^ 64 →
         RecordOk (st .C) (lent cells rows nodes) (st .count) r m k i (setOf t) x →
-        Written (standsFor (st .C) (lent cells rows nodes) r (setOf t) x p q)
-        (recordShape nodes widths x) (rowsOf rows fields (r .items) x) (cellsOf cells (r .cells) x) t
-    record-written t (Kept old f g) h j o = kept-written st old (o .node) p q t h o
-    record-written t (Columns old f) h j o = columns-written st old (o .node) p t (st .fields-long) o
-    record-written t (Items row n f) h j o = items-written r o p t j
-    record-written t Nothing h j o = nothing-written rows cells t
+        Written (versionOf v) (standsFor (st .C) (lent cells rows nodes) r (setOf t) x p q)
+        (recordShape v nodes widths x) (rowsOf rows fields (r .items) x) (cellsOf cells (r .cells) x) t
+    record-written v t (Kept old f g) h y j o = kept-written st old (o .node) p q v t h o
+    record-written v t (Columns old f) h y j o = columns-written st old (o .node) p v t y o
+    record-written v t (Items row n f) h y j o = items-written (st .C) r o p v t j
+    record-written v t Nothing h y j o = nothing-written v rows cells t

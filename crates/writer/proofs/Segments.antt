@@ -1,6 +1,6 @@
 -- A head from its number and its two segments: how long it is, and how it came about. Assumes nothing.
 use mathlib.Core.Path.{_≡_, refl, sym, _∙_}
-use mathlib.Core.List.{List, _++_, append-assoc}
+use mathlib.Core.List.{List, _∷_, _++_, append-assoc}
 use Prim.Native.Nat.{ℕ, _+_, _-_, _<_}
 use native.Mathlib.Omega.{arith}
 use lib.ListN.{length, take, drop, length-append}
@@ -20,6 +20,12 @@ module _ (k x : ℕ) (v w : List ℕ) where
       o₂ ≡ take a o₁ ++ (ys ++ drop (length o₁ - a) (drop a o₁)) → Wrote w (take (length o₂ - (a + m)) (drop (a + m) o₂)) n zs →
       Wrote (bytes k x ++ (v ++ w)) xs (a + m + n) (take (a + m) o₂ ++ (zs ++ drop (length o₂ - (a + m)) (drop (a + m) o₂)))
   three-wrote l u e t = so (part (rw (sym e) at (part (then start l) u)) t) (append-assoc (bytes k x) v w) refl
+
+-- a mark that something is there, and what was written after it
+pub after-mark : {xs o v ys : List ℕ} {a m : ℕ} → Laid 0 (bytes 1 1) 1 xs a o → Wrote v (take (length o - a) (drop a o)) m ys →
+    Wrote (1 ∷ v) xs (a + m) (take a o ++ (ys ++ drop (length o - a) (drop a o)))
+unfolding bytes
+after-mark l w = so (part (then start l) w) refl refl
 
 -- a join's type is a number below eight
 pub join-small : (t : JoinType) → joinNumber (joinIs t) < 8

@@ -1,6 +1,6 @@
 -- A node of few parts and few tags has a short head: so the bytes of a plan of few nodes can be counted. Assumes nothing.
 use mathlib.Core.Path.{_≡_, refl, ap}
-use mathlib.Core.Bool.{true, false}
+use mathlib.Core.Bool.{Bool, true, false}
 use mathlib.Core.List.{List, [], _∷_, _++_}
 use mathlib.Core.Option.{Option, none, some}
 use Prim.Native.Nat.{ℕ, _+_, _*_, _<_, _≤_}
@@ -8,21 +8,21 @@ use native.Mathlib.Omega.{arith}
 use lib.ListN.{length, length-append}
 use Rattle.cpl.specs.Bytes.{aggBytes, binaryBytes, bytes, callBytes, callNumber, columnsBytes, condBytes, countedBytes, exprBytes, fetchNumber, itemBytes, keyBytes, leafBytes, onBytes, pairBytes, unaryBytes, winBytes}
 use Rattle.cpl.specs.Codes.{unsigned}
-use Rattle.cpl.specs.Exprs.{aggExprs, aggTags, binaryTags, callExprs, condExprs, exprTags, itemTags, keyTags, onTags, unaryTags, winTags}
-use Rattle.cpl.specs.Limits.{maxItems}
+use Rattle.cpl.specs.Exprs.{aggExprs, aggTags, binaryTags, callExprs, condExprs, exprTags, itemTags, keyTags, leafTags, onTags, unaryTags, winTags}
+use Rattle.cpl.specs.Limits.{Version}
 use Rattle.cpl.specs.Plan.{Agg, Binary, Call, Catalogue, Expr, Item, Key, Leaf, On, Pair, Unary, Win, agg, aggregate, bare, bin, col, distinct, empty, filter, join, key, keyExpr, limit, lit, miss, named, on, over, projection, rows, scan, sort, subqueryAlias, un, union, win, window}
 use Rattle.cpl.specs.ReadPlan.{Head, h0, h1, h2}
 use Rattle.cpl.specs.Tests.{concatMap, sumOf}
-use Rattle.cpl.specs.Writable.{FitColumns, FitLeaf, FitList, FitUnary}
+use Rattle.cpl.specs.Writable.{FitBinary, FitColumns, FitLeaf, FitList, FitUnary}
 use Rattle.rules.specs.Mask.{Mask, select}
 use Rattle.required_indices.specs.Set.{setMask}
+use Rattle.versions.proofs.Small.{Small}
 use Rattle.result.specs.Result.{unaryPart}
 use Rattle.writer_parts.proofs.Over.{length-bytes}
 use Rattle.writer_parts.proofs.Rows.{a-pair-length}
-use Rattle.writer_parts.proofs.Lists.{list-length}
+use Rattle.writer_parts.proofs.Lists.{counted-length, list-length}
 use Rattle.tree.specs.Rows.{one}
 use Rattle.writer.specs.Shapes.{keptBytes, keptTags, leafKeeps, scanColumns}
-use Rattle.writer.proofs.Fit.{FitHead}
 use Rattle.writer.proofs.Heads.{iota-list}
 
 -- ── parts ───────────────────────────────────────────────────────────────────────────────────
@@ -74,15 +74,23 @@ cond-short (some e) = omega (arith, expr-short e)
 -- ── lists of parts ──────────────────────────────────────────────────────────────────────────
 
 module _ {A : Type 0} (f : A → List ℕ) (g : A → ℕ) where
-  tight : ((x : A) → length (f x) ≤ 10 * g x) → (xs : List A) → length (countedBytes f xs) ≤ 1 + 10 * sumOf g xs
-  unfolding countedBytes concatMap sumOf
-  tight h [] = omega arith
-  tight h (x ∷ xs) = omega (arith, h x, tight h xs, length-append (f x) (concatMap f xs))
+  all-tight : ((x : A) → length (f x) ≤ 10 * g x) → (xs : List A) → length (concatMap f xs) ≤ 10 * sumOf g xs
+  unfolding concatMap sumOf
+  all-tight h [] = omega arith
+  all-tight h (x ∷ xs) = omega (arith, h x, all-tight h xs, length-append (f x) (concatMap f xs))
 
-  loose : ((x : A) → length (f x) ≤ 7 + 10 * g x) → (xs : List A) → length (countedBytes f xs) ≤ 1 + (7 * length xs + 10 * sumOf g xs)
-  unfolding countedBytes concatMap sumOf
-  loose h [] = omega arith
-  loose h (x ∷ xs) = omega (arith, h x, loose h xs, length-append (f x) (concatMap f xs))
+  tight : (k : ℕ) → ((x : A) → length (f x) ≤ 10 * g x) → (xs : List A) → length (countedBytes k f xs) ≤ k + 10 * sumOf g xs
+  unfolding countedBytes
+  tight k h xs = omega (arith, all-tight h xs, counted-length k (length xs) (concatMap f xs))
+
+  all-loose : ((x : A) → length (f x) ≤ 7 + 10 * g x) → (xs : List A) → length (concatMap f xs) ≤ 7 * length xs + 10 * sumOf g xs
+  unfolding concatMap sumOf
+  all-loose h [] = omega arith
+  all-loose h (x ∷ xs) = omega (arith, h x, all-loose h xs, length-append (f x) (concatMap f xs))
+
+  loose : (k : ℕ) → ((x : A) → length (f x) ≤ 7 + 10 * g x) → (xs : List A) → length (countedBytes k f xs) ≤ k + (7 * length xs + 10 * sumOf g xs)
+  unfolding countedBytes
+  loose k h xs = omega (arith, all-loose h xs, counted-length k (length xs) (concatMap f xs))
 
 -- of a part of a list there is no more
 pub fewer : {A : Type 0} (m : Mask) (xs : List A) → length (select m xs) ≤ length xs
@@ -105,50 +113,42 @@ win-short (win c f ps ks) =
     omega (
       arith,
       a-pair-length c,
-      tight exprBytes exprTags (λ e. omega (arith, expr-short e)) ps,
-      tight keyBytes keyTags key-short ks,
+      tight exprBytes exprTags 1 (λ e. omega (arith, expr-short e)) ps,
+      tight keyBytes keyTags 1 key-short ks,
       call-short f,
-      length-append (pairBytes c) (callNumber f ∷ (countedBytes exprBytes ps ++ (countedBytes keyBytes ks ++ callBytes f))),
-      length-append (countedBytes exprBytes ps) (countedBytes keyBytes ks ++ callBytes f),
-      length-append (countedBytes keyBytes ks) (callBytes f),
+      length-append (pairBytes c) (callNumber f ∷ (countedBytes 1 exprBytes ps ++ (countedBytes 1 keyBytes ks ++ callBytes f))),
+      length-append (countedBytes 1 exprBytes ps) (countedBytes 1 keyBytes ks ++ callBytes f),
+      length-append (countedBytes 1 keyBytes ks) (callBytes f),
     )
 
 -- ── heads ───────────────────────────────────────────────────────────────────────────────────
 
 -- lists that the tags do not bound are short
 abbrev FewParts : Unary → Type 0
-FewParts (projection is) = length is ≤ maxItems
+FewParts (projection is) = length is ≤ 512
 FewParts (filter e) = Unit {0}
 FewParts (sort ks) = Unit {0}
 FewParts (limit s n) = Unit {0}
-FewParts (aggregate gs vs) = (length gs ≤ maxItems) × (length vs ≤ maxItems)
-FewParts (window ws) = length ws ≤ maxItems
+FewParts (aggregate gs vs) = (length gs ≤ 512) × (length vs ≤ 512)
+FewParts (window ws) = length ws ≤ 512
 FewParts (subqueryAlias q) = Unit {0}
 FewParts distinct = Unit {0}
 
-pub unary-short : (h : Unary) → FewParts h → length (unaryBytes h) ≤ 2000 + 10 * unaryTags h
-unfolding unaryBytes unaryTags
-unary-short (projection is) l = omega (arith, l, loose itemBytes itemTags item-short is)
-unary-short (filter e) l = omega (arith, expr-short e)
-unary-short (sort ks) l = omega (arith, tight keyBytes keyTags key-short ks)
-unary-short (limit s n) l = omega (arith, length-append (bytes 4 s) (bytes 4 (fetchNumber n)), length-bytes 4 s, length-bytes 4 (fetchNumber n))
-unary-short (aggregate gs vs) l =
-    omega (
-      arith,
-      l .0,
-      l .1,
-      loose itemBytes itemTags item-short gs,
-      loose aggBytes aggTags agg-short vs,
-      length-append (countedBytes itemBytes gs) (countedBytes aggBytes vs),
-    )
-unary-short (window ws) l = omega (arith, l, loose winBytes winTags win-short ws)
-unary-short (subqueryAlias q) l = omega (arith, length-bytes 2 q)
-unary-short distinct l = omega arith
+-- a head that can be written
+abbrev pub FitHead : Catalogue → Head → Type 0
+FitHead C (h0 h) = FitLeaf C h
+FitHead C (h1 h) = FitUnary (C .version) h
+FitHead C (h2 h) = FitBinary h
 
-binary-short : (h : Binary) → length (binaryBytes h) ≤ 2000 + 10 * binaryTags h
+abbrev pub ownTags : Head → ℕ
+ownTags (h0 h) = leafTags h
+ownTags (h1 h) = unaryTags h
+ownTags (h2 h) = binaryTags h
+
+binary-short : (h : Binary) → length (binaryBytes h) ≤ 8000 + 10 * binaryTags h
 unfolding binaryBytes binaryTags
 binary-short union = omega arith
-binary-short (join t os c) = omega (arith, tight onBytes onTags on-short os, cond-short c, length-append (countedBytes onBytes os) (condBytes c))
+binary-short (join t os c) = omega (arith, tight onBytes onTags 1 on-short os, cond-short c, length-append (countedBytes 1 onBytes os) (condBytes c))
 
 -- things without tags
 no-tags : {A : Type 0} (xs : List A) → sumOf (λ (x : A). 0) xs ≡ 0
@@ -156,31 +156,79 @@ unfolding sumOf
 no-tags [] = refl
 no-tags (x ∷ xs) = omega (arith, no-tags xs)
 
-numbers-short : (xs : List ℕ) → length xs ≤ maxItems → length (countedBytes (bytes 1) xs) ≤ 1000
-numbers-short xs l = omega (arith, l, loose (bytes 1) (λ x. 0) (λ x. omega (arith, length-bytes 1 x)) xs, no-tags xs)
+module _ (v : Version) (t : Small v) where
+  pub unary-short : (h : Unary) → FewParts h → length (unaryBytes v h) ≤ 8000 + 10 * unaryTags h
+  unfolding unaryBytes unaryTags
+  unary-short (projection is) l = omega (arith, t .wide-small, l, loose itemBytes itemTags (v .wide) item-short is)
+  unary-short (filter e) l = omega (arith, expr-short e)
+  unary-short (sort ks) l = omega (arith, tight keyBytes keyTags 1 key-short ks)
+  unary-short (limit s n) l = omega (arith, length-append (bytes 4 s) (bytes 4 (fetchNumber n)), length-bytes 4 s, length-bytes 4 (fetchNumber n))
+  unary-short (aggregate gs vs) l =
+      omega (
+        arith,
+        t .wide-small,
+        l .0,
+        l .1,
+        loose itemBytes itemTags (v .wide) item-short gs,
+        loose aggBytes aggTags (v .wide) agg-short vs,
+        length-append (countedBytes (v .wide) itemBytes gs) (countedBytes (v .wide) aggBytes vs),
+      )
+  unary-short (window ws) l = omega (arith, t .wide-small, l, loose winBytes winTags (v .wide) win-short ws)
+  unary-short (subqueryAlias q) l = omega (arith, length-bytes 2 q)
+  unary-short distinct l = omega arith
 
-pairs-short : (xs : List Pair) → length xs ≤ maxItems → length (countedBytes pairBytes xs) ≤ 1000
-pairs-short xs l = omega (arith, l, loose pairBytes (λ x. 0) (λ c. omega (arith, a-pair-length c)) xs, no-tags xs)
+  numbers-short : (xs : List ℕ) → length xs ≤ 512 → length (countedBytes (v .wide) (bytes (v .wide)) xs) ≤ 4000
+  numbers-short xs l =
+      omega (arith, t .wide-small, l, loose (bytes (v .wide)) (λ x. 0) (v .wide) (λ x. omega (arith, t .wide-small, length-bytes (v .wide) x)) xs, no-tags xs)
 
--- ── heads of which a set's part is kept ─────────────────────────────────────────────────────
+  pairs-short : (xs : List Pair) → length xs ≤ 512 → length (countedBytes (v .wide) pairBytes xs) ≤ 4000
+  pairs-short xs l = omega (arith, t .wide-small, l, loose pairBytes (λ x. 0) (v .wide) (λ c. omega (arith, a-pair-length c)) xs, no-tags xs)
 
-abbrev pub ownTags : Head → ℕ
-ownTags (h0 h) = 0
-ownTags (h1 h) = unaryTags h
-ownTags (h2 h) = binaryTags h
+  filters-short : (es : List Expr) → length (countedBytes (v .late) exprBytes es) ≤ 1 + 10 * sumOf exprTags es
+  filters-short es = omega (arith, t .late-small, tight exprBytes exprTags (v .late) (λ e. omega (arith, expr-short e)) es)
+
+  -- ── heads of which a set's part is kept ──
+  module _ (w s : ℕ) where
+    part-few : (h : Unary) → FitUnary v h → FewParts (unaryPart s h)
+    unfolding unaryPart FitUnary FitList
+    part-few (projection is) f = omega (arith, t .items-small, f .0)
+    part-few (filter e) f = tt
+    part-few (sort ks) f = tt
+    part-few (limit k n) f = tt
+    part-few (aggregate gs vs) f = (omega (arith, t .items-small, f .1 .0), omega (arith, t .items-small, f .2 .0, fewer (setMask (length vs) s) vs))
+    part-few (window ws) f = omega (arith, t .items-small, f .1 .0, fewer (setMask (length ws) s) ws)
+    part-few (subqueryAlias q) f = tt
+    part-few distinct f = tt
+
+    columns-few : (c : ℕ) (is : Option (List ℕ)) → w ≤ 512 → FitColumns v c is → length (scanColumns w is) ≤ 512
+    unfolding FitColumns FitList
+    columns-few c none l f = omega (arith, l, ap length (iota-list 0 w), list-length (λ i. i) one 0 w)
+    columns-few c (some is) l f = omega (arith, t .columns-small, f .0)
+
+    scan-short : (n q c : ℕ) (is : Option (List ℕ)) (es : List Expr) → w ≤ 512 → FitColumns v c is →
+        length (leafBytes v (leafKeeps w s (scan n q is es))) ≤ 8000 + 10 * leafTags (leafKeeps w s (scan n q is es))
+    unfolding leafBytes leafTags columnsBytes
+    scan-short n q c is es l f =
+        let xs = select (setMask (length (scanColumns w is)) s) (scanColumns w is) in
+        let m = fewer (setMask (length (scanColumns w is)) s) (scanColumns w is) in
+        let cs = countedBytes (v .wide) (bytes (v .wide)) xs in
+        let fs = countedBytes (v .late) exprBytes es in
+        omega (
+          arith,
+          numbers-short xs (omega (arith, m, columns-few c is l f)),
+          filters-short es,
+          length-append (bytes 1 n) (bytes 2 q ++ ((1 ∷ cs) ++ fs)),
+          length-append (bytes 2 q) ((1 ∷ cs) ++ fs),
+          length-append cs fs,
+          length-bytes 1 n,
+          length-bytes 2 q,
+        )
+
+    pairs-few : (b : Bool) (cs : List Pair) → length cs ≤ 512 → length (leafBytes v (empty b cs)) ≤ 8000 + 10 * leafTags (empty b cs)
+    unfolding leafBytes leafTags
+    pairs-few b cs l = omega (arith, pairs-short cs l)
 
 module _ (w s : ℕ) where
-  part-few : (h : Unary) → FitUnary h → FewParts (unaryPart s h)
-  unfolding unaryPart FitUnary FitList
-  part-few (projection is) f = f .0
-  part-few (filter e) f = tt
-  part-few (sort ks) f = tt
-  part-few (limit k n) f = tt
-  part-few (aggregate gs vs) f = (f .1 .0, omega (arith, f .2 .0, fewer (setMask (length vs) s) vs))
-  part-few (window ws) f = omega (arith, f .1 .0, fewer (setMask (length ws) s) ws)
-  part-few (subqueryAlias q) f = tt
-  part-few distinct f = tt
-
   part-tags : (h : Unary) → unaryTags (unaryPart s h) ≤ unaryTags h
   unfolding unaryPart unaryTags
   part-tags (projection is) = omega arith
@@ -192,32 +240,23 @@ module _ (w s : ℕ) where
   part-tags (subqueryAlias q) = omega arith
   part-tags distinct = omega arith
 
-  columns-few : (c : ℕ) (is : Option (List ℕ)) → w ≤ maxItems → FitColumns c is → length (scanColumns w is) ≤ maxItems
-  unfolding FitColumns FitList
-  columns-few c none l f = omega (arith, l, ap length (iota-list 0 w), list-length (λ i. i) one 0 w)
-  columns-few c (some is) l f = omega (arith, f .0)
-
-  leaf-short : (C : Catalogue) (h : Leaf) → w ≤ maxItems → FitLeaf C h → length (leafBytes (leafKeeps w s h)) ≤ 2000
-  unfolding leafBytes columnsBytes FitLeaf FitList
-  leaf-short C (scan t q is) l f =
-      let xs = select (setMask (length (scanColumns w is)) s) (scanColumns w is) in
-      let n = fewer (setMask (length (scanColumns w is)) s) (scanColumns w is) in
-      omega (
-        arith,
-        numbers-short xs (omega (arith, n, columns-few _ is l (f .2))),
-        length-append (bytes 1 t) (bytes 2 q ++ 1 ∷ countedBytes (bytes 1) xs),
-        length-append (bytes 2 q) (1 ∷ countedBytes (bytes 1) xs),
-        length-bytes 1 t,
-        length-bytes 2 q,
-      )
-  leaf-short C (empty b cs) l f = omega (arith, pairs-short cs (f .0))
-
-  pub kept-short : (C : Catalogue) (h : Head) → w ≤ maxItems → FitHead C h → length (keptBytes w s h) ≤ 2000 + 10 * keptTags w s h
-  kept-short C (h0 h) l f = omega (arith, leaf-short C h l f)
-  kept-short C (h1 h) l f = unary-short (unaryPart s h) (part-few h f)
-  kept-short C (h2 h) l f = binary-short h
+  leaf-tags : (h : Leaf) → leafTags (leafKeeps w s h) ≤ leafTags h
+  unfolding leafTags
+  leaf-tags (scan t q is es) = omega arith
+  leaf-tags (empty b cs) = omega arith
 
   pub kept-less : (h : Head) → keptTags w s h ≤ ownTags h
-  kept-less (h0 h) = omega arith
+  kept-less (h0 h) = leaf-tags h
   kept-less (h1 h) = part-tags h
   kept-less (h2 h) = omega arith
+
+  module _ (C : Catalogue) (o : Small (C .version)) (l : w ≤ 512) where
+    leaf-short : (h : Leaf) → FitLeaf C h → length (leafBytes (C .version) (leafKeeps w s h)) ≤ 8000 + 10 * leafTags (leafKeeps w s h)
+    unfolding FitLeaf FitList
+    leaf-short (scan t q is es) f = scan-short (C .version) o w s t q _ is es l (f .2)
+    leaf-short (empty b cs) f = pairs-few (C .version) o w s b cs (omega (arith, o .items-small, f .0))
+
+    pub kept-short : (h : Head) → FitHead C h → length (keptBytes (C .version) w s h) ≤ 8000 + 10 * keptTags w s h
+    kept-short (h0 h) f = leaf-short h f
+    kept-short (h1 h) f = unary-short (C .version) o (unaryPart s h) (part-few (C .version) o w s h f)
+    kept-short (h2 h) f = binary-short h

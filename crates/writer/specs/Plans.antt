@@ -2,17 +2,20 @@
 use mathlib.Core.Bool.{true, false}
 use mathlib.Core.List.{List}
 use mathlib.Core.Path.{_≡_}
-use Prim.Native.Nat.{ℕ, _*_, _^_, _<_, _≤_}
+use Prim.Native.Nat.{ℕ, _<_, _≤_}
 use Rattle.cpl.specs.Bytes.{binaryBytes, leafBytes, unaryBytes}
-use Rattle.cpl.specs.Exprs.{binaryTags, planNodes, unaryTags}
+use Rattle.cpl.specs.Exprs.{binaryTags, leafTags, planNodes, unaryTags}
 use Rattle.cpl.specs.Limits.{maxNodes}
+use Rattle.cpl.specs.Limits as limits
 use Rattle.cpl.specs.Plan.{Plan, binary, leaf, unary}
 use Rattle.tree.specs.Node.{NodeFits, nodeAt}
 use Rattle.tree.specs.Tree.{lent}
 use Rattle.tree.specs.declared.Node.{Node}
 use Rattle.tree.specs.declared.Node.the-variants.{Projection, Filter, Sort, Limit, Aggregate, Window, SubqueryAlias, Union, Distinct, Join, Scan, Empty}
-use Rattle.lookup.specs.Fields.{widthAt}
+use Rattle.lookup.specs.Fields.{firstAt, widthAt}
 use Rattle.lookup.specs.Standing.{Standing}
+use Rattle.versions.specs.Versions.{versionOf}
+use Rattle.versions.specs.declared.Version.{Version}
 use Rattle.result.specs.Result.{resultAt}
 use Rattle.result.specs.Records.{WfResults, recordAt, results}
 use Rattle.result.specs.declared.Record.{Record}
@@ -25,18 +28,18 @@ use Rattle.writer.specs.declared.Second.the-variants as seconds
 use Rattle.writer.specs.declared.Segment.the-variants.{Nothing}
 use Rattle.writer.specs.declared.Segment.the-variants as segments
 use Rattle.writer.specs.declared.Shape.{Shape}
-use Rattle.writer.specs.Shapes.{Sums, headShape, shapeOf}
+use Rattle.writer.specs.Shapes.{Sums, emptyShape, headShape, shapeOf}
 
 -- ── a plan's own node ───────────────────────────────────────────────────────────────────────
 
 -- a plan's bytes and tags without those of its inputs
-unfoldable pub planHead : Plan → List ℕ
-planHead (leaf h) = leafBytes h
-planHead (unary h p) = unaryBytes h
-planHead (binary h p q) = binaryBytes h
+unfoldable pub planHead : limits.Version → Plan → List ℕ
+planHead v (leaf h) = leafBytes v h
+planHead v (unary h p) = unaryBytes v h
+planHead v (binary h p q) = binaryBytes h
 
 unfoldable pub headTags : Plan → ℕ
-headTags (leaf h) = 0
+headTags (leaf h) = leafTags h
 headTags (unary h p) = unaryTags h
 headTags (binary h p q) = binaryTags h
 
@@ -45,16 +48,16 @@ headTags (binary h p q) = binaryTags h
 -- the node that a record keeps can be taken apart, and the rows that it starts at can be counted
 abbrev pub Taken : (nodes : List ℕ) → Record → Type 0
 Taken nodes (Kept old f g) = NodeFits nodes old × Sums (nodeAt nodes old)
-Taken nodes (Columns old f) = old * 128 < 2 ^ 64
+Taken nodes (Columns old f) = Unit {0}
 Taken nodes (Items row n f) = Unit {0}
 Taken nodes records.Nothing = Unit {0}
 
--- a kept node; a projection of an old node's fields at the set; a projection of items; the one-row Empty with no fields (bytes 12, 1, 0)
-abbrev pub recordShape : (nodes widths : List ℕ) → Record → Shape
-recordShape nodes widths (Kept old f g) = shapeOf (nodeAt nodes old) (widthAt widths old)
-recordShape nodes widths (Columns old f) = headShape 1 1 (segments.List Field (old * 128) (widthAt widths old) false) Nothing
-recordShape nodes widths (Items row n f) = headShape 1 1 (segments.List Item row n true) Nothing
-recordShape nodes widths records.Nothing = headShape 3 268 Nothing Nothing
+-- a kept node; a projection of an old node's fields at the set; a projection of items; the one-row Empty with no fields
+abbrev pub recordShape : Version → (nodes widths : List ℕ) → Record → Shape
+recordShape v nodes widths (Kept old f g) = shapeOf v (nodeAt nodes old) (widthAt widths old)
+recordShape v nodes widths (Columns old f) = headShape 1 1 (segments.List (v .wide) Field (firstAt widths old) (widthAt widths old) false) Nothing
+recordShape v nodes widths (Items row n f) = headShape 1 1 (segments.List (v .wide) Item row n true) Nothing
+recordShape v nodes widths records.Nothing = emptyShape v true 0 0
 
 -- the arrays that its parts stand in
 abbrev pub rowsOf : (rows fields items : List ℕ) → Record → List ℕ
@@ -98,9 +101,10 @@ inputsOf nodes records.Nothing = Leaf
 
 -- ── plans that code can write ───────────────────────────────────────────────────────────────
 
--- record i of a rewritten plan, of at most 256 nodes: the old plan's arrays, and the result's records, rows and cells
-pub record Writes (cells rows nodes fields widths records items icells : List ℕ) (i : ℕ) : Type 0 where
+-- record i of a rewritten plan, of at most 256 nodes: the old plan's arrays, and the result's records, rows and cells; all in the file's version
+pub record Writes (version : Version) (cells rows nodes fields widths records items icells : List ℕ) (i : ℕ) : Type 0 where
   pub standing : Standing cells rows nodes fields widths
+  pub version-is : standing .C .version ≡ versionOf version
   pub used : ℕ
   pub m : ℕ
   pub n : ℕ
@@ -109,13 +113,15 @@ pub record Writes (cells rows nodes fields widths records items icells : List �
   pub small : planNodes (resultAt (standing .C) (lent cells rows nodes) (results records items icells) i) ≤ maxNodes
 
 -- the plan of that record
-abbrev pub planOf : {cells rows nodes fields widths records items icells : List ℕ} {i : ℕ} → Writes cells rows nodes fields widths records items icells i → Plan
-planOf {cells} {rows} {nodes} {fields} {widths} {records} {items} {icells} {i} w =
+abbrev pub planOf : {version : Version} {cells rows nodes fields widths records items icells : List ℕ} {i : ℕ} →
+    Writes version cells rows nodes fields widths records items icells i → Plan
+planOf {version} {cells} {rows} {nodes} {fields} {widths} {records} {items} {icells} {i} w =
     resultAt (w .standing .C) (lent cells rows nodes) (results records items icells) i
 
--- a shape that is the head of such a record, whatever nodes and widths it was made from
+-- a shape that is the head of such a record, whatever version, nodes and widths it was made from
 pub record Shaped (shape : Shape) (cells rows fields records items icells : List ℕ) (i : ℕ) : Type 0 where
+  pub version : Version
   pub nodes : List ℕ
   pub widths : List ℕ
-  pub writes : Writes cells rows nodes fields widths records items icells i
-  pub shape-is : shape ≡ recordShape nodes widths (recordAt records i)
+  pub writes : Writes version cells rows nodes fields widths records items icells i
+  pub shape-is : shape ≡ recordShape version nodes widths (recordAt records i)

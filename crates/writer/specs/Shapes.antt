@@ -6,7 +6,8 @@ use Prim.Native.Nat.{ℕ, _+_, _*_, _%_, _^_, _<_}
 use lib.ListN.{length}
 use Rattle.cpl.specs.Bytes.{binaryBytes, bytes, exprBytes, leafBytes, unaryBytes}
 use Rattle.cpl.specs.Codes.{bit, joinNumber}
-use Rattle.cpl.specs.Exprs.{binaryTags, exprTags, unaryTags}
+use Rattle.cpl.specs.Limits as limits
+use Rattle.cpl.specs.Exprs.{binaryTags, exprTags, leafTags, unaryTags}
 use Rattle.cpl.specs.Plan.{Leaf, scan, empty}
 use Rattle.cpl.specs.ReadPlan.{Head, h0, h1, h2}
 use Rattle.cpl.specs.Tests.{iota}
@@ -20,7 +21,9 @@ use Rattle.tree.specs.declared.ScanNode.{ScanNode}
 use Rattle.tree.specs.declared.Node.{Node}
 use Rattle.tree.specs.declared.Node.the-variants.{Projection, Filter, Sort, Limit, Aggregate, Window, SubqueryAlias, Union, Distinct, Join, Scan, Empty}
 use Rattle.result.specs.Result.{unaryPart}
+use Rattle.versions.specs.declared.Version.{Version}
 use Rattle.writer_parts.specs.Lists.{PartsOk, WinsOk, countedList, listTags, takenCount, winsBytes, winsTags}
+use Rattle.writer_parts.specs.declared.Part.the-variants as parts
 use Rattle.writer_parts.specs.declared.Part.the-variants.{Agg, Column, Index, Item, Key, On, Pair}
 use Rattle.writer_parts.specs.declared.Which.{Which}
 use Rattle.writer.specs.declared.Segment.{Segment}
@@ -33,8 +36,8 @@ which b r = record { all = b; set = r }
 
 abbrev pub segBytes : Segment → (rows cells : List ℕ) → RequiredIndices → List ℕ
 segBytes Nothing s c r = []
-segBytes (the-variants.List p f n b) s c r = countedList p s c f n (which b r)
-segBytes (Wins f n) s c r = takenCount (which false r) n ∷ winsBytes s c f n (which false r)
+segBytes (the-variants.List k p f n b) s c r = countedList k p s c f n (which b r)
+segBytes (Wins k f n) s c r = bytes k (takenCount (which false r) n) ++ winsBytes s c f n (which false r)
 segBytes (Expr x) s c r = exprBytes (exprAt c x)
 segBytes (Present x) s c r = 1 ∷ exprBytes (exprAt c x)
 segBytes Absent s c r = 0 ∷ []
@@ -42,18 +45,18 @@ segBytes (Word x) s c r = bytes 4 x
 
 abbrev pub segTags : Segment → (rows cells : List ℕ) → RequiredIndices → ℕ
 segTags Nothing s c r = 0
-segTags (the-variants.List p f n b) s c r = listTags p s c f n (which b r)
-segTags (Wins f n) s c r = winsTags s c f n (which false r)
+segTags (the-variants.List k p f n b) s c r = listTags p s c f n (which b r)
+segTags (Wins k f n) s c r = winsTags s c f n (which false r)
 segTags (Expr x) s c r = exprTags (exprAt c x)
 segTags (Present x) s c r = exprTags (exprAt c x)
 segTags Absent s c r = 0
 segTags (Word x) s c r = 0
 
--- its rows lie in the array, and its count can be written as a byte
+-- its rows lie in the array
 abbrev pub SegOk : Segment → (rows cells : List ℕ) → RequiredIndices → Type 0
 SegOk Nothing s c r = Unit {0}
-SegOk (the-variants.List p f n b) s c r = PartsOk p s c f n × (takenCount (which b r) n < 256)
-SegOk (Wins f n) s c r = WinsOk s c f n × (takenCount (which false r) n < 256)
+SegOk (the-variants.List k p f n b) s c r = PartsOk p s c f n
+SegOk (Wins k f n) s c r = WinsOk s c f n
 SegOk (Expr x) s c r = Wf c (x + 1)
 SegOk (Present x) s c r = Wf c (x + 1)
 SegOk Absent s c r = Unit {0}
@@ -77,16 +80,16 @@ scanColumns width none = iota 0 width
 scanColumns width (some is) = is
 
 abbrev pub leafKeeps : (width set : ℕ) → Leaf → Leaf
-leafKeeps width s (scan t q is) = scan t q (some (select (setMask (length (scanColumns width is)) s) (scanColumns width is)))
+leafKeeps width s (scan t q is es) = scan t q (some (select (setMask (length (scanColumns width is)) s) (scanColumns width is))) es
 leafKeeps width s (empty b cs) = empty b cs
 
-abbrev pub keptBytes : (width set : ℕ) → Head → List ℕ
-keptBytes width s (h0 h) = leafBytes (leafKeeps width s h)
-keptBytes width s (h1 h) = unaryBytes (unaryPart s h)
-keptBytes width s (h2 h) = binaryBytes h
+abbrev pub keptBytes : limits.Version → (width set : ℕ) → Head → List ℕ
+keptBytes v width s (h0 h) = leafBytes v (leafKeeps width s h)
+keptBytes v width s (h1 h) = unaryBytes v (unaryPart s h)
+keptBytes v width s (h2 h) = binaryBytes h
 
 abbrev pub keptTags : (width set : ℕ) → Head → ℕ
-keptTags width s (h0 h) = 0
+keptTags width s (h0 h) = leafTags (leafKeeps width s h)
 keptTags width s (h1 h) = unaryTags (unaryPart s h)
 keptTags width s (h2 h) = binaryTags h
 
@@ -100,33 +103,36 @@ condSegment true x = Present x
 condSegment false x = Absent
 
 abbrev pub joinShape : JoinNode → Shape
-joinShape j = headShape 2 (joinNumber (joinIs (j .«join_type»)) * 256 + 10) (the-variants.List On (j .first) (j .n) true) (condSegment (j .«has_filter») (j .filter))
+joinShape j = headShape 2 (joinNumber (joinIs (j .«join_type»)) * 256 + 10) (the-variants.List 1 On (j .first) (j .n) true) (condSegment (j .«has_filter») (j .filter))
 
-abbrev pub columnSegment : Bool → (first n width : ℕ) → Segment
-columnSegment true f n w = the-variants.List Column f n false
-columnSegment false f n w = the-variants.List Index 0 w false
+abbrev pub columnSegment : Version → Bool → (first n width : ℕ) → Segment
+columnSegment v true f n w = the-variants.List (v .wide) (Column (v .wide)) f n false
+columnSegment v false f n w = the-variants.List (v .wide) (Index (v .wide)) 0 w false
 
-abbrev pub scanShape : ScanNode → (width : ℕ) → Shape
-scanShape s w = headShape 5 (4294967296 + s .qualifier * 65536 + (s .table % 256) * 256 + 11) (columnSegment (s .given) (s .first) (s .n) w) Nothing
+-- the filters stand behind the columns
+abbrev pub scanShape : Version → ScanNode → (width : ℕ) → Shape
+scanShape v s w =
+    headShape 5 (4294967296 + s .qualifier * 65536 + (s .table % 256) * 256 + 11) (columnSegment v (s .given) (s .first) (s .n) w)
+    (the-variants.List (v .late) parts.Expr (s .first + s .n) (s .filters) true)
 
-abbrev pub emptyShape : Bool → (first n : ℕ) → Shape
-emptyShape b f n = headShape 2 (bit b * 256 + 12) (the-variants.List Pair f n true) Nothing
+abbrev pub emptyShape : Version → Bool → (first n : ℕ) → Shape
+emptyShape v b f n = headShape 2 (bit b * 256 + 12) (the-variants.List (v .wide) Pair f n true) Nothing
 
-abbrev pub shapeOf : Node → (width : ℕ) → Shape
-shapeOf (Projection f n) w = headShape 1 1 (the-variants.List Item f n true) Nothing
-shapeOf (Filter r) w = headShape 1 2 (Expr r) Nothing
-shapeOf (Sort f n) w = headShape 1 3 (the-variants.List Key f n true) Nothing
-shapeOf (Limit s n) w = headShape 5 (s * 256 + 4) (Word n) Nothing
-shapeOf (Aggregate f g v) w = headShape 1 5 (the-variants.List Item f g true) (the-variants.List Agg (f + g) v false)
-shapeOf (Window f n) w = headShape 1 6 (Wins f n) Nothing
-shapeOf (SubqueryAlias q) w = headShape 3 (q * 256 + 7) Nothing Nothing
-shapeOf (Union r) w = headShape 1 8 Nothing Nothing
-shapeOf Distinct w = headShape 1 9 Nothing Nothing
-shapeOf (Join j) w = joinShape j
-shapeOf (Scan s) w = scanShape s w
-shapeOf (Empty b f n) w = emptyShape b f n
+abbrev pub shapeOf : Version → Node → (width : ℕ) → Shape
+shapeOf v (Projection f n) w = headShape 1 1 (the-variants.List (v .wide) Item f n true) Nothing
+shapeOf v (Filter r) w = headShape 1 2 (Expr r) Nothing
+shapeOf v (Sort f n) w = headShape 1 3 (the-variants.List 1 Key f n true) Nothing
+shapeOf v (Limit s n) w = headShape 5 (s * 256 + 4) (Word n) Nothing
+shapeOf v (Aggregate f g m) w = headShape 1 5 (the-variants.List (v .wide) Item f g true) (the-variants.List (v .wide) Agg (f + g) m false)
+shapeOf v (Window f n) w = headShape 1 6 (Wins (v .wide) f n) Nothing
+shapeOf v (SubqueryAlias q) w = headShape 3 (q * 256 + 7) Nothing Nothing
+shapeOf v (Union r) w = headShape 1 8 Nothing Nothing
+shapeOf v Distinct w = headShape 1 9 Nothing Nothing
+shapeOf v (Join j) w = joinShape j
+shapeOf v (Scan s) w = scanShape v s w
+shapeOf v (Empty b f n) w = emptyShape v b f n
 
--- the first row of an Aggregate's aggregates can be counted
+-- the first row of an Aggregate's aggregates, and that of a Scan's filters, can be counted
 abbrev pub Sums : Node → Type 0
 Sums (Projection f n) = Unit {0}
 Sums (Filter r) = Unit {0}
@@ -138,5 +144,5 @@ Sums (SubqueryAlias q) = Unit {0}
 Sums (Union r) = Unit {0}
 Sums Distinct = Unit {0}
 Sums (Join j) = Unit {0}
-Sums (Scan s) = Unit {0}
+Sums (Scan s) = s .first + s .n < 2 ^ 64
 Sums (Empty b f n) = Unit {0}

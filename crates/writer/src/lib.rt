@@ -5,6 +5,7 @@ use tree::JoinNode;
 use tree::JoinType;
 use tree::Node;
 use tree::ScanNode;
+use versions::Version;
 use writer_parts::Part;
 use writer_parts::Size;
 use writer_parts::Which;
@@ -19,21 +20,24 @@ ghost use Rattle.cpl.specs.Exprs.{planTags};
 ghost use Rattle.result.specs.Records.{recordAt};
 ghost use Rattle.result.specs.Result.{recordN};
 ghost use Rattle.tree.specs.Node.{joinIs};
+ghost use Rattle.versions.specs.Versions.{versionOf};
 ghost use Rattle.writer_parts.specs.Wrote.{Countable, Counts, Wrote};
 ghost use Rattle.writer.specs.Plans.{headTags, inputsOf, nodeInputs, oneInput, planHead, planOf, recordShape, Shaped, Taken, twoInputs, Writes};
 ghost use Rattle.writer.specs.Shapes.{emptyShape, headShape, joinShape, scanShape, segBytes, SegOk, segTags, shapeBytes, shapeOf, ShapeOk, shapeTags, Sums};
 
-/// A part of a node's head that is no number of a known width: a list with its count byte, all of it or at the set; windows at the set;
-/// an expression; a condition that is there, or not; a number of four bytes.
+/// A part of a node's head that is no number of a known width: a list behind its count of `count` bytes, all of it or at the set; windows at
+/// the set; an expression; a condition that is there, or not; a number of four bytes.
 pub enum Segment {
     Nothing,
     List {
+        count: usize,
         part: Part,
         first: usize,
         n: usize,
         all: bool,
     },
     Wins {
+        count: usize,
         first: usize,
         n: usize,
     },
@@ -94,12 +98,7 @@ fn plain(k: usize, x: u64, first: Segment) -> Shape
 fn join_shape(j: JoinNode) -> Shape
     ensures { λ r. ⌜ r ≡ joinShape j ⌝ }
 {
-    let first = Segment::List {
-        part: Part::On,
-        first: j.first,
-        n: j.n,
-        all: true,
-    };
+    let first = all_of(1, Part::On, j.first, j.n);
     let kind = j.join_type;
     let x = join_number(kind) * 256 + 10;
     if j.has_filter {
@@ -118,45 +117,49 @@ fn join_shape(j: JoinNode) -> Shape
     }
 }
 
-// A Scan: its table, its qualifier, those of its columns that the set has.
-fn scan_shape(s: ScanNode, width: usize) -> Shape
-    ensures { λ r. ⌜ r ≡ scanShape s width ⌝ }
+// A Scan: its table, its qualifier, those of its columns that the set has, its filters.
+fn scan_shape(s: ScanNode, width: usize, version: Version) -> Shape
+    requires { ⌜ s .first + s .n < 2 ^ 64 ⌝ }
+    ensures { λ r. ⌜ r ≡ scanShape version s width ⌝ }
 {
     let x = 4294967296 + wide16(s.qualifier) * 65536 + ((s.table % 256) as u64) * 256 + 11;
+    let behind = s.first + s.n;
+    let second = all_of(version.late, Part::Expr, behind, s.filters);
     if s.given {
-        return plain(
-            5,
-            x,
-            Segment::List {
-                part: Part::Column,
-                first: s.first,
-                n: s.n,
-                all: false,
-            },
-        );
-    }
-    plain(
-        5,
-        x,
-        Segment::List {
-            part: Part::Index,
-            first: 0,
-            n: width,
+        let first = Segment::List {
+            count: version.wide,
+            part: Part::Column(version.wide),
+            first: s.first,
+            n: s.n,
             all: false,
-        },
-    )
+        };
+        return Shape {
+            k: 5,
+            x,
+            first,
+            second,
+        };
+    }
+    let first = Segment::List {
+        count: version.wide,
+        part: Part::Index(version.wide),
+        first: 0,
+        n: width,
+        all: false,
+    };
+    Shape {
+        k: 5,
+        x,
+        first,
+        second,
+    }
 }
 
 // An Empty: whether it has a row, its fields.
-fn empty_shape(one_row: bool, first: usize, n: usize) -> Shape
-    ensures { λ r. ⌜ r ≡ emptyShape «one_row» first n ⌝ }
+fn empty_shape(one_row: bool, first: usize, n: usize, version: Version) -> Shape
+    ensures { λ r. ⌜ r ≡ emptyShape version «one_row» first n ⌝ }
 {
-    let list = Segment::List {
-        part: Part::Pair,
-        first,
-        n,
-        all: true,
-    };
+    let list = all_of(version.wide, Part::Pair, first, n);
     if one_row {
         return plain(2, 268, list);
     }
@@ -165,47 +168,60 @@ fn empty_shape(one_row: bool, first: usize, n: usize) -> Shape
 
 /// A node's head, of which the set's part of its list is kept. A scan that names no columns has `width` of them. Kinds are told apart here
 /// and nowhere else.
-pub fn shape_of(node: Node, width: usize) -> Shape
+pub fn shape_of(node: Node, width: usize, version: Version) -> Shape
     requires { ⌜ Sums node ⌝ }
-    ensures { λ r. ⌜ r ≡ shapeOf node width ⌝ }
+    ensures { λ r. ⌜ r ≡ shapeOf version node width ⌝ }
 {
     match node {
-        Node::Projection { first, n } => plain(1, 1, all_of(Part::Item, first, n)),
+        Node::Projection { first, n } => plain(1, 1, all_of(version.wide, Part::Item, first, n)),
         Node::Filter { root } => plain(1, 2, Segment::Expr(root)),
-        Node::Sort { first, n } => plain(1, 3, all_of(Part::Key, first, n)),
+        Node::Sort { first, n } => plain(1, 3, all_of(1, Part::Key, first, n)),
         Node::Limit { skip, fetch } => plain(5, wide(skip) * 256 + 4, Segment::Word(wide(fetch))),
         Node::Aggregate {
             first,
             groups,
             aggregates,
-        } => Shape {
-            k: 1,
-            x: 5,
-            first: all_of(Part::Item, first, groups),
-            second: Segment::List {
-                part: Part::Agg,
-                first: first + groups,
-                n: aggregates,
-                all: false,
+        } => {
+            let behind = first + groups;
+            Shape {
+                k: 1,
+                x: 5,
+                first: all_of(version.wide, Part::Item, first, groups),
+                second: Segment::List {
+                    count: version.wide,
+                    part: Part::Agg,
+                    first: behind,
+                    n: aggregates,
+                    all: false,
+                },
+            }
+        }
+        Node::Window { first, n } => plain(
+            1,
+            6,
+            Segment::Wins {
+                count: version.wide,
+                first,
+                n,
             },
-        },
-        Node::Window { first, n } => plain(1, 6, Segment::Wins { first, n }),
+        ),
         Node::SubqueryAlias { qualifier } => {
             plain(3, wide16(qualifier) * 256 + 7, Segment::Nothing)
         }
         Node::Union { right: _ } => plain(1, 8, Segment::Nothing),
         Node::Distinct => plain(1, 9, Segment::Nothing),
         Node::Join(j) => join_shape(j),
-        Node::Scan(s) => scan_shape(s, width),
-        Node::Empty { one_row, first, n } => empty_shape(one_row, first, n),
+        Node::Scan(s) => scan_shape(s, width, version),
+        Node::Empty { one_row, first, n } => empty_shape(one_row, first, n, version),
     }
 }
 
 // All rows of a list.
-fn all_of(part: Part, first: usize, n: usize) -> Segment
-    ensures { λ r. ⌜ r ≡ Segment.List part first n true ⌝ }
+fn all_of(count: usize, part: Part, first: usize, n: usize) -> Segment
+    ensures { λ r. ⌜ r ≡ Segment.List count part first n true ⌝ }
 {
     Segment::List {
+        count,
         part,
         first,
         n,
@@ -228,13 +244,23 @@ pub fn write_segment(
     match segment {
         Segment::Nothing => 0,
         Segment::List {
+            count,
             part,
             first,
             n,
             all,
-        } => writer_parts::write_counted(part, rows, cells, first, n, Which { all, set }, out),
-        Segment::Wins { first, n } => {
-            let a = writer_parts::put_at(out, 0, 1, set.len() as u64);
+        } => writer_parts::write_counted(
+            count,
+            part,
+            rows,
+            cells,
+            first,
+            n,
+            Which { all, set },
+            out,
+        ),
+        Segment::Wins { count, first, n } => {
+            let a = writer_parts::put_at(out, 0, count, set.len() as u64);
             let m = writer_parts::write_wins(
                 rows,
                 cells,
@@ -265,13 +291,17 @@ pub fn segment_size(segment: Segment, rows: &[u16], cells: &[u64], set: Required
     match segment {
         Segment::Nothing => Size { bytes: 0, tags: 0 },
         Segment::List {
+            count,
             part,
             first,
             n,
             all,
-        } => writer_parts::counted_size(part, rows, cells, first, n, Which { all, set }),
-        Segment::Wins { first, n } => writer_parts::both(
-            one,
+        } => writer_parts::counted_size(count, part, rows, cells, first, n, Which { all, set }),
+        Segment::Wins { count, first, n } => writer_parts::both(
+            Size {
+                bytes: count,
+                tags: 0,
+            },
             writer_parts::wins_size(rows, cells, first, n, Which { all: false, set }),
         ),
         Segment::Expr(root) => writer_parts::expr_size(cells, root),
@@ -333,10 +363,10 @@ enum Inputs {
 }
 
 // The head of record `i`: of the node that it keeps, the columns of an old node's fields, items, the one-row Empty with no fields.
-fn shape_at(nodes: &[u64], widths: &[u64], records: &[u64], i: usize) -> Shape
+fn shape_at(version: Version, nodes: &[u64], widths: &[u64], records: &[u64], i: usize) -> Shape
     requires { ⌜ i * recordN + recordN ≤ length (now records) ⌝ }
     requires { ⌜ Taken (now nodes) (recordAt (now records) i) ⌝ }
-    ensures { λ r. ⌜ r ≡ recordShape (now (nodes .entry)) (now (widths .entry)) (recordAt (now (records .entry)) i) ⌝ }
+    ensures { λ r. ⌜ r ≡ recordShape version (now (nodes .entry)) (now (widths .entry)) (recordAt (now (records .entry)) i) ⌝ }
 {
     let form = result::record_at(records, i);
     match form {
@@ -344,13 +374,18 @@ fn shape_at(nodes: &[u64], widths: &[u64], records: &[u64], i: usize) -> Shape
             old,
             first: _,
             second: _,
-        } => shape_of(tree::node_at(nodes, old), lookup::width_at(widths, old)),
+        } => shape_of(
+            tree::node_at(nodes, old),
+            lookup::width_at(widths, old),
+            version,
+        ),
         Record::Columns { old, first: _ } => plain(
             1,
             1,
             Segment::List {
+                count: version.wide,
                 part: Part::Field,
-                first: old * 128,
+                first: lookup::first_at(widths, old),
                 n: lookup::width_at(widths, old),
                 all: false,
             },
@@ -359,8 +394,8 @@ fn shape_at(nodes: &[u64], widths: &[u64], records: &[u64], i: usize) -> Shape
             row,
             count,
             first: _,
-        } => plain(1, 1, all_of(Part::Item, row, count)),
-        Record::Nothing => plain(3, 268, Segment::Nothing),
+        } => plain(1, 1, all_of(version.wide, Part::Item, row, count)),
+        Record::Nothing => empty_shape(true, 0, 0, version),
     }
 }
 
@@ -445,10 +480,10 @@ fn write_head(
     out: &mut [u8],
 ) -> usize
     requires { ⌜ ((s : Shaped shape (now cells) (now rows) (now fields) (now records) (now items) (now icells) i)
-        × (length (planHead (planOf (s .writes))) ≤ length (now out))) ⌝ }
+        × (length (planHead (versionOf (s .version)) (planOf (s .writes))) ≤ length (now out))) ⌝ }
     ensures { λ r. ⌜ ((s : Shaped shape (now (cells .entry)) (now (rows .entry)) (now (fields .entry)) (now (records .entry)) (now (items .entry))
         (now (icells .entry)) i)
-        → Wrote (planHead (planOf (s .writes))) (now (out .entry)) r (now (out .exit))) ⌝ }
+        → Wrote (planHead (versionOf (s .version)) (planOf (s .writes))) (now (out .entry)) r (now (out .exit))) ⌝ }
 {
     let set = result::set_at(records, i);
     let form = result::record_at(records, i);
@@ -481,7 +516,7 @@ fn head_size(
     requires { ⌜ Shaped shape (now cells) (now rows) (now fields) (now records) (now items) (now icells) i ⌝ }
     ensures { λ r. ⌜ ((s : Shaped shape (now (cells .entry)) (now (rows .entry)) (now (fields .entry)) (now (records .entry)) (now (items .entry))
         (now (icells .entry)) i)
-        → Counts (length (planHead (planOf (s .writes)))) (headTags (planOf (s .writes))) r) ⌝ }
+        → Counts (length (planHead (versionOf (s .version)) (planOf (s .writes)))) (headTags (planOf (s .writes))) r) ⌝ }
 {
     let set = result::set_at(records, i);
     let form = result::record_at(records, i);
@@ -503,6 +538,7 @@ fn head_size(
 
 /// What the plan of record `i` takes: its head, and the plans of its inputs.
 pub fn node_size(
+    version: Version,
     cells: &[u64],
     rows: &[u16],
     nodes: &[u64],
@@ -513,18 +549,19 @@ pub fn node_size(
     icells: &[u64],
     i: usize,
 ) -> Size
-    requires { ⌜ Writes (now cells) (now rows) (now nodes) (now fields) (now widths) (now records) (now items) (now icells) i ⌝ }
-    ensures { λ r. ⌜ ((w : Writes (now (cells .entry)) (now (rows .entry)) (now (nodes .entry)) (now (fields .entry)) (now (widths .entry))
+    requires { ⌜ Writes version (now cells) (now rows) (now nodes) (now fields) (now widths) (now records) (now items) (now icells) i ⌝ }
+    ensures { λ r. ⌜ ((w : Writes version (now (cells .entry)) (now (rows .entry)) (now (nodes .entry)) (now (fields .entry)) (now (widths .entry))
         (now (records .entry)) (now (items .entry)) (now (icells .entry)) i)
-        → Counts (length (planBytes (planOf w))) (planTags (planOf w)) r) ⌝ }
+        → Counts (length (planBytes (versionOf version) (planOf w))) (planTags (planOf w)) r) ⌝ }
 {
-    let shape = shape_at(nodes, widths, records, i);
+    let shape = shape_at(version, nodes, widths, records, i);
     let head = head_size(shape, cells, rows, fields, records, items, icells, i);
     let inputs = kids(nodes, records, i);
     let Inputs::Over { first, second } = inputs else {
         return head;
     };
     let a = node_size(
+        version,
         cells,
         rows,
         nodes,
@@ -540,6 +577,7 @@ pub fn node_size(
         return sum;
     };
     let b = node_size(
+        version,
         cells,
         rows,
         nodes,
@@ -555,6 +593,7 @@ pub fn node_size(
 
 /// The bytes of the plan of record `i` at the start of out; their number. The head is written, and each input is lent the rest.
 pub fn write_node(
+    version: Version,
     cells: &[u64],
     rows: &[u16],
     nodes: &[u64],
@@ -566,19 +605,20 @@ pub fn write_node(
     i: usize,
     out: &mut [u8],
 ) -> usize
-    requires { ⌜ ((w : Writes (now cells) (now rows) (now nodes) (now fields) (now widths) (now records) (now items) (now icells) i)
-        × (length (planBytes (planOf w)) ≤ length (now out))) ⌝ }
-    ensures { λ r. ⌜ ((w : Writes (now (cells .entry)) (now (rows .entry)) (now (nodes .entry)) (now (fields .entry)) (now (widths .entry))
+    requires { ⌜ ((w : Writes version (now cells) (now rows) (now nodes) (now fields) (now widths) (now records) (now items) (now icells) i)
+        × (length (planBytes (versionOf version) (planOf w)) ≤ length (now out))) ⌝ }
+    ensures { λ r. ⌜ ((w : Writes version (now (cells .entry)) (now (rows .entry)) (now (nodes .entry)) (now (fields .entry)) (now (widths .entry))
         (now (records .entry)) (now (items .entry)) (now (icells .entry)) i)
-        → Wrote (planBytes (planOf w)) (now (out .entry)) r (now (out .exit))) ⌝ }
+        → Wrote (planBytes (versionOf version) (planOf w)) (now (out .entry)) r (now (out .exit))) ⌝ }
 {
-    let shape = shape_at(nodes, widths, records, i);
+    let shape = shape_at(version, nodes, widths, records, i);
     let a = write_head(shape, cells, rows, fields, records, items, icells, i, out);
     let inputs = kids(nodes, records, i);
     let Inputs::Over { first, second } = inputs else {
         return a;
     };
     let m = write_node(
+        version,
         cells,
         rows,
         nodes,
@@ -595,6 +635,7 @@ pub fn write_node(
         return b;
     };
     let n = write_node(
+        version,
         cells,
         rows,
         nodes,
@@ -611,6 +652,7 @@ pub fn write_node(
 
 /// A plan file: the first `start` bytes of `file`, its mark and tables, and behind them the plan of record `i`.
 pub fn write_plan(
+    version: Version,
     file: &[u8],
     start: usize,
     cells: &[u64],
@@ -625,14 +667,15 @@ pub fn write_plan(
     out: &mut [u8],
 ) -> usize
     requires { ⌜ start ≤ length (now file) ⌝ }
-    requires { ⌜ ((w : Writes (now cells) (now rows) (now nodes) (now fields) (now widths) (now records) (now items) (now icells) i)
-        × (start + length (planBytes (planOf w)) ≤ length (now out))) ⌝ }
-    ensures { λ r. ⌜ ((w : Writes (now (cells .entry)) (now (rows .entry)) (now (nodes .entry)) (now (fields .entry)) (now (widths .entry))
+    requires { ⌜ ((w : Writes version (now cells) (now rows) (now nodes) (now fields) (now widths) (now records) (now items) (now icells) i)
+        × (start + length (planBytes (versionOf version) (planOf w)) ≤ length (now out))) ⌝ }
+    ensures { λ r. ⌜ ((w : Writes version (now (cells .entry)) (now (rows .entry)) (now (nodes .entry)) (now (fields .entry)) (now (widths .entry))
         (now (records .entry)) (now (items .entry)) (now (icells .entry)) i)
-        → Wrote (take start (now (file .entry)) ++ planBytes (planOf w)) (now (out .entry)) r (now (out .exit))) ⌝ }
+        → Wrote (take start (now (file .entry)) ++ planBytes (versionOf version) (planOf w)) (now (out .entry)) r (now (out .exit))) ⌝ }
 {
     let at = bytes::copy(&file[..start], out);
     let plan = write_node(
+        version,
         cells,
         rows,
         nodes,

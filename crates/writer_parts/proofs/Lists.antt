@@ -24,8 +24,7 @@ use Rattle.writer_parts.specs.Parts.{PartOk}
 use Rattle.writer_parts.specs.declared.Part.{Part}
 use Rattle.writer_parts.specs.declared.Size.{Size}
 use Rattle.writer_parts.specs.declared.Which.{Which}
-use Rattle.writer_parts.proofs.Over.{part, so, start, then}
-use Rattle.writer_parts.proofs.Exprs.{byte}
+use Rattle.writer_parts.proofs.Over.{length-bytes, part, so, start, then}
 
 -- ── what is taken ───────────────────────────────────────────────────────────────────────────
 
@@ -245,31 +244,35 @@ module _ (w : Which) where
 pub set-count : {A : Type 0} (n s : ℕ) (xs : List A) → length xs ≡ n → s < 2 ^ n → length (select (setMask n s) xs) ≡ ones s
 set-count n s xs e h = length-select (length-Fit (setMask n s) xs (mask-length n s ∙ sym e)) ∙ mask-count n s h
 
--- a list with its count byte: all of it, and the things of a set
-module _ (w : Which) {A : Type 0} (f : A → List ℕ) (g : A → ℕ) (read : ℕ → A) (size : ℕ → ℕ) (first n : ℕ) where
-  pub counted-all : w .all ≡ true → countedBytes f (listAt read size first n) ≡ takenCount w n ∷ chosen (λ i. f (read (rowFrom size first i))) (takes w) 0 n
+-- a list with its count in k bytes: all of it, and the things of a set
+module _ (k : ℕ) (w : Which) {A : Type 0} (f : A → List ℕ) (g : A → ℕ) (read : ℕ → A) (size : ℕ → ℕ) (first n : ℕ) where
+  pub counted-all : w .all ≡ true → countedBytes k f (listAt read size first n) ≡ bytes k (takenCount w n) ++ chosen (λ i. f (read (rowFrom size first i))) (takes w) 0 n
   unfolding countedBytes
-  counted-all e = ap₂ _∷_ (list-length read size first n ∙ rw e) (all-bytes w f g read size first n e)
+  counted-all e = ap₂ (λ (x : ℕ) (y : List ℕ). bytes k x ++ y) (list-length read size first n ∙ rw e) (all-bytes w f g read size first n e)
 
   pub counted-set : w .all ≡ false → setOf (w .set) < 2 ^ n →
-      countedBytes f (select (setMask n (setOf (w .set))) (listAt read size first n)) ≡ takenCount w n ∷ chosen (λ i. f (read (rowFrom size first i))) (takes w) 0 n
+      countedBytes k f (select (setMask n (setOf (w .set))) (listAt read size first n)) ≡ bytes k (takenCount w n) ++ chosen (λ i. f (read (rowFrom size first i))) (takes w) 0 n
   unfolding countedBytes
   counted-set e h =
-      ap₂ _∷_ (set-count n (setOf (w .set)) (listAt read size first n) (list-length read size first n) h ∙ rw e) (set-bytes w f g read size first n e)
+      ap₂ (λ (x : ℕ) (y : List ℕ). bytes k x ++ y)
+      (set-count n (setOf (w .set)) (listAt read size first n) (list-length read size first n) h ∙ rw e) (set-bytes w f g read size first n e)
 
-module _ (w : Which) {A : Type 0} (f : A → List ℕ) (g : A → ℕ) (read : ℕ → A) (first n : ℕ) where
-  pub counted-all-rows : w .all ≡ true → countedBytes f (listAt read one first n) ≡ takenCount w n ∷ chosen (λ i. f (read (first + i))) (takes w) 0 n
-  counted-all-rows e = counted-all w f g read one first n e ∙ ap (λ (x : List ℕ). takenCount w n ∷ x) (by-row w f g read first n)
+module _ (k : ℕ) (w : Which) {A : Type 0} (f : A → List ℕ) (g : A → ℕ) (read : ℕ → A) (first n : ℕ) where
+  pub counted-all-rows : w .all ≡ true → countedBytes k f (listAt read one first n) ≡ bytes k (takenCount w n) ++ chosen (λ i. f (read (first + i))) (takes w) 0 n
+  counted-all-rows e = counted-all k w f g read one first n e ∙ ap (λ (x : List ℕ). bytes k (takenCount w n) ++ x) (by-row w f g read first n)
 
   pub counted-set-rows : w .all ≡ false → setOf (w .set) < 2 ^ n →
-      countedBytes f (select (setMask n (setOf (w .set))) (listAt read one first n)) ≡ takenCount w n ∷ chosen (λ i. f (read (first + i))) (takes w) 0 n
-  counted-set-rows e h = counted-set w f g read one first n e h ∙ ap (λ (x : List ℕ). takenCount w n ∷ x) (by-row w f g read first n)
+      countedBytes k f (select (setMask n (setOf (w .set))) (listAt read one first n)) ≡ bytes k (takenCount w n) ++ chosen (λ i. f (read (first + i))) (takes w) 0 n
+  counted-set-rows e h = counted-set k w f g read one first n e h ∙ ap (λ (x : List ℕ). bytes k (takenCount w n) ++ x) (by-row w f g read first n)
 
 -- rows of which each is so
 pub each-ok : {p : Part} {s cells : List ℕ} {first n : ℕ} → EachOk (PartOk p s cells) s first n → length s < 2 ^ 64 → PartsOk p s cells first n
 each-ok o h = record { fits = omega (arith, o .room); each = λ k l. o .each _ (omega arith) (omega arith) }
 
--- a byte, and what was written after it
-pub after-byte : {xs o v ys : List ℕ} {a m x y : ℕ} → x ≡ y → y < 256 → Laid 0 (bytes 1 x) 1 xs a o → Wrote v (take (length o - a) (drop a o)) m ys →
-    Wrote (y ∷ v) xs (a + m) (take a o ++ (ys ++ drop (length o - a) (drop a o)))
-after-byte {v = v} {x = x} {y} e h l w = so (part (then start l) w) (ap (λ (z : List ℕ). z ++ v) (ap (bytes 1) e ∙ byte y h)) refl
+-- a count, and what was written after it
+pub after-count : {xs o v ys : List ℕ} {a m k x y : ℕ} → x ≡ y → Laid 0 (bytes k x) k xs a o → Wrote v (take (length o - a) (drop a o)) m ys →
+    Wrote (bytes k y ++ v) xs (a + m) (take a o ++ (ys ++ drop (length o - a) (drop a o)))
+after-count {v = v} {k = k} e l w = so (part (then start l) w) (ap (λ (z : ℕ). bytes k z ++ v) e) refl
+
+pub counted-length : (k x : ℕ) (v : List ℕ) → length (bytes k x ++ v) ≡ k + length v
+counted-length k x v = length-append (bytes k x) v ∙ omega (arith, length-bytes k x)

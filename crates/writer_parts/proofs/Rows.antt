@@ -184,7 +184,3 @@ field-tags c = refl
 pub field-wrote : {xs o₁ o₂ : List ℕ} {a b q n : ℕ} {c : Pair} → pair q n ≡ c → Laid 0 (bytes 1 0) 1 xs a o₁ → Laid a (pairBytes (pair q n)) 4 o₁ b o₂ → Wrote (itemBytes (bare c)) xs b o₂
 unfolding bytes itemBytes
 field-wrote e l₁ l₂ = so (then (then start l₁) l₂) (ap (λ (x : Pair). 0 ∷ pairBytes x) e) refl
-
-pub byte-length : (x : ℕ) → length (bytes 1 x) ≡ 1
-unfolding bytes
-byte-length x = refl

@@ -11,10 +11,10 @@ use Rattle.cpl.specs.Plan.{pair}
 use Rattle.cpl.specs.Tests.{sumOf}
 use Rattle.arena.specs.Cells.{exprAt}
 use Rattle.arena.specs.Rows.{rootAt}
-use Rattle.tree.specs.Rows.{callOf, keyAt, winAt}
+use Rattle.tree.specs.Rows.{WinOk, callOf, keyAt, winAt}
 use Rattle.tree.specs.Shows.{WinIs}
 use Rattle.writer_parts.specs.Wrote.{Laid, Wrote}
-use Rattle.writer_parts.specs.Lists.{PartsOk, WinFits, countedList, listTags, takenCount}
+use Rattle.writer_parts.specs.Lists.{PartsOk, countedList, listTags}
 use Rattle.writer_parts.specs.declared.Part.the-variants.{Expr, Key}
 use Rattle.writer_parts.specs.declared.Which.{Which}
 use Rattle.writer_parts.proofs.Over.{part, so, start, then}
@@ -22,27 +22,21 @@ use Rattle.writer_parts.proofs.Exprs.{byte}
 use Rattle.writer_parts.proofs.Rows.{call-number, pair-length}
 use Rattle.writer_parts.proofs.Lists.{all-row-tags, counted-all-rows, each-ok}
 
-module _ {s : List ℕ} {i q n f p key k root next : ℕ} (cells : List ℕ) (r : WinIs s i q n f p key k root next) (o : WinFits s cells i) (w : Which) (e : w .all ≡ true) where
+module _ {s : List ℕ} {i q n f p key k root next : ℕ} (cells : List ℕ) (r : WinIs s i q n f p key k root next) (o : WinOk s cells i) (w : Which) (e : w .all ≡ true) where
   pub win-small : f < 5
-  win-small = omega (arith, r .function-is, o .ok .function)
-
-  pub parts-small : takenCount w p < 256
-  parts-small = rw e (omega (arith, r .parts-are, o .parts-fit))
-
-  pub keys-small : takenCount w k < 256
-  keys-small = rw e (omega (arith, r .keys-are, o .keys-fit))
+  win-small = omega (arith, r .function-is, o .function)
 
   pub win-parts : length s < 2 ^ 64 → PartsOk Expr s cells (i + 1) p
-  win-parts h = each-ok (r .parts cells (o .ok)) h
+  win-parts h = each-ok (r .parts cells o) h
 
   pub win-keys : length s < 2 ^ 64 → PartsOk Key s cells key k
-  win-keys h = each-ok (r .keys cells (o .ok)) h
+  win-keys h = each-ok (r .keys cells o) h
 
   abbrev Ps : List ℕ
-  Ps = countedList Expr s cells (i + 1) p w
+  Ps = countedList 1 Expr s cells (i + 1) p w
 
   abbrev Ks : List ℕ
-  Ks = countedList Key s cells key k w
+  Ks = countedList 1 Key s cells key k w
 
   abbrev C : List ℕ
   C = callBytes (callOf f (exprAt cells root))
@@ -52,7 +46,7 @@ module _ {s : List ℕ} {i q n f p key k root next : ℕ} (cells : List ℕ) (r 
   win-is =
       ap winBytes (r .means cells)
       ∙ ap₂ (λ (x : ℕ) (y : List ℕ). pairBytes (pair q n) ++ x ∷ y) (call-number (exprAt cells root) f win-small)
-      (ap₂ (λ (x y : List ℕ). x ++ (y ++ C)) (counted-all-rows w exprBytes exprTags (λ j. exprAt cells (rootAt s j)) (i + 1) p e) (counted-all-rows w keyBytes keyTags (keyAt s cells) key k e))
+      (ap₂ (λ (x y : List ℕ). x ++ (y ++ C)) (counted-all-rows 1 w exprBytes exprTags (λ j. exprAt cells (rootAt s j)) (i + 1) p e) (counted-all-rows 1 w keyBytes keyTags (keyAt s cells) key k e))
 
   pub win-length : length (winBytes (winAt s cells i)) ≡ 5 + (length Ps + (length Ks + length C))
   win-length =

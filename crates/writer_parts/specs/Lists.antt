@@ -1,14 +1,13 @@
 -- Lists of which some things are taken: their bytes one after the other, and what is summed over them.
 use mathlib.Core.Bool.{Bool, cond, _||_}
-use mathlib.Core.List.{List, [], _∷_, _++_}
+use mathlib.Core.List.{List, [], _++_}
 use Prim.Native.Nat.{ℕ, zero, suc, _+_, _^_, _<_}
 use lib.Count.{ones}
-use Rattle.cpl.specs.Bytes.{winBytes}
+use Rattle.cpl.specs.Bytes.{bytes, winBytes}
 use Rattle.cpl.specs.Exprs.{winTags}
-use Rattle.arena.specs.Rows.{rootAt}
 use Rattle.required_indices.specs.Set.{has}
 use Rattle.required_indices.specs.Request.{setOf}
-use Rattle.tree.specs.Rows.{WinOk, keysRow, numberAt, winAt, winSize}
+use Rattle.tree.specs.Rows.{WinOk, winAt, winSize}
 use Rattle.writer_parts.specs.Parts.{PartOk, partBytes, partTags}
 use Rattle.writer_parts.specs.declared.Part.{Part}
 use Rattle.writer_parts.specs.declared.Which.{Which}
@@ -43,21 +42,15 @@ listBytes p s cells first n w = chosen (λ i. partBytes p s cells (first + i)) (
 abbrev pub listTags : Part → (rows cells : List ℕ) (first n : ℕ) → Which → ℕ
 listTags p s cells first n w = chosenSum (λ i. partTags p s cells (first + i)) (takes w) 0 n
 
--- a count byte, and the parts
-abbrev pub countedList : Part → (rows cells : List ℕ) (first n : ℕ) → Which → List ℕ
-countedList p s cells first n w = takenCount w n ∷ listBytes p s cells first n w
+-- a count of k bytes, and the parts
+abbrev pub countedList : (k : ℕ) → Part → (rows cells : List ℕ) (first n : ℕ) → Which → List ℕ
+countedList k p s cells first n w = bytes k (takenCount w n) ++ listBytes p s cells first n w
 
 pub record PartsOk (p : Part) (s cells : List ℕ) (first n : ℕ) : Type 0 where
   pub fits : first + n < 2 ^ 64
   pub each : (k : ℕ) → k < n → PartOk p s cells (first + k)
 
 -- ── windows ─────────────────────────────────────────────────────────────────────────────────
-
--- the numbers of its parts and of its keys can be written as a byte
-pub record WinFits (s cells : List ℕ) (i : ℕ) : Type 0 where
-  pub ok : WinOk s cells i
-  pub parts-fit : rootAt s i < 256
-  pub keys-fit : numberAt s (keysRow s i) < 256
 
 abbrev pub winsBytes : (rows cells : List ℕ) (first n : ℕ) → Which → List ℕ
 winsBytes s cells first n w = chosen (λ i. winBytes (winAt s cells (rowFrom (winSize s) first i))) (takes w) 0 n
@@ -66,4 +59,4 @@ abbrev pub winsTags : (rows cells : List ℕ) (first n : ℕ) → Which → ℕ
 winsTags s cells first n w = chosenSum (λ i. winTags (winAt s cells (rowFrom (winSize s) first i))) (takes w) 0 n
 
 pub record WinsOk (s cells : List ℕ) (first n : ℕ) : Type 0 where
-  pub each : (k : ℕ) → k < n → WinFits s cells (rowFrom (winSize s) first k)
+  pub each : (k : ℕ) → k < n → WinOk s cells (rowFrom (winSize s) first k)

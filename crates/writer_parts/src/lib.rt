@@ -13,10 +13,10 @@ ghost use Rattle.cpl.specs.Plan.{pair};
 ghost use Rattle.cpl.specs.Tests.{sumOf};
 ghost use Rattle.arena.specs.Cells.{exprAt, Wf};
 ghost use Rattle.arena.specs.Rows.{itemAt, RowOk};
-ghost use Rattle.tree.specs.Rows.{aggAt, AggOk, callOf, keyAt, KeyOk, onAt, OnOk, winAt};
+ghost use Rattle.tree.specs.Rows.{aggAt, AggOk, callOf, keyAt, KeyOk, onAt, OnOk, winAt, WinOk};
 ghost use Rattle.writer_parts.specs.Wrote.{Countable, Counts, Laid, Wrote};
 ghost use Rattle.writer_parts.specs.Parts.{partBytes, PartOk, partTags};
-ghost use Rattle.writer_parts.specs.Lists.{countedList, listBytes, listTags, PartsOk, takenCount, takes, WinFits, winsBytes, WinsOk, winsTags};
+ghost use Rattle.writer_parts.specs.Lists.{countedList, listBytes, listTags, PartsOk, takenCount, takes, winsBytes, WinsOk, winsTags};
 
 /// How many bytes, and how many expression tags.
 pub struct Size {
@@ -24,7 +24,7 @@ pub struct Size {
     pub tags: usize,
 }
 
-/// What a row holds: a row of four numbers, or a field, or only its own number.
+/// What a row holds: a row of four numbers, or a field, or only its own number. A column and a number are written in that many bytes.
 pub enum Part {
     Item,
     Key,
@@ -32,8 +32,8 @@ pub enum Part {
     Expr,
     On,
     Pair,
-    Column,
-    Index,
+    Column(usize),
+    Index(usize),
     Field,
 }
 
@@ -342,8 +342,8 @@ pub fn write_part(part: Part, rows: &[u16], cells: &[u64], i: usize, out: &mut [
             let row = tree::pair_at(rows, i);
             put_pair(out, 0, row.qualifier, row.name)
         }
-        Part::Column => put_at(out, 0, 1, tree::column_at(rows, i) as u64),
-        Part::Index => put_at(out, 0, 1, i as u64),
+        Part::Column(k) => put_at(out, 0, k, tree::column_at(rows, i) as u64),
+        Part::Index(k) => put_at(out, 0, k, i as u64),
         Part::Field => {
             let f = lookup::field_at(rows, i);
             let a = put_at(out, 0, 1, 0);
@@ -367,8 +367,8 @@ pub fn part_size(part: Part, rows: &[u16], cells: &[u64], i: usize) -> Size
         }
         Part::On => on_size(rows, cells, i),
         Part::Pair => Size { bytes: 4, tags: 0 },
-        Part::Column => Size { bytes: 1, tags: 0 },
-        Part::Index => Size { bytes: 1, tags: 0 },
+        Part::Column(k) => Size { bytes: k, tags: 0 },
+        Part::Index(k) => Size { bytes: k, tags: 0 },
         Part::Field => Size { bytes: 5, tags: 1 },
     }
 }
@@ -469,8 +469,9 @@ fn taken_count(n: usize, which: Which) -> usize
     if which.all { n } else { set.len() }
 }
 
-/// The count byte of a list, and those of its rows that are taken.
+/// The count of a list in k bytes, and those of its rows that are taken.
 pub fn write_counted(
+    k: usize,
     part: Part,
     rows: &[u16],
     cells: &[u64],
@@ -480,16 +481,16 @@ pub fn write_counted(
     out: &mut [u8],
 ) -> usize
     requires { ⌜ PartsOk part (now rows) (now cells) first n ⌝ }
-    requires { ⌜ takenCount which n < 256 ⌝ }
-    requires { ⌜ length (countedList part (now rows) (now cells) first n which) ≤ length (now out) ⌝ }
-    ensures { λ r. ⌜ Wrote (countedList part (now (rows .entry)) (now (cells .entry)) first n which) (now (out .entry)) r (now (out .exit)) ⌝ }
+    requires { ⌜ length (countedList k part (now rows) (now cells) first n which) ≤ length (now out) ⌝ }
+    ensures { λ r. ⌜ Wrote (countedList k part (now (rows .entry)) (now (cells .entry)) first n which) (now (out .entry)) r (now (out .exit)) ⌝ }
 {
-    let a = put_at(out, 0, 1, taken_count(n, which) as u64);
+    let a = put_at(out, 0, k, taken_count(n, which) as u64);
     let m = write_list(part, rows, cells, first, n, which, &mut out[a..]);
     a + m
 }
 
 pub fn counted_size(
+    k: usize,
     part: Part,
     rows: &[u16],
     cells: &[u64],
@@ -498,18 +499,18 @@ pub fn counted_size(
     which: Which,
 ) -> Size
     requires { ⌜ PartsOk part (now rows) (now cells) first n ⌝ }
-    requires { ⌜ Countable (length (countedList part (now rows) (now cells) first n which)) (listTags part (now rows) (now cells) first n which) ⌝ }
-    ensures { λ r. ⌜ Counts (length (countedList part (now (rows .entry)) (now (cells .entry)) first n which)) (listTags part (now (rows .entry)) (now (cells .entry)) first n which) r ⌝ }
+    requires { ⌜ Countable (length (countedList k part (now rows) (now cells) first n which)) (listTags part (now rows) (now cells) first n which) ⌝ }
+    ensures { λ r. ⌜ Counts (length (countedList k part (now (rows .entry)) (now (cells .entry)) first n which)) (listTags part (now (rows .entry)) (now (cells .entry)) first n which) r ⌝ }
 {
     both(
-        Size { bytes: 1, tags: 0 },
+        Size { bytes: k, tags: 0 },
         list_size(part, rows, cells, first, n, which),
     )
 }
 
 /// The window from row i on: its pair, its function's number, its parts, its keys, its expression.
 pub fn write_win(rows: &[u16], cells: &[u64], i: usize, out: &mut [u8]) -> usize
-    requires { ⌜ WinFits (now rows) (now cells) i ⌝ }
+    requires { ⌜ WinOk (now rows) (now cells) i ⌝ }
     requires { ⌜ length (winBytes (winAt (now rows) (now cells) i)) ≤ length (now out) ⌝ }
     ensures { λ r. ⌜ Wrote (winBytes (winAt (now (rows .entry)) (now (cells .entry)) i)) (now (out .entry)) r (now (out .exit)) ⌝ }
 {
@@ -517,30 +518,39 @@ pub fn write_win(rows: &[u16], cells: &[u64], i: usize, out: &mut [u8]) -> usize
     let all = everything();
     let a = put_pair(out, 0, w.qualifier, w.name);
     let b = put_at(out, a, 1, wide(w.function));
-    let p = write_counted(Part::Expr, rows, cells, i + 1, w.parts, all, &mut out[b..]);
+    let p = write_counted(
+        1,
+        Part::Expr,
+        rows,
+        cells,
+        i + 1,
+        w.parts,
+        all,
+        &mut out[b..],
+    );
     let c = b + p;
-    let k = write_counted(Part::Key, rows, cells, w.key, w.keys, all, &mut out[c..]);
+    let k = write_counted(1, Part::Key, rows, cells, w.key, w.keys, all, &mut out[c..]);
     let d = c + k;
     let m = write_call(cells, w.function, w.root, &mut out[d..]);
     d + m
 }
 
 pub fn win_size(rows: &[u16], cells: &[u64], i: usize) -> Size
-    requires { ⌜ WinFits (now rows) (now cells) i ⌝ }
+    requires { ⌜ WinOk (now rows) (now cells) i ⌝ }
     requires { ⌜ Countable (length (winBytes (winAt (now rows) (now cells) i))) (winTags (winAt (now rows) (now cells) i)) ⌝ }
     ensures { λ r. ⌜ Counts (length (winBytes (winAt (now (rows .entry)) (now (cells .entry)) i))) (winTags (winAt (now (rows .entry)) (now (cells .entry)) i)) r ⌝ }
 {
     let w = tree::win_at(rows, i);
     let all = everything();
-    let p = counted_size(Part::Expr, rows, cells, i + 1, w.parts, all);
-    let k = counted_size(Part::Key, rows, cells, w.key, w.keys, all);
+    let p = counted_size(1, Part::Expr, rows, cells, i + 1, w.parts, all);
+    let k = counted_size(1, Part::Key, rows, cells, w.key, w.keys, all);
     let m = call_size(cells, w.function, w.root);
     both(both(Size { bytes: 5, tags: 0 }, p), both(k, m))
 }
 
 // A window where it is taken, and nothing where it is not.
 fn write_win_if(yes: bool, rows: &[u16], cells: &[u64], i: usize, out: &mut [u8]) -> usize
-    requires { ⌜ WinFits (now rows) (now cells) i ⌝ }
+    requires { ⌜ WinOk (now rows) (now cells) i ⌝ }
     requires { ⌜ length (cond yes (winBytes (winAt (now rows) (now cells) i)) []) ≤ length (now out) ⌝ }
     ensures { λ r. ⌜ Wrote (cond yes (winBytes (winAt (now (rows .entry)) (now (cells .entry)) i)) []) (now (out .entry)) r (now (out .exit)) ⌝ }
 {
@@ -551,7 +561,7 @@ fn write_win_if(yes: bool, rows: &[u16], cells: &[u64], i: usize, out: &mut [u8]
 }
 
 fn win_size_if(yes: bool, rows: &[u16], cells: &[u64], i: usize) -> Size
-    requires { ⌜ WinFits (now rows) (now cells) i ⌝ }
+    requires { ⌜ WinOk (now rows) (now cells) i ⌝ }
     requires { ⌜ Countable (cond yes (length (winBytes (winAt (now rows) (now cells) i))) 0) (cond yes (winTags (winAt (now rows) (now cells) i)) 0) ⌝ }
     ensures { λ r. ⌜ Counts (cond yes (length (winBytes (winAt (now (rows .entry)) (now (cells .entry)) i))) 0) (cond yes (winTags (winAt (now (rows .entry)) (now (cells .entry)) i)) 0) r ⌝ }
 {

@@ -1,6 +1,6 @@
 //! A smaller case of the same kind.
 use generator::Case;
-use model::{Call, File, Join, Plan, accept, read, write};
+use model::{Call, Catalogue, File, Join, Plan, TableKey, accept, read, write};
 
 /// Puts inputs in the place of their nodes, leaves out entries of lists and tables, asks for all fields or sets the mask
 /// to 0, as long as `same` holds.
@@ -23,22 +23,36 @@ fn candidates(case: &Case) -> Vec<Case> {
     let Ok(file) = read(&case.file) else {
         return out;
     };
-    for at in 0..file.tables.len() {
-        let tables = less_one(&file.tables, at);
-        let shorter = write(&File { tables, plan: file.plan.clone() });
-        if read(&shorter).is_ok_and(|f| accept(&f.plan, &f.tables).is_ok()) {
-            out.push(Case { file: shorter, ..case.clone() });
-        }
-    }
-    for plan in smaller(&file.plan) {
-        let Ok(fields) = accept(&plan, &file.tables) else {
+    let shorter = shorter(&file.catalogue).into_iter().map(|c| File { catalogue: c, plan: file.plan.clone() });
+    let smaller = smaller(&file.plan).into_iter().map(|p| File { catalogue: file.catalogue.clone(), plan: p });
+    for file in shorter.chain(smaller) {
+        let bytes = write(&file);
+        // a plan may name what a shorter catalogue no longer has
+        let Ok(fields) = read(&bytes).and_then(|f| accept(&f.plan, &f.catalogue)) else {
             continue;
         };
         let request = case.request.as_ref();
         let request = request.map(|r| r.iter().copied().filter(|i| (*i as usize) < fields.len()).collect());
-        let file = write(&File { tables: file.tables.clone(), plan });
-        out.push(Case { mask: case.mask, request, file });
+        out.push(Case { mask: case.mask, request, file: bytes });
     }
+    out
+}
+
+/// Every catalogue with a table, a key, or the last columns of a table left out.
+fn shorter(c: &Catalogue) -> Vec<Catalogue> {
+    let mut out = vec![];
+    for at in 0..c.tables.len() {
+        let after = |k: &TableKey| TableKey { table: k.table - (k.table as usize > at) as u8, ..k.clone() };
+        let keys = c.keys.iter().filter(|k| k.table as usize != at).map(after).collect();
+        out.push(Catalogue { tables: less_one(&c.tables, at), keys, ..c.clone() });
+        for n in [c.tables[at].len() / 2, c.tables[at].len().saturating_sub(1)] {
+            let mut tables = c.tables.clone();
+            tables[at].truncate(n);
+            out.push(Catalogue { tables, ..c.clone() });
+        }
+    }
+    out.retain(|less| less != c);
+    out.extend(less(&c.keys).map(|keys| Catalogue { keys, ..c.clone() }));
     out
 }
 
@@ -84,7 +98,18 @@ fn smaller(plan: &Plan) -> Vec<Plan> {
         Plan::Empty { one_row, fields } => {
             out.extend(less(fields).map(|fields| Plan::Empty { one_row: *one_row, fields }));
         }
-        Plan::Scan { .. } => {}
+        Plan::Scan { table, qualifier, columns, filters } => {
+            let with = |columns: &Option<Vec<u16>>, filters| Plan::Scan {
+                table: *table,
+                qualifier: *qualifier,
+                columns: columns.clone(),
+                filters,
+            };
+            out.extend(less(filters).map(|filters| with(columns, filters)));
+            for list in columns.iter().flat_map(|list| less(list)) {
+                out.push(with(&Some(list), filters.clone()));
+            }
+        }
     }
     out
 }

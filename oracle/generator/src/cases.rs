@@ -1,7 +1,7 @@
 //! A plan file with a mask and a request.
-use crate::plans::{Maker, tables};
+use crate::plans::{Maker, catalogue};
 use crate::random::Random;
-use model::{File, accept, nodes_in, write};
+use model::{File, accept, nodes_in, tags_in, write};
 
 #[derive(Clone, Debug)]
 pub struct Case {
@@ -15,33 +15,40 @@ pub struct Case {
 pub struct Mix {
     /// also plans outside the domain of equality that the texts can still be run on
     pub wide: bool,
+    /// how many of a hundred files are of version 2
+    pub second: usize,
+    /// tables of version 2 may have keys
+    pub keys: bool,
     pub most_nodes: usize,
+    /// of version 2 four times as many
     pub most_bytes: usize,
 }
 
 /// Of a hundred cases some 20 are chains of projections, one of them doubling its list; 25 have Empties among their leaves;
-/// 8 have broad tables; half refer to fields by their names alone too; half ask for all fields.
+/// 8 have broad tables, of version 2 20; half refer to fields by their names alone too; half ask for all fields. Where no file of version 2 is
+/// wanted nothing is drawn for it, so that a seed gives the cases that it gave.
 pub fn case(r: &mut Random, mix: Mix) -> Case {
     loop {
-        let broad = r.percent(8);
-        let tables = tables(r, broad);
+        let second = mix.second > 0 && r.percent(mix.second);
+        let broad = r.percent(if second { 20 } else { 8 });
+        let catalogue = catalogue(r, broad, second, mix);
         let empties = if r.percent(25) { 30 } else { 0 };
         let shape = r.below(100);
         let depth = *r.pick(&[1, 2, 3, 4, 5, 6, 7, 9, 12, 16]);
         let alone = r.percent(50);
-        let mut maker = Maker { r, tables, empties, alone, wide: mix.wide };
+        let mut maker = Maker { r, catalogue, empties, alone, wide: mix.wide };
         let (plan, _) = match shape {
             0 => maker.doubling(),
             1..20 => maker.chain(),
             _ => maker.plan(depth, false),
         };
-        let tables = maker.tables;
-        let file = File { tables, plan };
+        let file = File { catalogue: maker.catalogue, plan };
         let bytes = write(&file);
-        if nodes_in(&file.plan) > mix.most_nodes || bytes.len() > mix.most_bytes {
+        let most = if second { 4 * mix.most_bytes } else { mix.most_bytes };
+        if nodes_in(&file.plan) > mix.most_nodes || bytes.len() > most || tags_in(&file.plan) > 4096 {
             continue;
         }
-        let Ok(fields) = accept(&file.plan, &file.tables) else {
+        let Ok(fields) = accept(&file.plan, &file.catalogue) else {
             continue;
         };
         let mask = match r.below(7) {

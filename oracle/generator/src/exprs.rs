@@ -1,6 +1,6 @@
 //! Expressions, items and names over given fields.
 use crate::random::Random;
-use model::{Expr, Item, Key, Pair, clash};
+use model::{Expr, Item, Key, Pair};
 
 pub fn expr(r: &mut Random, fields: &[Pair], depth: usize) -> Expr {
     let n = r.below(100);
@@ -23,7 +23,7 @@ pub fn expr(r: &mut Random, fields: &[Pair], depth: usize) -> Expr {
     }
 }
 
-/// A pair that clashes with none of those used.
+/// A pair that clashes with none of those used, which do not clash with each other.
 pub fn fresh(r: &mut Random, used: &[Pair]) -> Pair {
     for _ in 0..20 {
         let p = (*r.pick(&[0, 0, 0, 1, 2, 3]), r.between(1, 8) as u16);
@@ -35,7 +35,7 @@ pub fn fresh(r: &mut Random, used: &[Pair]) -> Pair {
 }
 
 pub fn clashes(used: &[Pair], p: Pair) -> bool {
-    used.contains(&p) || clash(&[used, &[p]].concat())
+    used.iter().any(|u| u.1 == p.1 && (u.0 == p.0 || u.0 == 0 || p.0 == 0))
 }
 
 /// A list of items: bare columns, aliases that repeat a column's pair, other aliases.

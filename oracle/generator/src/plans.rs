@@ -1,12 +1,13 @@
 //! Random plans. Beneath an Aggregate there is no Aggregate and no row-numbering Window, and a Union's inputs have the
 //! same pairs field by field: document 01's domain of equality. `wide` lifts both.
+use crate::cases::Mix;
 use crate::exprs::*;
 use crate::random::Random;
 use model::*;
 
 pub struct Maker<'a> {
     pub r: &'a mut Random,
-    pub tables: Vec<Vec<u16>>,
+    pub catalogue: Catalogue,
     /// how many of a hundred leaves are Empties
     pub empties: usize,
     /// also references by their name alone
@@ -17,7 +18,44 @@ pub struct Maker<'a> {
 /// A plan with its fields.
 type Made = (Plan, Vec<Pair>);
 
-/// A catalogue. Broad tables have 30 to 64 columns, so that requests reach past 64 fields.
+/// A catalogue. Broad tables have 30 to 64 columns, so that requests reach past 64 fields; in version 2 up to 512.
+pub fn catalogue(r: &mut Random, broad: bool, second: bool, mix: Mix) -> Catalogue {
+    if !second {
+        return Catalogue::first(tables(r, broad));
+    }
+    let mut tables = if broad { broad_tables(r) } else { tables(r, false) };
+    if mix.wide && r.percent(10) {
+        // a table with two columns of one name
+        let t = r.below(tables.len());
+        let twice = tables[t].first().copied().filter(|_| tables[t].len() < VERSION2.columns);
+        tables[t].extend(twice);
+    }
+    let mut keys: Vec<TableKey> = vec![];
+    for (t, names) in tables.iter().enumerate() {
+        if mix.keys && !names.is_empty() && r.percent(40) {
+            let mut columns: Vec<u16> = r.subset(names.len()).into_iter().map(|i| i as u16).collect();
+            r.shuffle(&mut columns);
+            columns.truncate(if columns.len() > 20 { columns.len() } else { r.between(1, 3) });
+            keys.push(TableKey { table: t as u8, columns: if columns.is_empty() { vec![0] } else { columns } });
+        }
+    }
+    r.shuffle(&mut keys);
+    Catalogue { version: VERSION2, tables, keys }
+}
+
+/// One to three tables of up to 512 columns: a join of two has up to 512 fields, and at times more, which is refused.
+fn broad_tables(r: &mut Random) -> Vec<Vec<u16>> {
+    (0..r.between(1, 3))
+        .map(|_| {
+            let mut names: Vec<u16> = (1..=700).collect();
+            r.shuffle(&mut names);
+            let (least, most) = *r.pick(&[(30, 64), (65, 130), (131, 256), (250, 260), (257, 511), (512, 512)]);
+            names.truncate(r.between(least, most));
+            names
+        })
+        .collect()
+}
+
 pub fn tables(r: &mut Random, broad: bool) -> Vec<Vec<u16>> {
     (0..r.between(1, 4))
         .map(|_| {
@@ -59,16 +97,34 @@ impl Maker<'_> {
             }
             return (Plan::Empty { one_row: self.r.percent(50), fields: fields.clone() }, fields);
         }
-        let table = self.r.below(self.tables.len());
-        let n = self.tables[table].len();
-        let columns = self.r.percent(40).then(|| {
-            let mut list: Vec<u8> = self.r.subset(n).into_iter().map(|i| i as u8).collect();
+        let table = self.r.below(self.catalogue.tables.len());
+        let names = self.catalogue.tables[table].clone();
+        let twice = (1..names.len()).any(|i| names[..i].contains(&names[i]));
+        let columns = (self.r.percent(40) || twice).then(|| {
+            let mut list: Vec<u16> = self.r.subset(names.len()).into_iter().map(|i| i as u16).collect();
             self.r.shuffle(&mut list);
+            let mut seen = vec![];
+            list.retain(|i| !seen.contains(&names[*i as usize]) && (seen.push(names[*i as usize]), true).1);
             list
         });
-        let plan = Plan::Scan { table: table as u8, qualifier: self.r.between(1, 3) as u16, columns };
-        let fields = fields(&plan, &self.tables);
+        let (table, qualifier) = (table as u8, self.r.between(1, 3) as u16);
+        let filters = self.filters(table, qualifier);
+        let plan = Plan::Scan { table, qualifier, columns, filters };
+        let fields = fields(&plan, &self.catalogue);
         (plan, fields)
+    }
+
+    /// A scan's filters: over all columns of its table, whatever it reads. None in version 1.
+    fn filters(&mut self, table: u8, qualifier: u16) -> Vec<Expr> {
+        let Some(most) = self.catalogue.version.late else { return vec![] };
+        if self.r.percent(55) {
+            return vec![];
+        }
+        let all = self.catalogue.all_of(table, qualifier);
+        let once: Vec<Pair> = all.iter().copied().filter(|p| fitting(*p, &all) == 1).collect();
+        let seen = self.references(&once);
+        let n = *self.r.pick(&[1, 1, 1, 2, 2, 3, most as usize]);
+        (0..n).map(|_| expr(self.r, &seen, 2)).collect()
     }
 
     /// The references that find one of the fields: their pairs and, where names alone are drawn, those that one field fits.

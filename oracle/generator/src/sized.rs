@@ -16,7 +16,7 @@ fn equals(e: Expr, v: i64) -> Expr {
     binary(8, e, Expr::Literal(v))
 }
 fn scan(table: u8, qualifier: u16) -> Box<Plan> {
-    Box::new(Plan::Scan { table, qualifier, columns: None })
+    Box::new(Plan::Scan { table, qualifier, columns: None, filters: vec![] })
 }
 
 /// Five nodes: a sort over a projection over a filter over an aliased scan. Shows (0, 70) and (0, 71).
@@ -66,7 +66,7 @@ fn twenty() -> Plan {
 
 /// A plan of exactly n nodes (5 or more): a union of plans of twenty and five nodes, padded with sorts, filters and
 /// limits.
-pub fn sized(n: usize) -> Vec<u8> {
+pub fn sized(version: Version, n: usize) -> Vec<u8> {
     let block = |room: usize| if room >= 20 { twenty() } else { five() };
     let mut plan = block(n);
     while nodes_in(&plan) + 6 <= n {
@@ -82,27 +82,37 @@ pub fn sized(n: usize) -> Vec<u8> {
         };
         turn += 1;
     }
-    write(&File { tables: vec![vec![1, 2, 3], vec![4, 5]], plan })
+    let catalogue = Catalogue { version, ..Catalogue::first(vec![vec![1, 2, 3], vec![4, 5]]) };
+    write(&File { catalogue, plan })
 }
 
 /// Twenty nodes over two tables of w columns: a projection to two columns over a limit, three times a sort, a filter and a
-/// limit, and a join of two sides with an alias, a filter, a sort and a scan each. Few columns are asked for.
-pub fn broad(w: u16) -> Vec<u8> {
+/// limit, and a join of two sides with an alias, a filter, a sort and a scan each. Few columns are asked for. Where both sides
+/// together pass the field limit the join is a semi join, and what is above it reads the left side. With `filters` each scan has
+/// two, on columns that nothing else reads.
+pub fn broad(version: Version, w: u16, filters: bool) -> Vec<u8> {
+    let semi = 2 * w as usize > version.fields;
+    let last = if semi { col(41, 4) } else { col(42, 102) };
     let key = |e| vec![Key { flags: 0, expr: e }];
     let side = |q: u16, first: u16| {
-        let sort = Plan::Sort(key(col(q, first + 1)), scan(q as u8 - 1, q));
+        let own = |n: u16| equals(col(q, first + n), n as i64);
+        let filters = if filters { vec![own(w - 1), own(w / 2)] } else { vec![] };
+        let scan = Plan::Scan { table: q as u8 - 1, qualifier: q, columns: None, filters };
+        let sort = Plan::Sort(key(col(q, first + 1)), Box::new(scan));
         Box::new(Plan::SubqueryAlias(q + 40, Box::new(Plan::Filter(equals(col(q, first), 3), Box::new(sort)))))
     };
-    let join = Join { kind: 0, on: vec![(col(41, 1), col(42, 101))], condition: None };
+    let join = Join { kind: if semi { 4 } else { 0 }, on: vec![(col(41, 1), col(42, 101))], condition: None };
     let mut plan = Plan::Join(join, side(1, 1), side(2, 101));
     for _ in 0..3 {
         plan = Plan::Limit(0, 100, Box::new(plan));
         plan = Plan::Filter(equals(col(41, 2), 8), Box::new(plan));
-        plan = Plan::Sort(key(col(42, 102)), Box::new(plan));
+        plan = Plan::Sort(key(last.clone()), Box::new(plan));
     }
-    let items = vec![Item::column((41, 1)), Item::column((42, 102))];
+    let shown = if semi { (41, 4) } else { (42, 102) };
+    let items = vec![Item::column((41, 1)), Item::column(shown)];
     let plan = Plan::Projection(items, Box::new(Plan::Limit(1, 50, Box::new(plan))));
-    write(&File { tables: vec![(1..=w).collect(), (101..=100 + w).collect()], plan })
+    let tables = vec![(1..=w).collect(), (101..=100 + w).collect()];
+    write(&File { catalogue: Catalogue { version, ..Catalogue::first(tables) }, plan })
 }
 
 /// `count` random plans of exactly n nodes, scans only, no name alone, at least one column in each table.
@@ -114,11 +124,12 @@ pub fn random_of(n: usize, count: usize, seed: u64) -> Vec<Vec<u8>> {
         if tables.iter().any(Vec::is_empty) {
             continue;
         }
-        let mut maker = Maker { r: &mut r, tables, empties: 0, alone: false, wide: false };
+        let catalogue = Catalogue::first(tables);
+        let mut maker = Maker { r: &mut r, catalogue, empties: 0, alone: false, wide: false };
         let (plan, _) = maker.plan(9, false);
-        let tables = maker.tables;
-        if nodes_in(&plan) == n && accept(&plan, &tables).is_ok() {
-            out.push(write(&File { tables, plan }));
+        let catalogue = maker.catalogue;
+        if nodes_in(&plan) == n && accept(&plan, &catalogue).is_ok() {
+            out.push(write(&File { catalogue, plan }));
         }
     }
     out

@@ -27,8 +27,8 @@ pub fn fitting(reference: Pair, fields: &[Pair]) -> usize {
 }
 
 /// A node's references, each with the fields among which it is looked up: a join's halves each on their own side, its
-/// condition over both together.
-fn references(plan: &Plan, inputs: &[Vec<Pair>]) -> Vec<(Pair, Vec<Pair>)> {
+/// condition over both together; a scan's filters among all columns of its table, of which two may have one name.
+fn references(plan: &Plan, catalogue: &Catalogue, inputs: &[Vec<Pair>]) -> Vec<(Pair, Vec<Pair>)> {
     let over = |columns: Vec<Pair>, fields: &[Pair]| columns.into_iter().map(|c| (c, fields.to_vec())).collect();
     match plan {
         Plan::Join(join, ..) => {
@@ -36,19 +36,22 @@ fn references(plan: &Plan, inputs: &[Vec<Pair>]) -> Vec<(Pair, Vec<Pair>)> {
             let right = over(columns_of(join.on.iter().map(|p| &p.1)), &inputs[1]);
             [left, right, over(columns_of(&join.condition), &inputs.concat())].concat()
         }
+        Plan::Scan { table, qualifier, filters, .. } => {
+            over(columns_of(filters), &catalogue.all_of(*table, *qualifier))
+        }
         _ => inputs.first().map_or(vec![], |fields| over(columns_of(own_exprs(plan)), fields)),
     }
 }
 
 /// How many references of the plan find a field of another pair: by their name alone.
-pub fn names_alone(plan: &Plan, tables: &[Vec<u16>]) -> usize {
-    let inputs: Vec<_> = plan.children().into_iter().map(|c| fields(c, tables)).collect();
-    let own = references(plan, &inputs).iter().filter(|(c, fields)| !fields.contains(c)).count();
-    own + plan.children().into_iter().map(|c| names_alone(c, tables)).sum::<usize>()
+pub fn names_alone(plan: &Plan, catalogue: &Catalogue) -> usize {
+    let inputs: Vec<_> = plan.children().into_iter().map(|c| fields(c, catalogue)).collect();
+    let own = references(plan, catalogue, &inputs).iter().filter(|(c, fields)| !fields.contains(c)).count();
+    own + plan.children().into_iter().map(|c| names_alone(c, catalogue)).sum::<usize>()
 }
 
 /// A node's fields from its inputs' fields.
-fn shown(plan: &Plan, tables: &[Vec<u16>], inputs: &[Vec<Pair>]) -> Vec<Pair> {
+fn shown(plan: &Plan, catalogue: &Catalogue, inputs: &[Vec<Pair>]) -> Vec<Pair> {
     match plan {
         Plan::Filter(..) | Plan::Sort(..) | Plan::Limit(..) | Plan::Distinct(_) | Plan::Union(..) => inputs[0].clone(),
         Plan::Projection(items, _) => items.iter().map(|i| i.pair).collect(),
@@ -62,36 +65,34 @@ fn shown(plan: &Plan, tables: &[Vec<u16>], inputs: &[Vec<Pair>]) -> Vec<Pair> {
             Sides::Left => inputs[0].clone(),
             Sides::Right => inputs[1].clone(),
         },
-        Plan::Scan { table, qualifier, columns } => {
-            let names = &tables[*table as usize];
-            match columns {
-                None => names.iter().map(|n| (*qualifier, *n)).collect(),
-                Some(c) => c.iter().map(|i| (*qualifier, names[*i as usize])).collect(),
-            }
+        Plan::Scan { table, qualifier, columns, .. } => {
+            let all = catalogue.all_of(*table, *qualifier);
+            columns.as_ref().map_or(all.clone(), |c| c.iter().map(|i| all[*i as usize]).collect())
         }
         Plan::Empty { fields, .. } => fields.clone(),
     }
 }
 
-pub fn fields(plan: &Plan, tables: &[Vec<u16>]) -> Vec<Pair> {
-    let inputs: Vec<_> = plan.children().into_iter().map(|c| fields(c, tables)).collect();
-    shown(plan, tables, &inputs)
+pub fn fields(plan: &Plan, catalogue: &Catalogue) -> Vec<Pair> {
+    let inputs: Vec<_> = plan.children().into_iter().map(|c| fields(c, catalogue)).collect();
+    shown(plan, catalogue, &inputs)
 }
 
 /// The fields of an accepted plan's root; the first refusal otherwise, children first, left before right.
-pub fn accept(plan: &Plan, tables: &[Vec<u16>]) -> Read<Vec<Pair>> {
-    node(plan, tables, &mut 0)
+pub fn accept(plan: &Plan, catalogue: &Catalogue) -> Read<Vec<Pair>> {
+    node(plan, catalogue, &mut 0)
 }
 
-fn node(plan: &Plan, tables: &[Vec<u16>], next: &mut u64) -> Read<Vec<Pair>> {
+fn node(plan: &Plan, catalogue: &Catalogue, next: &mut u64) -> Read<Vec<Pair>> {
     let place = *next;
     *next += 1;
     let mut inputs = vec![];
     for child in plan.children() {
-        inputs.push(node(child, tables, next)?);
+        inputs.push(node(child, catalogue, next)?);
     }
     let refuse = |code| Err(Fault { code, place });
-    let found: Vec<usize> = references(plan, &inputs).iter().map(|(c, fields)| fitting(*c, fields)).collect();
+    let found: Vec<usize> =
+        references(plan, catalogue, &inputs).iter().map(|(c, fields)| fitting(*c, fields)).collect();
     if found.contains(&0) {
         return refuse(8);
     }
@@ -101,8 +102,8 @@ fn node(plan: &Plan, tables: &[Vec<u16>], next: &mut u64) -> Read<Vec<Pair>> {
     if matches!(plan, Plan::Union(..)) && inputs[0].len() != inputs[1].len() {
         return refuse(9);
     }
-    let own = shown(plan, tables, &inputs);
-    if own.len() > 128 {
+    let own = shown(plan, catalogue, &inputs);
+    if own.len() > catalogue.version.fields {
         return refuse(10);
     }
     let together = match plan {

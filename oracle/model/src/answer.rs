@@ -24,8 +24,8 @@ fn run(mode: u8, mask: u16, file: &[u8], request: Option<&[u16]>, room: usize, s
     if mode > 1 || mask > 4095 {
         return refuse(1, 0);
     }
-    let File { tables, plan } = read(file)?;
-    let width = accept(&plan, &tables)?.len();
+    let File { catalogue, plan } = read(file)?;
+    let width = accept(&plan, &catalogue)?.len();
     let request: Vec<usize> = match request {
         None => (0..width).collect(),
         Some(r) => {
@@ -36,13 +36,13 @@ fn run(mode: u8, mask: u16, file: &[u8], request: Option<&[u16]>, room: usize, s
             r.iter().map(|i| *i as usize).collect()
         }
     };
-    let set = Setting { tables: &tables, mask, house: mode == 1, stale };
+    let set = Setting { catalogue: &catalogue, mask, house: mode == 1, stale };
     let Ok(plan) = rewrite(&plan, &request, &set) else {
         return refuse(12, 0);
     };
     if nodes_in(&plan) > 256 || tags_in(&plan) > 4096 {
         return refuse(12, 0);
     }
-    let bytes = write(&File { tables, plan });
+    let bytes = write(&File { catalogue, plan });
     if bytes.len() > room { refuse(13, bytes.len()) } else { Ok(bytes) }
 }

@@ -1,4 +1,4 @@
-//! Document 01, with what document 02 changed in it, read a second time, in plain Rust: no contract, no proof, no claim to speed. It serves the generator,
+//! Document 01, with what document 02 changed in it, both versions of the file, read a second time, in plain Rust: no contract, no proof, no claim to speed. It serves the generator,
 //! the command `damage` and the naming of known differences. It is no part of the proved library.
 mod accept;
 mod answer;

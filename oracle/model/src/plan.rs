@@ -1,4 +1,49 @@
-//! Plans as document 01 has them.
+//! Plans as documents 01 and 02 have them, in both versions of the file.
+
+/// What a version of the file decides.
+#[derive(Clone, Copy, PartialEq, Eq, Debug)]
+pub struct Version {
+    pub number: u8,
+    /// bytes of a count that `columns` or `items` limits, and of a column index
+    pub wide: usize,
+    /// columns of a table, of a scan's list, of a key
+    pub columns: usize,
+    /// items, groups, aggregates, windows, an Empty's pairs
+    pub items: usize,
+    /// fields of a node
+    pub fields: usize,
+    /// keys and scan filters: are they in the file, and how many at most of each
+    pub late: Option<u8>,
+}
+
+pub const VERSION1: Version = Version { number: 1, wide: 1, columns: 64, items: 128, fields: 128, late: None };
+pub const VERSION2: Version = Version { number: 2, wide: 2, columns: 512, items: 512, fields: 512, late: Some(16) };
+
+/// A table's key: its table and the columns.
+#[derive(Clone, PartialEq, Eq, Debug)]
+pub struct TableKey {
+    pub table: u8,
+    pub columns: Vec<u16>,
+}
+
+/// What stands before the plan.
+#[derive(Clone, PartialEq, Eq, Debug)]
+pub struct Catalogue {
+    pub version: Version,
+    /// the names of each table's columns
+    pub tables: Vec<Vec<u16>>,
+    pub keys: Vec<TableKey>,
+}
+
+impl Catalogue {
+    pub fn first(tables: Vec<Vec<u16>>) -> Catalogue {
+        Catalogue { version: VERSION1, tables, keys: vec![] }
+    }
+    /// All columns of a table under a qualifier: what a scan's filters are over.
+    pub fn all_of(&self, table: u8, qualifier: u16) -> Vec<Pair> {
+        self.tables[table as usize].iter().map(|n| (qualifier, *n)).collect()
+    }
+}
 
 /// qualifier (0 = none) and name
 pub type Pair = (u16, u16);
@@ -57,8 +102,17 @@ pub enum Plan {
     Union(Box<Plan>, Box<Plan>),
     Distinct(Box<Plan>),
     Join(Join, Box<Plan>, Box<Plan>),
-    Scan { table: u8, qualifier: u16, columns: Option<Vec<u8>> },
-    Empty { one_row: bool, fields: Vec<Pair> },
+    /// rows on which a filter is not yes are left out; filters stay as they are
+    Scan {
+        table: u8,
+        qualifier: u16,
+        columns: Option<Vec<u16>>,
+        filters: Vec<Expr>,
+    },
+    Empty {
+        one_row: bool,
+        fields: Vec<Pair>,
+    },
 }
 
 #[derive(Clone, PartialEq, Eq, Debug)]
@@ -71,7 +125,7 @@ pub struct Join {
 
 #[derive(Clone, PartialEq, Eq, Debug)]
 pub struct File {
-    pub tables: Vec<Vec<u16>>,
+    pub catalogue: Catalogue,
     pub plan: Plan,
 }
 

@@ -17,12 +17,20 @@ pub fn fault<T>(code: u64, place: usize) -> Read<T> {
     Err(Fault { code, place: place as u64 })
 }
 
+/// A count that was read at an offset: VALUE below the least, MANY above the most.
+fn within(at: usize, n: usize, least: usize, most: usize) -> Read<usize> {
+    if n < least {
+        return fault(VALUE, at);
+    }
+    if n > most { fault(MANY, at) } else { Ok(n) }
+}
+
 pub struct Reader<'a> {
     pub src: &'a [u8],
     pub at: usize,
     pub nodes: usize,
     pub tags: usize,
-    pub tables: Vec<Vec<u16>>,
+    pub catalogue: Catalogue,
 }
 
 impl Reader<'_> {
@@ -56,13 +64,30 @@ impl Reader<'_> {
         let n = self.u16()?;
         if n == 0 { fault(VALUE, at) } else { Ok(n) }
     }
+    /// A number of the version's width: one byte or two.
+    fn wide(&mut self) -> Read<u16> {
+        if self.catalogue.version.wide == 1 { self.u8().map(u16::from) } else { self.u16() }
+    }
     pub fn count(&mut self, least: u8, most: u8) -> Read<usize> {
         let at = self.at;
         let n = self.u8()?;
-        if n < least {
-            return fault(VALUE, at);
-        }
-        if n > most { fault(MANY, at) } else { Ok(n as usize) }
+        within(at, n as usize, least as usize, most as usize)
+    }
+    /// A count of the version's width.
+    pub fn wide_count(&mut self, least: usize, most: usize) -> Read<usize> {
+        let at = self.at;
+        let n = self.wide()?;
+        within(at, n as usize, least, most)
+    }
+    /// A column index of the version's width, below n.
+    pub fn index(&mut self, n: usize) -> Read<u16> {
+        let at = self.at;
+        let i = self.wide()?;
+        if i as usize >= n { fault(VALUE, at) } else { Ok(i) }
+    }
+    /// A count that version 1 does not have: 0 there.
+    pub fn late_count(&mut self) -> Read<usize> {
+        self.catalogue.version.late.map_or(Ok(0), |most| self.count(0, most))
     }
     pub fn pair(&mut self) -> Read<Pair> {
         Ok((self.u16()?, self.nonzero()?))

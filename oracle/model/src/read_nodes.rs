@@ -15,7 +15,7 @@ impl Reader<'_> {
         }
         Ok(match tag {
             1 => {
-                let n = self.count(0, 128)?;
+                let n = self.wide_count(0, self.catalogue.version.items)?;
                 Plan::Projection(self.list(n, Self::item)?, self.child()?)
             }
             2 => Plan::Filter(self.expr()?, self.child()?),
@@ -25,13 +25,14 @@ impl Reader<'_> {
             }
             4 => Plan::Limit(self.u32()?, self.u32()?, self.child()?),
             5 => {
-                let g = self.count(0, 128)?;
+                let most = self.catalogue.version.items;
+                let g = self.wide_count(0, most)?;
                 let groups = self.list(g, Self::item)?;
-                let a = self.count((g == 0) as u8, 128)?;
+                let a = self.wide_count((g == 0) as usize, most)?;
                 Plan::Aggregate(groups, self.list(a, Self::measure)?, self.child()?)
             }
             6 => {
-                let n = self.count(1, 128)?;
+                let n = self.wide_count(1, self.catalogue.version.items)?;
                 Plan::Window(self.list(n, Self::call)?, self.child()?)
             }
             7 => Plan::SubqueryAlias(self.nonzero()?, self.child()?),
@@ -50,7 +51,7 @@ impl Reader<'_> {
             11 => self.scan()?,
             12 => {
                 let one_row = self.at_most(1)? == 1;
-                let n = self.count(0, 128)?;
+                let n = self.wide_count(0, self.catalogue.version.items)?;
                 Plan::Empty { one_row, fields: self.list(n, Self::pair)? }
             }
             _ => return fault(VALUE, at),
@@ -68,43 +69,73 @@ impl Reader<'_> {
         let order = self.list(k, Self::key)?;
         Ok(Call { pair, function, partition, order, argument: self.argument(function)? })
     }
-    fn scan(&mut self) -> Read<Plan> {
+    /// A table's number, below how many there are.
+    fn table(&mut self) -> Read<u8> {
         let at = self.at;
         let table = self.u8()?;
-        let Some(width) = self.tables.get(table as usize).map(Vec::len) else {
-            return fault(VALUE, at);
-        };
+        if table as usize >= self.catalogue.tables.len() { fault(VALUE, at) } else { Ok(table) }
+    }
+    fn scan(&mut self) -> Read<Plan> {
+        let table = self.table()?;
+        let width = self.catalogue.tables[table as usize].len();
         let qualifier = self.nonzero()?;
         let mut columns = None;
         if self.at_most(1)? == 1 {
-            let mut list = vec![];
-            for _ in 0..self.count(0, 64)? {
-                let at = self.at;
-                let c = self.u8()?;
-                if c as usize >= width {
-                    return fault(VALUE, at);
-                }
-                list.push(c);
-            }
-            columns = Some(list);
+            let n = self.wide_count(0, self.catalogue.version.columns)?;
+            columns = Some((0..n).map(|_| self.index(width)).collect::<Read<_>>()?);
         }
-        Ok(Plan::Scan { table, qualifier, columns })
+        let n = self.late_count()?;
+        Ok(Plan::Scan { table, qualifier, columns, filters: self.list(n, Self::expr)? })
+    }
+    /// A key: a table that has none yet, and columns of it, at least one and none twice.
+    fn key_of_table(&mut self) -> Read<TableKey> {
+        let at = self.at;
+        let table = self.table()?;
+        if self.catalogue.keys.iter().any(|k| k.table == table) {
+            return fault(VALUE, at);
+        }
+        let width = self.catalogue.tables[table as usize].len();
+        let mut columns = vec![];
+        for _ in 0..self.wide_count(1, self.catalogue.version.columns)? {
+            let at = self.at;
+            let column = self.index(width)?;
+            if columns.contains(&column) {
+                return fault(VALUE, at);
+            }
+            columns.push(column);
+        }
+        Ok(TableKey { table, columns })
+    }
+    fn catalogue(&mut self) -> Read<()> {
+        for _ in 0..self.count(0, 16)? {
+            let n = self.wide_count(0, self.catalogue.version.columns)?;
+            let names = self.list(n, Self::nonzero)?;
+            self.catalogue.tables.push(names);
+        }
+        for _ in 0..self.late_count()? {
+            let key = self.key_of_table()?;
+            self.catalogue.keys.push(key);
+        }
+        Ok(())
     }
 }
 
+/// The version behind the mark.
+fn version(src: &[u8]) -> Option<Version> {
+    let number = src.get(..5)?.strip_prefix(b"CPL")?;
+    [VERSION1, VERSION2].into_iter().find(|v| number == [v.number, 0])
+}
+
 pub fn read(src: &[u8]) -> Read<File> {
-    if src.len() < 5 || &src[..5] != b"CPL\x01\x00" {
+    let Some(version) = version(src) else {
         return fault(2, 0);
-    }
-    let mut r = Reader { src, at: 5, nodes: 0, tags: 0, tables: vec![] };
-    for _ in 0..r.count(0, 16)? {
-        let n = r.count(0, 64)?;
-        let names = r.list(n, Reader::nonzero)?;
-        r.tables.push(names);
-    }
+    };
+    let catalogue = Catalogue { version, tables: vec![], keys: vec![] };
+    let mut r = Reader { src, at: 5, nodes: 0, tags: 0, catalogue };
+    r.catalogue()?;
     let plan = r.node()?;
     if r.at < src.len() {
         return fault(TAIL, r.at);
     }
-    Ok(File { tables: r.tables, plan })
+    Ok(File { catalogue: r.catalogue, plan })
 }

@@ -8,7 +8,7 @@ use crate::plan::*;
 use std::collections::HashSet;
 
 pub struct Setting<'a> {
-    pub tables: &'a [Vec<u16>],
+    pub catalogue: &'a Catalogue,
     pub mask: u16,
     pub house: bool,
     pub stale: bool,
@@ -47,7 +47,7 @@ fn top_up(child: Done, request: &[usize], old: &[Pair]) -> Done {
 
 impl Setting<'_> {
     fn fields(&self, plan: &Plan) -> Vec<Pair> {
-        fields(plan, self.tables)
+        fields(plan, self.catalogue)
     }
     /// A child asked for a request, topped up.
     fn topped(&self, child: &Plan, request: &[usize], flag: bool) -> Walk<Done> {
@@ -96,12 +96,12 @@ impl Setting<'_> {
                 Done { plan: Plan::Distinct(Box::new(c.plan)), ..c }
             }
             Plan::Join(join, l, r) => self.join(plan, join, l, r, request)?,
-            Plan::Scan { table, qualifier, columns } => {
-                let columns = match columns {
+            Plan::Scan { table, qualifier, columns, filters } => {
+                let columns = Some(match columns {
                     Some(old) => at(old, request, 0),
-                    None => request.iter().map(|i| *i as u8).collect(),
-                };
-                let plan = Plan::Scan { table: *table, qualifier: *qualifier, columns: Some(columns) };
+                    None => request.iter().map(|i| *i as u16).collect(),
+                });
+                let plan = Plan::Scan { table: *table, qualifier: *qualifier, columns, filters: filters.clone() };
                 Done { shown: self.fields(&plan), plan, changed: true }
             }
             Plan::Empty { fields, .. } => Done { plan: plan.clone(), shown: fields.clone(), changed: false },

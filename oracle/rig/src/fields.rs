@@ -4,9 +4,26 @@ use datafusion_common::TableReference;
 use datafusion_expr::TableSource;
 use std::sync::Arc;
 
+/// What a version of the file decides: bytes of a wide count and of a column index, and the limits.
+#[derive(Clone, Copy)]
+pub struct Version {
+    pub wide: usize,
+    pub columns: usize,
+    pub items: usize,
+    pub fields: usize,
+    /// are keys and scan filters in the file?
+    pub late: bool,
+}
+
+pub const VERSIONS: [Version; 2] = [
+    Version { wide: 1, columns: 64, items: 128, fields: 128, late: false },
+    Version { wide: 2, columns: 512, items: 512, fields: 512, late: true },
+];
+
 pub struct Reader<'a> {
     pub src: &'a [u8],
     pub at: usize,
+    pub version: Version,
     pub tables: Vec<Arc<TableSource>>,
     /// qualifiers seen, so that equal ones share their text
     pub qualifiers: Vec<(u16, TableReference)>,
@@ -47,6 +64,14 @@ impl Reader<'_> {
     pub fn count(&mut self, limit: u8) -> Answer<usize> {
         let n = self.u8()?;
         if n > limit { Err(format!("count {n} over {limit}")) } else { Ok(n as usize) }
+    }
+    /// A number of the version's width.
+    pub fn wide(&mut self) -> Answer<usize> {
+        if self.version.wide == 1 { self.u8().map(usize::from) } else { self.u16().map(usize::from) }
+    }
+    pub fn wide_count(&mut self, limit: usize) -> Answer<usize> {
+        let n = self.wide()?;
+        if n > limit { Err(format!("count {n} over {limit}")) } else { Ok(n) }
     }
     pub fn bad<T>(&self, what: &str) -> Answer<T> {
         Err(format!("value: {what} before {}", self.at))

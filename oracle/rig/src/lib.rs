@@ -7,6 +7,7 @@ mod run;
 mod write;
 
 pub use datafusion_expr::LogicalPlan;
+pub use fields::Version;
 pub use nodes::{File, read};
 pub use run::{pass, pass_asking, run, set_mask};
 pub use write::write_plan;

@@ -1,5 +1,5 @@
 //! Nodes of a plan file, and the whole file.
-use crate::fields::{Reader, name};
+use crate::fields::{Reader, VERSIONS, Version, name};
 use crate::write::JOINS;
 use crate::{Answer, words};
 use datafusion_common::{DFSchema, ScalarValue, number_field};
@@ -10,6 +10,7 @@ use std::sync::Arc;
 pub struct File {
     /// the bytes before the plan: mark, version and tables
     pub head: Vec<u8>,
+    pub version: Version,
     pub plan: LogicalPlan,
 }
 
@@ -24,7 +25,7 @@ impl Reader<'_> {
         }
         let plan = match self.u8()? {
             1 => {
-                let n = self.count(128)?;
+                let n = self.wide_count(self.version.items)?;
                 let items = self.exprs(n, true)?;
                 LogicalPlan::Projection(Projection::try_new(items, self.child()?).map_err(words)?)
             }
@@ -62,8 +63,9 @@ impl Reader<'_> {
             12 => self.empty()?,
             _ => return self.bad("node tag"),
         };
-        if plan.schema().fields().len() > 128 {
-            return Err("over 128 fields".into());
+        let most = self.version.fields;
+        if plan.schema().fields().len() > most {
+            return Err(format!("over {most} fields"));
         }
         Ok(plan)
     }
@@ -80,9 +82,9 @@ impl Reader<'_> {
         Ok(LogicalPlan::Sort(Sort { expr, input }))
     }
     fn aggregate(&mut self) -> Answer<LogicalPlan> {
-        let g = self.count(128)?;
+        let g = self.wide_count(self.version.items)?;
         let groups = self.exprs(g, true)?;
-        let a = self.count(128)?;
+        let a = self.wide_count(self.version.items)?;
         if g + a == 0 {
             return self.bad("empty aggregate");
         }
@@ -98,7 +100,7 @@ impl Reader<'_> {
         Ok(LogicalPlan::Aggregate(node))
     }
     fn window(&mut self) -> Answer<LogicalPlan> {
-        let n = self.count(128)?;
+        let n = self.wide_count(self.version.items)?;
         if n == 0 {
             return self.bad("empty window");
         }
@@ -158,10 +160,10 @@ impl Reader<'_> {
         let projection = match self.u8()? {
             0 => None,
             1 => {
-                let n = self.count(64)?;
+                let n = self.wide_count(self.version.columns)?;
                 let mut p = Vec::with_capacity(n);
                 for _ in 0..n {
-                    let c = self.u8()? as usize;
+                    let c = self.wide()?;
                     if c >= source.names.len() {
                         return self.bad("column");
                     }
@@ -172,7 +174,9 @@ impl Reader<'_> {
             _ => return self.bad("projection flag"),
         };
         let q = self.qualifier(q);
-        let node = TableScan::try_new(q, source, projection).map_err(words)?;
+        let n = if self.version.late { self.count(16)? } else { 0 };
+        let filters = self.exprs(n, false)?;
+        let node = TableScan::try_new(q, source, projection, filters).map_err(words)?;
         Ok(LogicalPlan::TableScan(node))
     }
     fn empty(&mut self) -> Answer<LogicalPlan> {
@@ -180,7 +184,7 @@ impl Reader<'_> {
         if one > 1 {
             return self.bad("one-row flag");
         }
-        let n = self.count(128)?;
+        let n = self.wide_count(self.version.items)?;
         let mut fields = Vec::with_capacity(n);
         for _ in 0..n {
             let (q, name) = self.pair()?;
@@ -196,12 +200,14 @@ fn limit(v: u32) -> Option<Box<Expr>> {
 }
 
 pub fn read(src: &[u8]) -> Answer<File> {
-    if src.len() < 5 || &src[..5] != b"CPL\x01\x00" {
-        return Err("mark".into());
-    }
-    let mut r = Reader { src, at: 5, tables: vec![], qualifiers: vec![], nodes: 0, tags: 0 };
+    let version = match src.get(..5) {
+        Some(b"CPL\x01\x00") => VERSIONS[0],
+        Some(b"CPL\x02\x00") => VERSIONS[1],
+        _ => return Err("mark".into()),
+    };
+    let mut r = Reader { src, at: 5, version, tables: vec![], qualifiers: vec![], nodes: 0, tags: 0 };
     for number in 0..r.count(16)? as u8 {
-        let n = r.count(64)?;
+        let n = r.wide_count(version.columns)?;
         let mut names = Vec::with_capacity(n);
         for _ in 0..n {
             match r.u16()? {
@@ -211,10 +217,13 @@ pub fn read(src: &[u8]) -> Answer<File> {
         }
         r.tables.push(Arc::new(TableSource { number, names }));
     }
+    if version.late && r.u8()? != 0 {
+        return r.bad("keys, which the stand-ins do not have");
+    }
     let head = src[..r.at].to_vec();
     let plan = r.node()?;
     if r.at < src.len() {
         return Err(format!("tail at {}", r.at));
     }
-    Ok(File { head, plan })
+    Ok(File { head, version, plan })
 }

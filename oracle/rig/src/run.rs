@@ -46,11 +46,11 @@ pub fn pass_asking(input: LogicalPlan, request: &[usize]) -> Answer<LogicalPlan>
 
 /// Plan file in, plan file out; `None` asks for all fields, through the texts' public entry.
 pub fn run(src: &[u8], request: Option<&[usize]>) -> Answer<Vec<u8>> {
-    let File { head: mut out, plan } = read(src)?;
+    let File { head: mut out, version, plan } = read(src)?;
     let plan = match request {
         None => pass(plan)?,
         Some(r) => pass_asking(plan, r)?,
     };
-    write_plan(&mut out, &plan);
+    write_plan(&mut out, version, &plan);
     Ok(out)
 }

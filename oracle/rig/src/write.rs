@@ -1,4 +1,5 @@
 //! Stand-in plans to plan files.
+use crate::fields::Version;
 use datafusion_common::{JoinType, ScalarValue, TableReference};
 use datafusion_expr::expr::{Alias, Sort as Key};
 use datafusion_expr::{Expr, LogicalPlan};
@@ -75,11 +76,20 @@ fn put_number(out: &mut Vec<u8>, e: &Option<Box<Expr>>) {
     out.extend(v.to_le_bytes());
 }
 
-pub fn write_plan(out: &mut Vec<u8>, plan: &LogicalPlan) {
+/// A count or an index of the version's width.
+fn put_wide(out: &mut Vec<u8>, version: Version, n: usize) {
+    out.extend(&(n as u16).to_le_bytes()[..version.wide]);
+}
+fn put_items(out: &mut Vec<u8>, version: Version, items: &[Expr]) {
+    put_wide(out, version, items.len());
+    items.iter().for_each(|e| put(out, e));
+}
+
+pub fn write_plan(out: &mut Vec<u8>, version: Version, plan: &LogicalPlan) {
     match plan {
         LogicalPlan::Projection(n) => {
             out.push(1);
-            put_list(out, n.expr.iter());
+            put_items(out, version, &n.expr);
         }
         LogicalPlan::Filter(n) => {
             out.push(2);
@@ -96,8 +106,8 @@ pub fn write_plan(out: &mut Vec<u8>, plan: &LogicalPlan) {
         }
         LogicalPlan::Aggregate(n) => {
             out.push(5);
-            put_list(out, n.group_expr.iter());
-            out.push(n.aggr_expr.len() as u8);
+            put_items(out, version, &n.group_expr);
+            put_wide(out, version, n.aggr_expr.len());
             for e in &n.aggr_expr {
                 let Expr::Alias(Alias { expr, relation, name, .. }) = e else { panic!("{e:?}") };
                 let Expr::AggregateFunction(a) = &**expr else { panic!("{e:?}") };
@@ -108,7 +118,7 @@ pub fn write_plan(out: &mut Vec<u8>, plan: &LogicalPlan) {
         }
         LogicalPlan::Window(n) => {
             out.push(6);
-            out.push(n.window_expr.len() as u8);
+            put_wide(out, version, n.window_expr.len());
             for e in &n.window_expr {
                 let Expr::Alias(Alias { expr, relation, name, .. }) = e else { panic!("{e:?}") };
                 let Expr::WindowFunction(w) = &**expr else { panic!("{e:?}") };
@@ -142,17 +152,20 @@ pub fn write_plan(out: &mut Vec<u8>, plan: &LogicalPlan) {
             out.extend(number(n.table_name.table()).to_le_bytes());
             out.push(n.projection.is_some() as u8);
             if let Some(p) = &n.projection {
-                out.push(p.len() as u8);
-                out.extend(p.iter().map(|&i| i as u8));
+                put_wide(out, version, p.len());
+                p.iter().for_each(|&i| put_wide(out, version, i));
+            }
+            if version.late {
+                put_list(out, n.filters.iter());
             }
         }
         LogicalPlan::EmptyRelation(n) => {
             out.push(12);
             out.push(n.produce_one_row as u8);
-            out.push(n.schema.fields().len() as u8);
+            put_wide(out, version, n.schema.fields().len());
             n.schema.iter().for_each(|(q, f)| put_pair(out, q, f.name()));
         }
         _ => panic!("no node for {plan:?}"),
     }
-    plan.inputs().into_iter().for_each(|i| write_plan(out, i));
+    plan.inputs().into_iter().for_each(|i| write_plan(out, version, i));
 }

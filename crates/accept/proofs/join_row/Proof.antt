@@ -1,5 +1,6 @@
 -- `accept::join_row` meets its contract. Assumes nothing.
-use Rattle.accept.proofs.Rowed.{rowed-is}
+use Rattle.accept.proofs.Rowed.{row-same, rowed-is}
+use Rattle.cpl.proofs.Clash.{clear-left, clear-right}
 use Rattle.cpl.specs.Fields.{joinFields}
 use Rattle.lookup.specs.Fields.{leftRow, rightRow}
 use Rattle.tree.specs.Node.{joinIs}
@@ -101,49 +102,41 @@ returns-4 c =
     let enum-told4 = c .before .before .before .before .enum-told4 in
     rowed-is (both-row4 .ensures) (ap (λ (t : JoinType). joinFields (joinIs t) (leftRow (args .fields .now) (args .sides)) (rightRow (args .fields .now) (args .sides))) (sym (enum-told4 .given .1)))
 
-same-length-5 : tie.Need-same-length-5
-same-length-5 c = search needs
-
 returns-5 : tie.Need-returns-5
 unfolding joinFields
 returns-5 c =
-    let same-row = c .before .before .same-row in
-    let args = c .before .before .before .before .before .before .before .args in
-    let enum-told5 = c .before .before .before .before .enum-told5 in
-    rowed-is (same-row .ensures) (ap (λ (t : JoinType). joinFields (joinIs t) (leftRow (args .fields .now) (args .sides)) (rightRow (args .fields .now) (args .sides))) (sym (enum-told5 .given .1)))
-
-same-length-6 : tie.Need-same-length-6
-same-length-6 c = search needs
+    let same-row = c .same-row in
+    let pre = c .before .before .before .before .pre in
+    let args = c .before .before .before .before .args in
+    let enum-told5 = c .before .enum-told5 in
+    rowed-is (row-same (same-row .ensures) (pre .before-left) (pre .clear-left)) (ap (λ (t : JoinType). joinFields (joinIs t) (leftRow (args .fields .now) (args .sides)) (rightRow (args .fields .now) (args .sides))) (sym (enum-told5 .given .1)))
 
 returns-6 : tie.Need-returns-6
 unfolding joinFields
 returns-6 c =
-    let same-row2 = c .before .before .same-row2 in
-    let args = c .before .before .before .before .before .before .before .args in
-    let enum-told6 = c .before .before .before .before .enum-told6 in
-    rowed-is (same-row2 .ensures) (ap (λ (t : JoinType). joinFields (joinIs t) (leftRow (args .fields .now) (args .sides)) (rightRow (args .fields .now) (args .sides))) (sym (enum-told6 .given .1)))
-
-same-length-7 : tie.Need-same-length-7
-same-length-7 c = search needs
+    let same-row2 = c .same-row2 in
+    let pre = c .before .before .before .before .pre in
+    let args = c .before .before .before .before .args in
+    let enum-told6 = c .before .enum-told6 in
+    rowed-is (row-same (same-row2 .ensures) (pre .before-left) (pre .clear-left)) (ap (λ (t : JoinType). joinFields (joinIs t) (leftRow (args .fields .now) (args .sides)) (rightRow (args .fields .now) (args .sides))) (sym (enum-told6 .given .1)))
 
 returns-7 : tie.Need-returns-7
 unfolding joinFields
 returns-7 c =
-    let same-row3 = c .before .before .same-row3 in
-    let args = c .before .before .before .before .before .before .before .args in
-    let enum-told7 = c .before .before .before .before .enum-told7 in
-    rowed-is (same-row3 .ensures) (ap (λ (t : JoinType). joinFields (joinIs t) (leftRow (args .fields .now) (args .sides)) (rightRow (args .fields .now) (args .sides))) (sym (enum-told7 .given .1)))
-
-same-length-8 : tie.Need-same-length-8
-same-length-8 c = search needs
+    let same-row3 = c .same-row3 in
+    let pre = c .before .before .before .before .pre in
+    let args = c .before .before .before .before .args in
+    let enum-told7 = c .before .enum-told7 in
+    rowed-is (row-same (same-row3 .ensures) (pre .before-right) (pre .clear-right)) (ap (λ (t : JoinType). joinFields (joinIs t) (leftRow (args .fields .now) (args .sides)) (rightRow (args .fields .now) (args .sides))) (sym (enum-told7 .given .1)))
 
 returns-8 : tie.Need-returns-8
 unfolding joinFields
 returns-8 c =
-    let same-row4 = c .before .before .same-row4 in
-    let args = c .before .before .before .before .before .before .before .args in
-    let enum-told8 = c .before .before .before .before .enum-told8 in
-    rowed-is (same-row4 .ensures) (ap (λ (t : JoinType). joinFields (joinIs t) (leftRow (args .fields .now) (args .sides)) (rightRow (args .fields .now) (args .sides))) (sym (enum-told8 .given .1)))
+    let same-row4 = c .same-row4 in
+    let pre = c .before .before .before .before .pre in
+    let args = c .before .before .before .before .args in
+    let enum-told8 = c .before .enum-told8 in
+    rowed-is (row-same (same-row4 .ensures) (pre .before-right) (pre .clear-right)) (ap (λ (t : JoinType). joinFields (joinIs t) (leftRow (args .fields .now) (args .sides)) (rightRow (args .fields .now) (args .sides))) (sym (enum-told8 .given .1)))
 
 pub join-row-spec : {M : Type 1} → statement M
-join-row-spec = tie.close (tie.spec enum-told both-row-requires enum-told-2 both-row-requires-2 enum-told-3 both-row-requires-3 enum-told-4 both-row-requires-4 enum-told-5 same-row-requires enum-told-6 same-row-requires-2 enum-told-7 same-row-requires-3 enum-told-8 same-row-requires-4 same-length returns same-length-2 returns-2 same-length-3 returns-3 same-length-4 returns-4 same-length-5 returns-5 same-length-6 returns-6 same-length-7 returns-7 same-length-8 returns-8)
+join-row-spec = tie.close (tie.spec enum-told both-row-requires enum-told-2 both-row-requires-2 enum-told-3 both-row-requires-3 enum-told-4 both-row-requires-4 enum-told-5 same-row-requires enum-told-6 same-row-requires-2 enum-told-7 same-row-requires-3 enum-told-8 same-row-requires-4 same-length returns same-length-2 returns-2 same-length-3 returns-3 same-length-4 returns-4 returns-5 returns-6 returns-7 returns-8)

@@ -1,11 +1,13 @@
 -- `accept::node_resolved` meets its contract, kind by kind. Assumes nothing.
 use Rattle.accept.proofs.References.{passes-at}
 use Rattle.cpl.specs.Accept.{allPass, binaryPasses}
-use Rattle.cpl.specs.Exprs.{unaryExprs}
+use Rattle.cpl.specs.Exprs.{leafExprs, unaryExprs}
+use Rattle.cpl.specs.Plan.{rows}
 use Rattle.cpl.specs.Tests.{allB}
 use Rattle.lookup.specs.Answers.{resolving}
 use Rattle.lookup.specs.Fields.{leftRow, rightRow}
 use Rattle.parts.proofs.Exprs.{items-exprs, items-roots, keys-exprs, keys-roots, seen-append, seen-one}
+use Rattle.tree.proofs.Few.{room}
 use borrow.Author.Needs.{needs}
 use mathlib.Core.Path.{_∙_, ap}
 use native.Mathlib.Omega.{arith}
@@ -93,11 +95,23 @@ join-resolved-requires c κs =
     let pre = c .before .before .before .before .before .before .pre in
     (rw (node6 .given .1) at (pre .0), pre .1)
 
+enum-known-node-7 : tie.Need-enum-known-node-7
+enum-known-node-7 c = search needs
+
+add-next-2 : tie.Need-add-next-2
+add-next-2 c =
+    let node7 = c .before .before .node7 in
+    let pre = c .before .before .before .before .before .before .before .pre in
+    omega (arith, (rw (node7 .given .1) at (pre .0)) .1 .room)
+
+resolve-roots-requires-4 : tie.Need-resolve-roots-requires-4
+resolve-roots-requires-4 c κs =
+    let node7 = c .before .before .node7 in
+    let pre = c .before .before .before .before .before .before .before .pre in
+    ((rw (node7 .given .1) at (pre .0)) .1, pre .1 .left-clear)
+
 enum-told-5 : tie.Need-enum-told-5
 enum-told-5 c = search needs
-
-enum-told-6 : tie.Need-enum-told-6
-enum-told-6 c = search needs
 
 returns : tie.Need-returns
 unfolding unaryExprs
@@ -179,16 +193,19 @@ returns-10 c =
     join-resolved .ensures ∙ passes-at (args .cells .now) (args .rows .now) (leftRow (args .fields .now) (args .sides)) (rightRow (args .fields .now) (args .sides)) (node6 .given .1)
 
 returns-11 : tie.Need-returns-11
+unfolding leafExprs
 returns-11 c =
+    let resolve-roots4 = c .resolve-roots4 in
+    let args = c .before .before .before .before .before .before .before .before .args in
+    let node7 = c .before .before .before .node7 in
+    resolve-roots4 .ensures ∙ passes-at (args .cells .now) (args .rows .now) (leftRow (args .fields .now) (args .sides)) (rightRow (args .fields .now) (args .sides)) (node7 .given .1)
+
+returns-12 : tie.Need-returns-12
+unfolding leafExprs allB
+returns-12 c =
     let args = c .before .before .before .before .before .args in
     let enum-told5 = c .enum-told5 in
     passes-at (args .cells .now) (args .rows .now) (leftRow (args .fields .now) (args .sides)) (rightRow (args .fields .now) (args .sides)) (enum-told5 .given .1)
 
-returns-12 : tie.Need-returns-12
-returns-12 c =
-    let args = c .before .before .before .before .before .args in
-    let enum-told6 = c .enum-told6 in
-    passes-at (args .cells .now) (args .rows .now) (leftRow (args .fields .now) (args .sides)) (rightRow (args .fields .now) (args .sides)) (enum-told6 .given .1)
-
 pub node-resolved-spec : {M : Type 1} → statement M
-node-resolved-spec = tie.close (tie.spec enum-known-node resolve-roots-requires enum-known-node-2 resolve-expr-requires enum-known-node-3 resolve-roots-requires-2 enum-told enum-known-node-4 resolve-roots-requires-3 add-next resolve-aggs-requires both-resolved-requires enum-known-node-5 resolve-wins-requires enum-told-2 enum-told-3 enum-told-4 enum-known-node-6 join-resolved-requires enum-told-5 enum-told-6 returns returns-2 returns-3 returns-4 returns-5 returns-6 returns-7 returns-8 returns-9 returns-10 returns-11 returns-12)
+node-resolved-spec = tie.close (tie.spec enum-known-node resolve-roots-requires enum-known-node-2 resolve-expr-requires enum-known-node-3 resolve-roots-requires-2 enum-told enum-known-node-4 resolve-roots-requires-3 add-next resolve-aggs-requires both-resolved-requires enum-known-node-5 resolve-wins-requires enum-told-2 enum-told-3 enum-told-4 enum-known-node-6 join-resolved-requires enum-known-node-7 add-next-2 resolve-roots-requires-4 enum-told-5 returns returns-2 returns-3 returns-4 returns-5 returns-6 returns-7 returns-8 returns-9 returns-10 returns-11 returns-12)

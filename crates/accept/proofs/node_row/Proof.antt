@@ -1,9 +1,11 @@
 -- `accept::node_row` meets its contract, kind by kind. Assumes nothing.
 use Rattle.accept.proofs.Given.{aggs-pairs, fields-at, items-pairs, scan-fields, wins-pairs}
-use Rattle.accept.proofs.Rowed.{rowed-is}
+use Rattle.accept.proofs.Rowed.{row-same, rowed-is}
+use Rattle.cpl.proofs.Clash.{clear-left}
 use Rattle.cpl.specs.Fields.{binaryFields, leafFields, unaryFields}
 use Rattle.cpl.specs.Plan.{rows}
 use Rattle.lookup.specs.Fields.{leftRow, rightRow}
+use Rattle.tree.proofs.Few.{room}
 use Rattle.tree.specs.Rows.{columnsAt}
 use borrow.Author.Needs.{needs}
 use mathlib.Core.List.{_++_}
@@ -116,41 +118,35 @@ returns c =
     let node = c .before .before .before .before .before .node in
     λ C cells nm. rowed-is (pairs-row .ensures) (items-pairs (args .rows .now) cells _ _ ∙ fields-at C cells (args .rows .now) (leftRow (args .fields .now) (args .sides)) (rightRow (args .fields .now) (args .sides)) (node .given .1))
 
-same-length-2 : tie.Need-same-length-2
-same-length-2 c = search needs
-
 returns-2 : tie.Need-returns-2
 unfolding unaryFields
 returns-2 c =
-    let same-row = c .before .before .same-row in
-    let args = c .before .before .before .before .before .before .before .before .before .args in
-    let enum-told = c .before .before .before .before .enum-told in
-    λ C cells nm. rowed-is (same-row .ensures) (fields-at C cells (args .rows .now) (leftRow (args .fields .now) (args .sides)) (rightRow (args .fields .now) (args .sides)) (enum-told .given .1))
-
-same-length-3 : tie.Need-same-length-3
-same-length-3 c = search needs
+    let same-row = c .same-row in
+    let pre = c .before .before .before .before .before .before .pre in
+    let args = c .before .before .before .before .before .before .args in
+    let enum-told = c .before .enum-told in
+    λ C cells nm. rowed-is (row-same (same-row .ensures) (pre .1 .before-left) (pre .1 .clear-left)) (fields-at C cells (args .rows .now) (leftRow (args .fields .now) (args .sides)) (rightRow (args .fields .now) (args .sides)) (enum-told .given .1))
 
 returns-3 : tie.Need-returns-3
 unfolding unaryFields
 returns-3 c =
-    let same-row2 = c .before .before .same-row2 in
-    let args = c .before .before .before .before .before .before .before .before .before .args in
-    let enum-told2 = c .before .before .before .before .enum-told2 in
-    λ C cells nm. rowed-is (same-row2 .ensures) (fields-at C cells (args .rows .now) (leftRow (args .fields .now) (args .sides)) (rightRow (args .fields .now) (args .sides)) (enum-told2 .given .1))
-
-same-length-4 : tie.Need-same-length-4
-same-length-4 c = search needs
+    let same-row2 = c .same-row2 in
+    let pre = c .before .before .before .before .before .before .pre in
+    let args = c .before .before .before .before .before .before .args in
+    let enum-told2 = c .before .enum-told2 in
+    λ C cells nm. rowed-is (row-same (same-row2 .ensures) (pre .1 .before-left) (pre .1 .clear-left)) (fields-at C cells (args .rows .now) (leftRow (args .fields .now) (args .sides)) (rightRow (args .fields .now) (args .sides)) (enum-told2 .given .1))
 
 returns-4 : tie.Need-returns-4
 unfolding unaryFields
 returns-4 c =
-    let same-row3 = c .before .before .same-row3 in
-    let args = c .before .before .before .before .before .before .before .before .before .args in
-    let enum-told3 = c .before .before .before .before .enum-told3 in
-    λ C cells nm. rowed-is (same-row3 .ensures) (fields-at C cells (args .rows .now) (leftRow (args .fields .now) (args .sides)) (rightRow (args .fields .now) (args .sides)) (enum-told3 .given .1))
+    let same-row3 = c .same-row3 in
+    let pre = c .before .before .before .before .before .before .pre in
+    let args = c .before .before .before .before .before .before .args in
+    let enum-told3 = c .before .enum-told3 in
+    λ C cells nm. rowed-is (row-same (same-row3 .ensures) (pre .1 .before-left) (pre .1 .clear-left)) (fields-at C cells (args .rows .now) (leftRow (args .fields .now) (args .sides)) (rightRow (args .fields .now) (args .sides)) (enum-told3 .given .1))
 
-same-length-5 : tie.Need-same-length-5
-same-length-5 c = search needs
+same-length-2 : tie.Need-same-length-2
+same-length-2 c = search needs
 
 returns-5 : tie.Need-returns-5
 unfolding unaryFields
@@ -160,8 +156,8 @@ returns-5 c =
     let node2 = c .before .before .before .before .before .node2 in
     λ C cells nm. rowed-is (pairs-row2 .ensures) (aggs-pairs (args .rows .now) cells _ _ _ ∙ fields-at C cells (args .rows .now) (leftRow (args .fields .now) (args .sides)) (rightRow (args .fields .now) (args .sides)) (node2 .given .1))
 
-same-length-6 : tie.Need-same-length-6
-same-length-6 c = search needs
+same-length-3 : tie.Need-same-length-3
+same-length-3 c = search needs
 
 returns-6 : tie.Need-returns-6
 unfolding unaryFields
@@ -171,8 +167,8 @@ returns-6 c =
     let node3 = c .before .before .before .before .before .node3 in
     λ C cells nm. rowed-is (window-row .ensures) (ap ((leftRow (args .fields .now) (args .sides)) ++_) (wins-pairs (args .rows .now) cells _ _) ∙ fields-at C cells (args .rows .now) (leftRow (args .fields .now) (args .sides)) (rightRow (args .fields .now) (args .sides)) (node3 .given .1))
 
-same-length-7 : tie.Need-same-length-7
-same-length-7 c = search needs
+same-length-4 : tie.Need-same-length-4
+same-length-4 c = search needs
 
 returns-7 : tie.Need-returns-7
 unfolding unaryFields
@@ -182,30 +178,26 @@ returns-7 c =
     let node4 = c .before .before .before .before .before .node4 in
     λ C cells nm. rowed-is (alias-row .ensures) (fields-at C cells (args .rows .now) (leftRow (args .fields .now) (args .sides)) (rightRow (args .fields .now) (args .sides)) (node4 .given .1))
 
-same-length-8 : tie.Need-same-length-8
-same-length-8 c = search needs
-
 returns-8 : tie.Need-returns-8
 unfolding binaryFields
 returns-8 c =
-    let same-row4 = c .before .before .same-row4 in
-    let args = c .before .before .before .before .before .before .before .before .before .args in
-    let enum-told4 = c .before .before .before .before .enum-told4 in
-    λ C cells nm. rowed-is (same-row4 .ensures) (fields-at C cells (args .rows .now) (leftRow (args .fields .now) (args .sides)) (rightRow (args .fields .now) (args .sides)) (enum-told4 .given .1))
-
-same-length-9 : tie.Need-same-length-9
-same-length-9 c = search needs
+    let same-row4 = c .same-row4 in
+    let pre = c .before .before .before .before .before .before .pre in
+    let args = c .before .before .before .before .before .before .args in
+    let enum-told4 = c .before .enum-told4 in
+    λ C cells nm. rowed-is (row-same (same-row4 .ensures) (pre .1 .before-left) (pre .1 .clear-left)) (fields-at C cells (args .rows .now) (leftRow (args .fields .now) (args .sides)) (rightRow (args .fields .now) (args .sides)) (enum-told4 .given .1))
 
 returns-9 : tie.Need-returns-9
 unfolding unaryFields
 returns-9 c =
-    let same-row5 = c .before .before .same-row5 in
-    let args = c .before .before .before .before .before .before .before .before .before .args in
-    let enum-told5 = c .before .before .before .before .enum-told5 in
-    λ C cells nm. rowed-is (same-row5 .ensures) (fields-at C cells (args .rows .now) (leftRow (args .fields .now) (args .sides)) (rightRow (args .fields .now) (args .sides)) (enum-told5 .given .1))
+    let same-row5 = c .same-row5 in
+    let pre = c .before .before .before .before .before .before .pre in
+    let args = c .before .before .before .before .before .before .args in
+    let enum-told5 = c .before .enum-told5 in
+    λ C cells nm. rowed-is (row-same (same-row5 .ensures) (pre .1 .before-left) (pre .1 .clear-left)) (fields-at C cells (args .rows .now) (leftRow (args .fields .now) (args .sides)) (rightRow (args .fields .now) (args .sides)) (enum-told5 .given .1))
 
-same-length-10 : tie.Need-same-length-10
-same-length-10 c = search needs
+same-length-5 : tie.Need-same-length-5
+same-length-5 c = search needs
 
 returns-10 : tie.Need-returns-10
 unfolding binaryFields
@@ -215,18 +207,18 @@ returns-10 c =
     let node5 = c .before .before .before .before .before .node5 in
     λ C cells nm. rowed-is (join-row .ensures) (fields-at C cells (args .rows .now) (leftRow (args .fields .now) (args .sides)) (rightRow (args .fields .now) (args .sides)) (node5 .given .1))
 
-same-length-11 : tie.Need-same-length-11
-same-length-11 c = search needs
+same-length-6 : tie.Need-same-length-6
+same-length-6 c = search needs
 
 returns-11 : tie.Need-returns-11
 returns-11 c =
     let scan-row = c .before .before .scan-row in
     let node6 = c .before .before .before .before .before .node6 in
     let args = c .before .before .before .before .before .before .before .before .before .before .args in
-    λ C cells nm. rowed-is (scan-row .ensures) (scan-fields C _ _ _ (node6 .given .0 .0 .given) (columnsAt (args .rows .now) (node6 .given .0 .0 .first) (node6 .given .0 .0 .n)) (rw (node6 .given .1) at nm) ∙ fields-at C cells (args .rows .now) (leftRow (args .fields .now) (args .sides)) (rightRow (args .fields .now) (args .sides)) (node6 .given .1))
+    λ C cells nm. rowed-is (scan-row .ensures) (scan-fields C _ _ _ (node6 .given .0 .0 .given) (columnsAt (args .rows .now) (node6 .given .0 .0 .first) (node6 .given .0 .0 .n)) _ (rw (node6 .given .1) at nm) ∙ fields-at C cells (args .rows .now) (leftRow (args .fields .now) (args .sides)) (rightRow (args .fields .now) (args .sides)) (node6 .given .1))
 
-same-length-12 : tie.Need-same-length-12
-same-length-12 c = search needs
+same-length-7 : tie.Need-same-length-7
+same-length-7 c = search needs
 
 returns-12 : tie.Need-returns-12
 unfolding leafFields
@@ -237,4 +229,4 @@ returns-12 c =
     λ C cells nm. rowed-is (pairs-row3 .ensures) (fields-at C cells (args .rows .now) (leftRow (args .fields .now) (args .sides)) (rightRow (args .fields .now) (args .sides)) (node7 .given .1))
 
 pub node-row-spec : {M : Type 1} → statement M
-node-row-spec = tie.close (tie.spec enum-known-node pairs-row-requires enum-told same-row-requires enum-told-2 same-row-requires-2 enum-told-3 same-row-requires-3 enum-known-node-2 add-pairs-row pairs-row-requires-2 enum-known-node-3 window-row-requires enum-known-node-4 alias-row-requires enum-told-4 same-row-requires-4 enum-told-5 same-row-requires-5 enum-known-node-5 join-row-requires enum-known-node-6 scan-row-requires enum-known-node-7 pairs-row-requires-3 same-length returns same-length-2 returns-2 same-length-3 returns-3 same-length-4 returns-4 same-length-5 returns-5 same-length-6 returns-6 same-length-7 returns-7 same-length-8 returns-8 same-length-9 returns-9 same-length-10 returns-10 same-length-11 returns-11 same-length-12 returns-12)
+node-row-spec = tie.close (tie.spec enum-known-node pairs-row-requires enum-told same-row-requires enum-told-2 same-row-requires-2 enum-told-3 same-row-requires-3 enum-known-node-2 add-pairs-row pairs-row-requires-2 enum-known-node-3 window-row-requires enum-known-node-4 alias-row-requires enum-told-4 same-row-requires-4 enum-told-5 same-row-requires-5 enum-known-node-5 join-row-requires enum-known-node-6 scan-row-requires enum-known-node-7 pairs-row-requires-3 same-length returns returns-2 returns-3 returns-4 same-length-2 returns-5 same-length-3 returns-6 same-length-4 returns-7 returns-8 returns-9 same-length-5 returns-10 same-length-6 returns-11 same-length-7 returns-12)

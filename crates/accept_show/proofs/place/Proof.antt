@@ -1,5 +1,6 @@
 -- `accept_show::place` meets its contract: its four fields do not clash. Assumes nothing.
 use mathlib.Core.Path.{refl}
+use mathlib.Core.Bool.{true}
 use mathlib.Core.List.{[], _∷_}
 use native.Mathlib.Omega.{arith}
 use Rattle.cpl.specs.Accept.{clash, conflict, halfNamed}
@@ -11,9 +12,9 @@ use borrow.Author.Needs.{needs}
 use Rattle.accept_show.proofs.place.Statement.{statement}
 use Rattle.accept_show.proofs.place.Tie as tie
 
-four : RowClear (1 ∷ 1 ∷ 1 ∷ 2 ∷ 0 ∷ 3 ∷ 2 ∷ 1 ∷ []) 0 4
+four : RowClear (1 ∷ 1 ∷ 1 ∷ 2 ∷ 0 ∷ 3 ∷ 2 ∷ 1 ∷ []) 0 4 true
 unfolding clash anyB conflict eqP halfNamed listAt
-four = record { inside = omega arith; clear = refl }
+four = record { inside = omega arith; clear = λ e. refl }
 
 slice-aggregate-look-up : tie.Need-slice-aggregate-look-up
 slice-aggregate-look-up c = search needs

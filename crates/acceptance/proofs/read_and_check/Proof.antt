@@ -1,5 +1,5 @@
 -- `acceptance::read_and_check` meets its contract: refused by the reader or at a node, or accepted. Assumes nothing.
-use Rattle.acceptance.proofs.Ways.{accept-ends, all-stand, are-bytes, got, no-faults, refuse-node, refuse-read, some-node}
+use Rattle.acceptance.proofs.Ways.{accept-ends, all-stand, are-bytes, got, judgeable, no-faults, refuse-node, refuse-read}
 use borrow.Author.Needs.{needs}
 use mathlib.Core.Path.{refl, sym}
 use native.Mathlib.Omega.{arith}
@@ -7,7 +7,9 @@ use Rattle.acceptance.proofs.read_and_check.Statement.{statement}
 use Rattle.acceptance.proofs.read_and_check.Tie as tie
 
 read-file-requires : tie.Need-read-file-requires
-read-file-requires c κs = search needs
+read-file-requires c κs =
+    let pre = c .before .before .before .before .before .before .before .before .before .before .before .pre in
+    ((pre .cells-long, pre .nodes-long, pre .names-long), pre .rows-long)
 
 enum-known-read : tie.Need-enum-known-read
 enum-known-read c = search needs
@@ -25,8 +27,8 @@ accept-node-requires c κs =
     let shared-slice-known = c .before .before .before .before .before .before .before .before .before .before .before .before .before .before .before .before .before .before .before .before .before .before .before .before .before .before .before .before .shared-slice-known in
     let pre = c .before .before .before .before .before .before .before .before .before .before .before .before .before .before .before .before .before .before .before .before .before .before .before .before .before .before .before .before .before .pre in
     let names = c .before .before .before .before .before .before .before .before .before .before .names in
-    let g = got (rw (read2 .given .1) at (read-file .ensures)) (are-bytes _ (λ i. omega (arith, shared-slice-known .given i))) (pre .0) (pre .1) (pre .2) (omega (arith, pre .3, names)) in
-    record { tree = g .tree; here = some-node g; named = g .named; room = omega (arith, pre); wide = omega (arith, pre) }
+    let g = got (rw (read2 .given .1) at (read-file .ensures)) (are-bytes _ (λ i. omega (arith, shared-slice-known .given i))) (pre .cells-long) (pre .rows-long) (pre .nodes-long) (omega (arith, pre .names-long, names)) in
+    (g .C, judgeable g (pre .fields-long) (pre .widths-long))
 
 enum-known-v : tie.Need-enum-known-v
 enum-known-v c = search needs
@@ -37,11 +39,11 @@ refuse-requires-2 c κs = search needs
 enum-told : tie.Need-enum-told
 enum-told c = search needs
 
-slice-read-t41 : tie.Need-slice-read-t41
-slice-read-t41 c =
+slice-read-t42 : tie.Need-slice-read-t42
+slice-read-t42 c =
     let pre = c .before .before .before .before .before .before .before .before .before .before .before .before .before .before .before .before .before .before .before .before .before .before .before .before .before .before .before .before .before .before .before .before .before .before .before .before .before .pre in
     let widths = c .before .before .before .before .widths in
-    omega (arith, pre, widths)
+    omega (arith, pre .widths-long, widths)
 
 same-length : tie.Need-same-length
 same-length c = search needs
@@ -73,10 +75,14 @@ same-length-6 c =
     omega (arith, rows .given)
 
 same-length-7 : tie.Need-same-length-7
-same-length-7 c = search needs
+same-length-7 c =
+    let nodes = c .before .before .before .before .before .before .before .before .before .before .before .before .before .before .before .before .before .before .before .before .before .nodes in
+    omega (arith, nodes .given)
 
 same-length-8 : tie.Need-same-length-8
-same-length-8 c = search needs
+same-length-8 c =
+    let names = c .before .before .before .before .before .before .before .before .before .before .before .before .before .before .before .before .before .before .before .names in
+    omega (arith, names .given)
 
 same-length-9 : tie.Need-same-length-9
 same-length-9 c = search needs
@@ -94,8 +100,8 @@ returns-2 c =
     let pre = c .before .before .before .before .before .before .before .before .before .before .before .before .before .before .before .before .before .before .before .before .before .before .before .before .before .before .before .before .before .before .before .before .before .before .before .before .before .before .pre in
     let names = c .before .before .before .before .before .before .before .before .before .before .before .before .before .before .before .before .before .before .before .names in
     let refuse2 = c .refuse2 in
-    let k = rw (v .given .1) at (accept-node .ensures) in
-    let g = got (rw (read2 .given .1) at (read-file .ensures)) (are-bytes _ (λ i. omega (arith, shared-slice-known .given i))) (pre .0) (pre .1) (pre .2) (omega (arith, pre .3, names)) in
+    let g = got (rw (read2 .given .1) at (read-file .ensures)) (are-bytes _ (λ i. omega (arith, shared-slice-known .given i))) (pre .cells-long) (pre .rows-long) (pre .nodes-long) (omega (arith, pre .names-long, names)) in
+    let k = rw (v .given .1) at (accept-node .ensures (g .C) (judgeable g (pre .fields-long) (pre .widths-long))) in
     refuse-node _ _ _ _ _ _ _ _ _ _ _ _ _ _ (refuse2 .ensures) (g .reads) (sym (k .says))
 
 same-length-11 : tie.Need-same-length-11
@@ -125,9 +131,9 @@ returns-3 c =
     let shared-slice-known = c .before .before .before .before .before .before .before .before .before .before .before .before .before .before .before .before .before .before .before .before .before .before .before .before .before .before .before .before .before .before .before .before .before .before .before .before .shared-slice-known in
     let pre = c .before .before .before .before .before .before .before .before .before .before .before .before .before .before .before .before .before .before .before .before .before .before .before .before .before .before .before .before .before .before .before .before .before .before .before .before .before .pre in
     let names = c .before .before .before .before .before .before .before .before .before .before .before .before .before .before .before .before .before .before .names in
-    let k = rw (enum-told .given .1) at (accept-node .ensures) in
-    let g = got (rw (read2 .given .1) at (read-file .ensures)) (are-bytes _ (λ i. omega (arith, shared-slice-known .given i))) (pre .0) (pre .1) (pre .2) (omega (arith, pre .3, names)) in
-    accept-ends _ _ _ _ _ _ _ _ _ _ _ g (no-faults k) (all-stand k _ (g .whole)) (refl, refl, refl, refl, refl)
+    let g = got (rw (read2 .given .1) at (read-file .ensures)) (are-bytes _ (λ i. omega (arith, shared-slice-known .given i))) (pre .cells-long) (pre .rows-long) (pre .nodes-long) (omega (arith, pre .names-long, names)) in
+    let k = rw (enum-told .given .1) at (accept-node .ensures (g .C) (judgeable g (pre .fields-long) (pre .widths-long))) in
+    accept-ends _ _ _ _ _ _ _ _ _ _ _ _ g (no-faults k) (all-stand k _ (g .whole)) (refl, refl, refl, refl, refl, refl)
 
 pub read-and-check-spec : {M : Type 1} → statement M
-read-and-check-spec = tie.close (tie.spec read-file-requires enum-known-read refuse-requires enum-known-read-2 accept-node-requires enum-known-v refuse-requires-2 enum-told slice-read-t41 same-length same-length-2 same-length-3 same-length-4 returns same-length-5 same-length-6 same-length-7 same-length-8 same-length-9 same-length-10 returns-2 same-length-11 same-length-12 same-length-13 same-length-14 same-length-15 same-length-16 returns-3)
+read-and-check-spec = tie.close (tie.spec read-file-requires enum-known-read refuse-requires enum-known-read-2 accept-node-requires enum-known-v refuse-requires-2 enum-told slice-read-t42 same-length same-length-2 same-length-3 same-length-4 returns same-length-5 same-length-6 same-length-7 same-length-8 same-length-9 same-length-10 returns-2 same-length-11 same-length-12 same-length-13 same-length-14 same-length-15 same-length-16 returns-3)

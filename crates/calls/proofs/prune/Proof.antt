@@ -36,7 +36,7 @@ slice-aggregate-read-request c = search needs
 read-request-requires : tie.Need-read-request-requires
 read-request-requires c κs =
     let word-at = c .before .word-at in
-    omega (arith, word-at .ensures .1, length-replicate {A = ℕ} 512 0)
+    omega (arith, word-at .ensures .1, length-replicate {A = ℕ} 513 0)
 
 add-room-at : tie.Need-add-room-at
 add-room-at c =
@@ -77,7 +77,7 @@ part-prune-end c = search needs
 array-share-prefix-request : tie.Need-array-share-prefix-request
 array-share-prefix-request c =
     let read-request = c .before .before .before .before .read-request in
-    omega (arith, read-request .ensures .1 .0, read-request .kept, length-replicate {A = ℕ} 512 0)
+    omega (arith, read-request .ensures .1 .0, read-request .kept, length-replicate {A = ℕ} 513 0)
 
 slice-aggregate-prune : tie.Need-slice-aggregate-prune
 slice-aggregate-prune c =

@@ -13,7 +13,7 @@ returns : tie.Need-returns
 returns c =
     let if1 = c .before .if1 in
     let all-fields = c .all-fields in
-    ask-all _ _ _ _ _ _ (if1 .taken) (refl, refl, refl) (all-fields .ensures)
+    ask-all _ _ _ _ _ _ _ (if1 .taken) (refl, refl, refl, refl) (all-fields .ensures)
 
 check-request-requires : tie.Need-check-request-requires
 check-request-requires c κs = search needs
@@ -27,14 +27,14 @@ returns-2 c =
     let check-request = c .before .before .check-request in
     let if2 = c .before .if2 in
     let refuse = c .refuse in
-    ask-none _ _ _ _ _ _ _ (if1 .left) (check-request .ensures) (if2 .taken) (refuse .ensures)
+    ask-none _ _ _ _ _ _ _ _ (if1 .left) (check-request .ensures) (if2 .taken) (refuse .ensures)
 
 returns-3 : tie.Need-returns-3
 returns-3 c =
     let if1 = c .before .before .before .if1 in
     let check-request = c .before .before .check-request in
     let if2 = c .before .if2 in
-    ask-some _ _ _ _ _ _ _ (if1 .left) (check-request .ensures) (if2 .left) (refl, refl, refl, refl)
+    ask-some _ _ _ _ _ _ _ _ (if1 .left) (check-request .ensures) (if2 .left) (refl, refl, refl, refl, refl)
 
 pub ask-spec : {M : Type 1} → statement M
 ask-spec = tie.close (tie.spec all-fields-requires returns check-request-requires refuse-requires returns-2 returns-3)

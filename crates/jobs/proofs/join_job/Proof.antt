@@ -30,7 +30,7 @@ join-kept-requires c κs =
     let side-ask2 = c .side-ask2 in
     let pre = c .before .before .before .before .before .before .pre in
     join-able (args .j .«join_type») (onsAt (args .rows .now) (args .cells .now) (args .j .first) (args .j .n)) (if? (args .j .«has_filter») (exprAt (args .cells .now) (args .j .filter)))
-    (rowAt (args .fields .now) (args .k) (args .width)) (rowAt (args .fields .now) (args .j .right) (args .rwidth)) (row-long (args .fields .now) (args .k) (args .width))
+    (rowAt (args .fields .now) (args .start) (args .width)) (rowAt (args .fields .now) (args .rstart) (args .rwidth)) (row-long (args .fields .now) (args .start) (args .width))
     (split-join-requirements .ensures) (side-ask .ensures) (side-ask2 .ensures) (pre .1 .1 .1 .1 .1)
 
 new-requires : tie.Need-new-requires
@@ -44,7 +44,7 @@ returns c =
     let side-ask2 = c .before .before .side-ask2 in
     let join-kept = c .before .join-kept in
     join-two (args .j .«join_type») (onsAt (args .rows .now) (args .cells .now) (args .j .first) (args .j .n)) (if? (args .j .«has_filter») (exprAt (args .cells .now) (args .j .filter)))
-    (rowAt (args .fields .now) (args .k) (args .width)) (rowAt (args .fields .now) (args .j .right) (args .rwidth)) (row-long (args .fields .now) (args .k) (args .width))
+    (rowAt (args .fields .now) (args .start) (args .width)) (rowAt (args .fields .now) (args .rstart) (args .rwidth)) (row-long (args .fields .now) (args .start) (args .width))
     (split-join-requirements .ensures) (side-ask .ensures) (side-ask2 .ensures) _ _ (join-kept .ensures)
 
 pub join-job-spec : {M : Type 1} → statement M

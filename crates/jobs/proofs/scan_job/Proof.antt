@@ -8,7 +8,7 @@ new-requires : tie.Need-new-requires
 new-requires c κs = search needs
 
 returns : tie.Need-returns
-returns c = λ t q is. scan-leaf _ _ t q is
+returns c = λ t q is es. scan-leaf _ _ t q is es
 
 pub scan-job-spec : {M : Type 1} → statement M
 scan-job-spec = tie.close (tie.spec new-requires returns)

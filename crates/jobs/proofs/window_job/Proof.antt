@@ -24,7 +24,7 @@ returns c =
     let if1 = c .if1 in
     record {
       is = λ C R p.
-          same-is (winsAt (args .rows .now) (args .cells .now) (args .first) (args .n)) (row-long (args .fields .now) (args .k) (args .width)) (split-off .ensures .0) (split-off .ensures .1) p C _
+          same-is (winsAt (args .rows .now) (args .cells .now) (args .first) (args .n)) (row-long (args .fields .now) (args .start) (args .width)) (split-off .ensures .0) (split-off .ensures .1) p C _
           (sym (is-empty .ensures) ∙ if1 .taken);
     }
 
@@ -40,7 +40,7 @@ returns-2 c =
     let with-windows = c .with-windows in
     record {
       is = λ C R p.
-          window-is (winsAt (args .rows .now) (args .cells .now) (args .first) (args .n)) (row-long (args .fields .now) (args .k) (args .width)) (split-off .ensures .0) (split-off .ensures .1) p C _
+          window-is (winsAt (args .rows .now) (args .cells .now) (args .first) (args .n)) (row-long (args .fields .now) (args .start) (args .width)) (split-off .ensures .0) (split-off .ensures .1) p C _
           (wins-long (args .rows .now) (args .cells .now) (args .first) (args .n)) (sym (is-empty .ensures) ∙ if1 .left) (with-windows .ensures);
     }
 

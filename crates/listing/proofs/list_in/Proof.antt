@@ -1,4 +1,5 @@
 -- `listing::list_in` meets its contract: refused, or listed. Assumes nothing.
+use Rattle.acceptance.proofs.Rooms.{wide-room}
 use Rattle.acceptance.proofs.Ways.{plan-in}
 use Rattle.listing.proofs.Files.{listed, unlisted}
 use Rattle.listing.proofs.Nodes.{listable}
@@ -10,7 +11,14 @@ use Rattle.listing.proofs.list_in.Statement.{statement}
 use Rattle.listing.proofs.list_in.Tie as tie
 
 read-and-check-requires : tie.Need-read-and-check-requires
-read-and-check-requires c κs = search needs
+read-and-check-requires c κs =
+    let cells = c .before .before .before .before .before .read-and-check-arg in
+    let rows = c .before .before .before .before .read-and-check-arg2 in
+    let nodes = c .before .before .before .read-and-check-arg3 in
+    let names = c .before .before .read-and-check-arg4 in
+    let fields = c .before .read-and-check-arg5 in
+    let widths = c .read-and-check-arg6 in
+    wide-room _ (cells .given .0 .1) (nodes .given .0 .1) (names .given .0 .1) (widths .given .0 .1) (rows .given .0 .1) (fields .given .0 .1)
 
 write-refused-requires : tie.Need-write-refused-requires
 write-refused-requires c κs = search needs

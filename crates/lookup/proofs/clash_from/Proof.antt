@@ -25,7 +25,7 @@ returns c =
     let args = c .before .before .args in
     let pre = c .before .before .pre in
     let if1 = c .if1 in
-    sym (pre .1 .1) ∙ ap (λ (n : ℕ). clash (rowAt (args .fields .now) (args .k) n)) (if1 .taken)
+    sym (pre .1 .1) ∙ ap (λ (n : ℕ). clash (rowAt (args .fields .now) (args .first) n)) (if1 .taken)
 
 mark-row-requires : tie.Need-mark-row-requires Inv-loop μ-loop
 mark-row-requires c κs =
@@ -37,9 +37,6 @@ loop-holds c =
     let pre = c .before .before .before .before .pre in
     let mark-row = c .mark-row in
     (pre .1 .0, pre .1 .1, mark-row .ensures)
-
-mul-field-at : tie.Need-mul-field-at Inv-loop μ-loop
-mul-field-at c = search needs
 
 add-field-at : tie.Need-add-field-at Inv-loop μ-loop
 add-field-at c = search needs
@@ -58,7 +55,7 @@ returns-2 c =
     let field-at = c .before .before .before .field-at in
     let conflicts = c .before .conflicts-marked in
     let if2 = c .if2 in
-    clash-hit (args .fields .now) (args .k) (args .width) (loop .i) (sym (if2 .taken) ∙ conflicts .ensures ∙ ap (λ (p : Pair). anyB (conflict p) (rowAt (args .fields .now) (args .k) (loop .i))) (field-at .ensures)) (loop .inv .1) (loop-test .taken)
+    clash-hit (args .fields .now) (args .first) (args .width) (loop .i) (sym (if2 .taken) ∙ conflicts .ensures ∙ ap (λ (p : Pair). anyB (conflict p) (rowAt (args .fields .now) (args .first) (loop .i))) (field-at .ensures)) (loop .inv .1) (loop-test .taken)
 
 mark-requires : tie.Need-mark-requires Inv-loop μ-loop
 mark-requires c κs =
@@ -80,8 +77,8 @@ loop-again c =
     let if2 = c .before .before .if2 in
     let mark = c .mark in (
       omega arith,
-      clear-more (args .fields .now) (args .k) (args .width) (loop .i) (sym (if2 .left) ∙ conflicts .ensures ∙ ap (λ (p : Pair). anyB (conflict p) (rowAt (args .fields .now) (args .k) (loop .i))) (field-at .ensures)) (loop .inv .1),
-      marked-more (args .fields .now) (args .k) (loop .i) (loop .inv .2) (field-at .ensures) (mark .ensures),
+      clear-more (args .fields .now) (args .first) (args .width) (loop .i) (sym (if2 .left) ∙ conflicts .ensures ∙ ap (λ (p : Pair). anyB (conflict p) (rowAt (args .fields .now) (args .first) (loop .i))) (field-at .ensures)) (loop .inv .1),
+      marked-more (args .fields .now) (args .first) (loop .i) (loop .inv .2) (field-at .ensures) (mark .ensures),
     )
 
 returns-3 : tie.Need-returns-3 Inv-loop μ-loop
@@ -89,9 +86,9 @@ returns-3 c =
     let loop = c .before .loop in
     let args = c .before .before .before .before .before .before .args in
     let e : loop .i ≡ args .width = omega (arith, loop .inv .0) in
-    sym (loop .inv .1) ∙ ap (λ (n : ℕ). clash (rowAt (args .fields .now) (args .k) n)) e
+    sym (loop .inv .1) ∙ ap (λ (n : ℕ). clash (rowAt (args .fields .now) (args .first) n)) e
 
 pub clash-from-spec : {M : Type 1} → statement M
 clash-from-spec =
     tie.close
-    (tie.spec Inv-loop μ-loop returns mark-row-requires loop-holds mul-field-at add-field-at field-at-requires conflicts-marked-requires returns-2 mark-requires add-i loop-less loop-again returns-3)
+    (tie.spec Inv-loop μ-loop returns mark-row-requires loop-holds add-field-at field-at-requires conflicts-marked-requires returns-2 mark-requires add-i loop-less loop-again returns-3)

@@ -20,10 +20,7 @@ abbrev μ-loop : tie.MeasureT-loop
 loop-holds : tie.Need-loop-holds Inv-loop μ-loop
 loop-holds c =
     let args = c .before .args in
-    (omega arith, any-row-none _ (args .fields .now) (args .k))
-
-mul-field-at : tie.Need-mul-field-at Inv-loop μ-loop
-mul-field-at c = omega arith
+    (omega arith, any-row-none _ (args .fields .now) (args .first))
 
 add-field-at : tie.Need-add-field-at Inv-loop μ-loop
 add-field-at c = omega arith
@@ -46,7 +43,7 @@ loop-again c =
     let loop = c .before .before .before .loop in
     let field-at = c .before .field-at in
     let in-conflict = c .in-conflict in
-    (omega arith, ap₂ _||_ (loop .inv .1) (in-conflict .ensures ∙ ap (conflict (pairOf (args .f))) (field-at .ensures)) ∙ any-row-more _ (args .fields .now) (args .k) (loop .i))
+    (omega arith, ap₂ _||_ (loop .inv .1) (in-conflict .ensures ∙ ap (conflict (pairOf (args .f))) (field-at .ensures)) ∙ any-row-more _ (args .fields .now) (args .first) (loop .i))
 
 returns : tie.Need-returns Inv-loop μ-loop
 returns c =
@@ -56,4 +53,4 @@ returns c =
     rw e at (loop .inv .1)
 
 pub conflicts-spec : {M : Type 1} → statement M
-conflicts-spec = tie.close (tie.spec Inv-loop μ-loop loop-holds mul-field-at add-field-at field-at-requires in-conflict-requires add-i loop-less loop-again returns)
+conflicts-spec = tie.close (tie.spec Inv-loop μ-loop loop-holds add-field-at field-at-requires in-conflict-requires add-i loop-less loop-again returns)

@@ -1,64 +1,45 @@
 -- `lookup::copy_fields` meets its contract: the fields so far, and those to come, are the list. Assumes nothing.
-use Prim.Native.Nat.{_*_, _-_}
+use Prim.Native.Nat.{_-_}
 use Rattle.lookup.proofs.Rows.{Fills, fills-all, fills-more, fills-none}
-use Rattle.lookup.specs.Fields.{fieldAt, rowAt}
+use Rattle.lookup.specs.Fields.{fieldAt}
 use Rattle.tree.proofs.Plans.{taken}
-use mathlib.Core.List.{_++_}
 use mathlib.Core.Path.{_∙_}
 use native.Mathlib.Omega.{arith}
 use Rattle.lookup.proofs.copy_fields.Statement.{statement}
 use Rattle.lookup.proofs.copy_fields.Tie as tie
 
 abbrev Inv-loop : tie.InvT-loop
-Inv-loop fields₀ k at j width i₀ fields i = Fills (fieldAt fields₀) (j * 128) width k at i (rowAt fields₀ k at ++ rowAt fields₀ j width) fields₀ fields
+Inv-loop fields₀ to from width i₀ fields i = Fills (fieldAt fields₀) from width to i fields₀ fields
 
 abbrev μ-loop : tie.MeasureT-loop
-μ-loop fields₀ k at j width i₀ fields i = width - i
+μ-loop fields₀ to from width i₀ fields i = width - i
 
 loop-holds : tie.Need-loop-holds Inv-loop μ-loop
-loop-holds c = fills-none _ _ _ _ _ _
-
-mul-field-at : tie.Need-mul-field-at Inv-loop μ-loop
-mul-field-at c =
-    let pre = c .before .before .before .before .pre in
-    let loop = c .before .before .loop in
-    omega (arith, pre .0, pre .1, pre .2, loop .inv .filling .kept .long)
+loop-holds c = fills-none _ _ _ _ _
 
 add-field-at : tie.Need-add-field-at Inv-loop μ-loop
 add-field-at c =
     let pre = c .before .before .before .before .pre in
     let loop = c .before .before .loop in
-    omega (arith, pre .0, pre .1, pre .2, loop .inv .filling .kept .long)
+    omega (arith, pre .0, pre .1, loop .inv .filling .kept .long)
 
 field-at-requires : tie.Need-field-at-requires Inv-loop μ-loop
 field-at-requires c κs =
     let pre = c .before .before .before .before .pre in
     let loop = c .before .before .loop in
-    omega (arith, pre .0, pre .1, pre .2, loop .inv .filling .kept .long)
-
-mul-put-field : tie.Need-mul-put-field Inv-loop μ-loop
-mul-put-field c =
-    let pre = c .before .before .before .before .before .before .pre in
-    let loop = c .before .before .before .before .loop in
-    omega (arith, pre .0, pre .1, pre .2, loop .inv .filling .kept .long)
+    omega (arith, pre .0, pre .1, loop .inv .filling .kept .long)
 
 add-put-field : tie.Need-add-put-field Inv-loop μ-loop
 add-put-field c =
     let pre = c .before .before .before .before .before .before .pre in
     let loop = c .before .before .before .before .loop in
-    omega (arith, pre .0, pre .1, pre .2, loop .inv .filling .kept .long)
-
-add-put-field-2 : tie.Need-add-put-field-2 Inv-loop μ-loop
-add-put-field-2 c =
-    let pre = c .before .before .before .before .before .before .pre in
-    let loop = c .before .before .before .before .loop in
-    omega (arith, pre .0, pre .1, pre .2, loop .inv .filling .kept .long)
+    omega (arith, pre .0, pre .1, loop .inv .filling .kept .long)
 
 put-field-requires : tie.Need-put-field-requires Inv-loop μ-loop
 put-field-requires c κs =
     let pre = c .before .before .before .before .before .before .pre in
     let loop = c .before .before .before .before .loop in
-    omega (arith, pre .0, pre .1, pre .2, loop .inv .filling .kept .long)
+    omega (arith, pre .0, pre .1, loop .inv .filling .kept .long)
 
 add-i : tie.Need-add-i Inv-loop μ-loop
 add-i c = omega arith
@@ -73,7 +54,7 @@ loop-again c =
     let pre = c .before .before .before .before .before .before .before .before .before .pre in
     let put-field = c .before .before .put-field in
     let field-at = c .before .before .before .before .field-at in
-    fills-more _ _ _ _ _ _ (loop .inv) (loop-test .taken) (pre .1) (put-field .ensures .0 ∙ field-at .ensures ∙ loop .inv .filling .kept .high _ (omega (arith, pre .0))) (put-field .ensures .1)
+    fills-more _ _ _ _ _ (loop .inv) (loop-test .taken) (put-field .ensures .0 ∙ field-at .ensures ∙ loop .inv .filling .kept .low _ (omega (arith, pre .0))) (put-field .ensures .1)
 
 same-length : tie.Need-same-length Inv-loop μ-loop
 same-length c =
@@ -84,7 +65,7 @@ returns : tie.Need-returns Inv-loop μ-loop
 returns c =
     let loop = c .before .loop in
     let loop-test = c .loop-test in
-    fills-all _ _ _ _ _ _ (loop .inv) (loop-test .left)
+    fills-all _ _ _ _ _ (loop .inv) (loop-test .left)
 
 pub copy-fields-spec : {M : Type 1} → statement M
-copy-fields-spec = tie.close (tie.spec Inv-loop μ-loop loop-holds mul-field-at add-field-at field-at-requires mul-put-field add-put-field add-put-field-2 put-field-requires add-i loop-less loop-again same-length returns)
+copy-fields-spec = tie.close (tie.spec Inv-loop μ-loop loop-holds add-field-at field-at-requires add-put-field put-field-requires add-i loop-less loop-again same-length returns)

@@ -17,9 +17,6 @@ abbrev μ-loop : tie.MeasureT-loop
 loop-holds : tie.Need-loop-holds Inv-loop μ-loop
 loop-holds c = (omega arith, marked-none _ _ (c .before .pre .0))
 
-mul-field-at : tie.Need-mul-field-at Inv-loop μ-loop
-mul-field-at c = search needs
-
 add-field-at : tie.Need-add-field-at Inv-loop μ-loop
 add-field-at c = search needs
 
@@ -43,7 +40,7 @@ loop-again c =
     let field-at = c .before .before .field-at in
     let args = c .before .before .before .before .before .before .args in
     let mark = c .mark in
-    (omega arith, marked-more (args .fields .now) (args .k) (loop .i) (loop .inv .1) (field-at .ensures) (mark .ensures))
+    (omega arith, marked-more (args .fields .now) (args .first) (loop .i) (loop .inv .1) (field-at .ensures) (mark .ensures))
 
 returns : tie.Need-returns Inv-loop μ-loop
 returns c =
@@ -53,4 +50,4 @@ returns c =
     rw e at (loop .inv .1)
 
 pub mark-row-spec : {M : Type 1} → statement M
-mark-row-spec = tie.close (tie.spec Inv-loop μ-loop loop-holds mul-field-at add-field-at field-at-requires mark-requires add-i loop-less loop-again returns)
+mark-row-spec = tie.close (tie.spec Inv-loop μ-loop loop-holds add-field-at field-at-requires mark-requires add-i loop-less loop-again returns)

@@ -15,14 +15,14 @@ resolve-both-requires : tie.Need-resolve-both-requires
 unfolding clash listAt
 resolve-both-requires c κs =
     let pre = c .before .before .pre in
-    (pre .0, record { left-clear = pre .1; right-clear = record { inside = omega (arith, pre .1 .inside); clear = refl } })
+    (pre .0, record { left-clear = pre .1; right-clear = record { inside = omega (arith, pre .1 .inside); clear = λ e. refl } })
 
 returns : tie.Need-returns
 unfolding listAt
 returns c =
     let resolve-both = c .resolve-both in
     let args = c .before .before .before .args in
-    resolve-both .ensures ∙ ap (λ (fs : List Pair). seen fs (exprAt (args .cells .now) (args .i))) (append-nil (rowAt (args .fields .now) (args .k) (args .width)))
+    resolve-both .ensures ∙ ap (λ (fs : List Pair). seen fs (exprAt (args .cells .now) (args .i))) (append-nil (rowAt (args .fields .now) (args .first) (args .width)))
 
 pub resolve-expr-spec : {M : Type 1} → statement M
 resolve-expr-spec = tie.close (tie.spec resolve-both-requires returns)

@@ -1,5 +1,5 @@
 -- `lookup::sides_clash` meets its contract: no field of the right side that was passed is in conflict with the left side. Assumes nothing.
-use Prim.Native.Nat.{_*_, _-_}
+use Prim.Native.Nat.{_-_}
 use Rattle.cpl.specs.Accept.{conflict}
 use Rattle.cpl.specs.Plan.{Pair}
 use Rattle.cpl.specs.Tests.{anyB}
@@ -13,7 +13,7 @@ use Rattle.lookup.proofs.sides_clash.Statement.{statement}
 use Rattle.lookup.proofs.sides_clash.Tie as tie
 
 abbrev Inv-loop : tie.InvT-loop
-Inv-loop fields left lwidth right width seen i₀ i = Missed (λ g. anyB (conflict g) (rowAt fields left lwidth)) (fieldAt fields) (right * 128) width i
+Inv-loop fields left lwidth right width seen i₀ i = Missed (λ g. anyB (conflict g) (rowAt fields left lwidth)) (fieldAt fields) right width i
 
 abbrev μ-loop : tie.MeasureT-loop
 μ-loop fields left lwidth right width seen i₀ i = width - i
@@ -25,11 +25,6 @@ mark-row-requires c κs =
 
 loop-holds : tie.Need-loop-holds Inv-loop μ-loop
 loop-holds c = left-none _ _ _ _
-
-mul-field-at : tie.Need-mul-field-at Inv-loop μ-loop
-mul-field-at c =
-    let pre = c .before .before .before .before .before .pre in
-    omega (arith, pre .0 .right-in)
 
 add-field-at : tie.Need-add-field-at Inv-loop μ-loop
 add-field-at c =
@@ -85,4 +80,4 @@ returns-2 c =
 
 pub sides-clash-spec : {M : Type 1} → statement M
 sides-clash-spec =
-    tie.close (tie.spec Inv-loop μ-loop mark-row-requires loop-holds mul-field-at add-field-at field-at-requires conflicts-marked-requires returns add-i loop-less loop-again returns-2)
+    tie.close (tie.spec Inv-loop μ-loop mark-row-requires loop-holds add-field-at field-at-requires conflicts-marked-requires returns add-i loop-less loop-again returns-2)

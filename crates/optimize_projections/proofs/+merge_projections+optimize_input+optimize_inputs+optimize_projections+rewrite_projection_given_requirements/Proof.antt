@@ -29,6 +29,7 @@ use Rattle.optimize_projections.proofs.rewrite_projection_given_require
 use Rattle.optimize_projections.proofs.+merge_projections+optimize_input+optimize_inputs+optimize_projections+rewrite_projection_given_requirements.Lts-rewrite_projection_given_requirements as rewrite-projection-given-requirements-lts
 use Rattle.jobs.proofs.job_at.Reads as job-at-reads
 use Rattle.jobs.proofs.kind_of.Reads as kind-of-reads
+use Rattle.lookup.proofs.first_at.Reads as first-at-reads
 use Rattle.lookup.proofs.width_at.Reads as width-at-reads
 use Rattle.optimize_projections.proofs.no_input.Reads as no-input-reads
 use Rattle.optimize_projections.proofs.one_input.Reads as one-input-reads
@@ -167,7 +168,7 @@ abbrev optimize-projections-calls : ℕ → optimize-projections-lts.Claims
 optimize-projections-calls t = (node-at-reads.Asked, node-at-reads.Learnt, kind-of-reads.Asked, kind-of-reads.Learnt, merge-projections-below t, merge-projections.Post, job-at-reads.Asked, job-at-reads.Learnt, optimize-inputs-below t, optimize-inputs.Post, put-node-reads.Asked, put-node-reads.Learnt)
 
 abbrev rewrite-projection-given-requirements-calls : ℕ → rewrite-projection-given-requirements-lts.Claims
-rewrite-projection-given-requirements-calls t = (width-at-reads.Asked, width-at-reads.Learnt, get-at-indices-reads.Asked, get-at-indices-reads.Learnt, optimize-projections-below t, optimize-projections.Post, put-list-reads.Asked, put-list-reads.Learnt)
+rewrite-projection-given-requirements-calls t = (first-at-reads.Asked, first-at-reads.Learnt, width-at-reads.Asked, width-at-reads.Learnt, get-at-indices-reads.Asked, get-at-indices-reads.Learnt, optimize-projections-below t, optimize-projections.Post, put-list-reads.Asked, put-list-reads.Learnt)
 
 merge-projections-node-at-requires : (t : ℕ) → merge-projections-lts.Need-node-at-requires (merge-projections-calls t) (merge-projections-at t) merge-projections.Post
 merge-projections-node-at-requires t c κs = c .before .before .before .before .before .before .before .before .before .before .before .before .pre .1 .0 .standing .tree .each _ (c .before .before .before .before .before .before .before .before .before .before .before .before .pre .1 .0 .within) .numbers
@@ -616,11 +617,14 @@ optimize-projections-same-length-14 t c = search needs
 optimize-projections-returns-2 : (t : ℕ) → optimize-projections-lts.Need-returns-2 (optimize-projections-calls t) (optimize-projections-at t) optimize-projections.Post
 optimize-projections-returns-2 t c = node-after (c .before .before .before .before .before .before .before .before .before .before .before .before .before .before .before .before .before .before .before .before .before .before .before .before .before .before .before .before .before .before .node-at .ensures .is) (rw (c .before .before .before .before .before .before .before .before .before .before .before .before .before .before .before .before .before .before .before .before .before .before .before .before .before .before .before .enum-told .given .1) at (c .before .before .before .before .before .before .before .before .before .before .before .before .before .before .before .before .before .before .before .before .before .before .before .before .before .before .before .before .before .kind-of .ensures)) (c .before .before .before .before .before .before .before .before .before .before .before .before .before .before .before .before .before .before .before .before .before .before .before .before .before .before .job-at .ensures) (c .before .before .before .before .before .before .before .before .before .before .before .before .before .before .before .before .before .before .optimize-inputs .ensures) _ (c .before .before .put-node .ensures)
 
+rewrite-projection-given-requirements-first-at-requires : (t : ℕ) → rewrite-projection-given-requirements-lts.Need-first-at-requires (rewrite-projection-given-requirements-calls t) (rewrite-projection-given-requirements-at t) rewrite-projection-given-requirements.Post
+rewrite-projection-given-requirements-first-at-requires t c κs = search needs
+
 rewrite-projection-given-requirements-width-at-requires : (t : ℕ) → rewrite-projection-given-requirements-lts.Need-width-at-requires (rewrite-projection-given-requirements-calls t) (rewrite-projection-given-requirements-at t) rewrite-projection-given-requirements.Post
 rewrite-projection-given-requirements-width-at-requires t c κs = search needs
 
 rewrite-projection-given-requirements-get-at-indices-requires : (t : ℕ) → rewrite-projection-given-requirements-lts.Need-get-at-indices-requires (rewrite-projection-given-requirements-calls t) (rewrite-projection-given-requirements-at t) rewrite-projection-given-requirements.Post
-rewrite-projection-given-requirements-get-at-indices-requires t c κs = (c .before .before .before .before .before .before .before .before .before .before .before .before .before .before .before .before .before .pre .1 .0 .list, (request-within (c .before .before .before .before .before .before .before .before .before .before .before .before .before .before .before .before .before .pre .1 .0), (row-below (c .before .before .before .before .before .before .before .before .before .before .before .before .before .before .before .before .before .pre .1 .0 .standing) _ (c .before .before .before .before .before .before .before .before .before .before .before .before .before .before .before .before .before .pre .1 .0 .within) (c .before .before .before .before .width-at .ensures), c .before .before .before .before .before .before .before .before .before .before .before .before .before .before .before .before .before .pre .1 .0 .ready .room)))
+rewrite-projection-given-requirements-get-at-indices-requires t c κs = (c .before .before .before .before .before .before .before .before .before .before .before .before .before .before .before .before .before .before .pre .1 .0 .list, (request-within (c .before .before .before .before .before .before .before .before .before .before .before .before .before .before .before .before .before .before .pre .1 .0), (row-below (c .before .before .before .before .before .before .before .before .before .before .before .before .before .before .before .before .before .before .pre .1 .0 .standing) _ (c .before .before .before .before .before .before .before .before .before .before .before .before .before .before .before .before .before .before .pre .1 .0 .within) (c .before .before .before .before .before .first-at .ensures) (c .before .before .before .before .width-at .ensures), c .before .before .before .before .before .before .before .before .before .before .before .before .before .before .before .before .before .before .pre .1 .0 .ready .room)))
 
 rewrite-projection-given-requirements-same-length : (t : ℕ) → rewrite-projection-given-requirements-lts.Need-same-length (rewrite-projection-given-requirements-calls t) (rewrite-projection-given-requirements-at t) rewrite-projection-given-requirements.Post
 rewrite-projection-given-requirements-same-length t c = search needs
@@ -635,20 +639,23 @@ rewrite-projection-given-requirements-same-length-4 : (t : ℕ) → rewrite-proj
 rewrite-projection-given-requirements-same-length-4 t c = search needs
 
 rewrite-projection-given-requirements-returns : (t : ℕ) → rewrite-projection-given-requirements-lts.Need-returns (rewrite-projection-given-requirements-calls t) (rewrite-projection-given-requirements-at t) rewrite-projection-given-requirements.Post
-rewrite-projection-given-requirements-returns t c = copies-large _ _ _ (rw (c .before .before .before .before .before .before .before .before .before .before .before .before .width-at .ensures) at (c .before .before .before .before .before .before .before .get-at-indices .ensures)) _ (c .if1 .taken) refl
+rewrite-projection-given-requirements-returns t c = copies-large _ _ _ (rw (c .before .before .before .before .before .before .before .before .before .before .before .before .before .first-at .ensures, c .before .before .before .before .before .before .before .before .before .before .before .before .width-at .ensures) at (c .before .before .before .before .before .before .before .get-at-indices .ensures)) _ (c .if1 .taken) refl
 
 rewrite-projection-given-requirements-optimize-projections-requires : (t : ℕ) → rewrite-projection-given-requirements-lts.Need-optimize-projections-requires (rewrite-projection-given-requirements-calls t) (rewrite-projection-given-requirements-at t) rewrite-projection-given-requirements.Post
-rewrite-projection-given-requirements-optimize-projections-requires t c κs = (omega (arith, c .before .before .before .before .before .before .before .before .before .before .before .before .before .before .before .before .before .before .before .before .before .before .before .before .before .before .before .before .before .before .before .before .pre .0), (input-before _ _ _ (rw (c .before .before .before .before .before .before .before .before .before .before .before .before .before .before .before .before .before .before .before .width-at .ensures) at (c .before .before .before .before .before .before .before .before .before .before .before .before .before .before .get-at-indices .ensures)) (c .before .before .before .before .before .before .before .before .before .before .before .before .before .before .before .before .before .before .before .before .before .before .before .before .before .before .before .before .before .before .before .before .pre .1 .0) (c .before .before .before .before .before .before .before .if1 .left), (c .before .before .before .before .before .before .before .before .before .before .before .before .before .before .before .before .before .before .before .before .before .before .before .before .before .before .before .before .before .before .before .before .pre .1 .1 .0, c .before .before .before .before .before .before .before .before .before .before .before .before .before .before .before .before .before .before .before .before .before .before .before .before .before .before .before .before .before .before .before .before .pre .1 .1 .1)))
+rewrite-projection-given-requirements-optimize-projections-requires t c κs = (omega (arith, c .before .before .before .before .before .before .before .before .before .before .before .before .before .before .before .before .before .before .before .before .before .before .before .before .before .before .before .before .before .before .before .before .before .pre .0), (input-before _ _ _ (rw (c .before .before .before .before .before .before .before .before .before .before .before .before .before .before .before .before .before .before .before .before .first-at .ensures, c .before .before .before .before .before .before .before .before .before .before .before .before .before .before .before .before .before .before .before .width-at .ensures) at (c .before .before .before .before .before .before .before .before .before .before .before .before .before .before .get-at-indices .ensures)) (c .before .before .before .before .before .before .before .before .before .before .before .before .before .before .before .before .before .before .before .before .before .before .before .before .before .before .before .before .before .before .before .before .before .pre .1 .0) (c .before .before .before .before .before .before .before .if1 .left), (c .before .before .before .before .before .before .before .before .before .before .before .before .before .before .before .before .before .before .before .before .before .before .before .before .before .before .before .before .before .before .before .before .before .pre .1 .1 .0, c .before .before .before .before .before .before .before .before .before .before .before .before .before .before .before .before .before .before .before .before .before .before .before .before .before .before .before .before .before .before .before .before .before .pre .1 .1 .1)))
+
+rewrite-projection-given-requirements-first-at-requires-2 : (t : ℕ) → rewrite-projection-given-requirements-lts.Need-first-at-requires-2 (rewrite-projection-given-requirements-calls t) (rewrite-projection-given-requirements-at t) rewrite-projection-given-requirements.Post
+rewrite-projection-given-requirements-first-at-requires-2 t c κs = search needs
 
 rewrite-projection-given-requirements-width-at-requires-2 : (t : ℕ) → rewrite-projection-given-requirements-lts.Need-width-at-requires-2 (rewrite-projection-given-requirements-calls t) (rewrite-projection-given-requirements-at t) rewrite-projection-given-requirements.Post
 rewrite-projection-given-requirements-width-at-requires-2 t c κs = search needs
 
 rewrite-projection-given-requirements-put-list-requires : (t : ℕ) → rewrite-projection-given-requirements-lts.Need-put-list-requires (rewrite-projection-given-requirements-calls t) (rewrite-projection-given-requirements-at t) rewrite-projection-given-requirements.Post
 rewrite-projection-given-requirements-put-list-requires t c κs = (
-  omega (arith, c .before .before .before .before .before .before .before .before .before .before .before .before .before .before .before .before .before .before .before .before .before .before .before .before .before .before .before .before .before .before .before .before .before .before .before .before .before .before .before .before .before .before .before .before .before .before .before .before .before .pre .1 .0 .ready .records-long, c .before .before .before .before .before .before .before .before .before .before .before .before .before .before .before .before .optimize-projections .kept .1 .1 .1 .1 .1 .1 .1 .1 .1 .1 .1 .1 .0),
+  omega (arith, c .before .before .before .before .before .before .before .before .before .before .before .before .before .before .before .before .before .before .before .before .before .before .before .before .before .before .before .before .before .before .before .before .before .before .before .before .before .before .before .before .before .before .before .before .before .before .before .before .before .before .before .pre .1 .0 .ready .records-long, c .before .before .before .before .before .before .before .before .before .before .before .before .before .before .before .before .before .optimize-projections .kept .1 .1 .1 .1 .1 .1 .1 .1 .1 .1 .1 .1 .0),
   (
-    rw (c .before .width-at2 .ensures) (top-fields (c .before .before .before .before .before .before .before .before .before .before .before .before .before .before .before .before .before .before .before .before .before .before .before .before .before .before .before .before .before .before .before .before .before .before .before .before .before .before .before .before .before .before .before .before .before .before .before .before .before .pre .1 .0)),
-    rw (c .before .before .before .before .before .before .before .before .before .before .before .before .before .before .before .before .before .before .before .before .before .before .before .before .before .before .before .before .before .before .before .before .before .before .before .before .width-at .ensures) (list-fields _ _ _ (rw (c .before .before .before .before .before .before .before .before .before .before .before .before .before .before .before .before .before .before .before .before .before .before .before .before .before .before .before .before .before .before .before .before .before .before .before .before .width-at .ensures) at (c .before .before .before .before .before .before .before .before .before .before .before .before .before .before .before .before .before .before .before .before .before .before .before .before .before .before .before .before .before .before .before .get-at-indices .ensures)) _ (c .before .before .before .before .before .before .before .before .before .before .before .before .before .before .before .before .before .before .before .before .before .before .before .before .if1 .left) (c .before .before .before .before .before .before .before .before .before .before .before .before .before .before .before .before .optimize-projections .ensures) (c .before .before .before .before .before .before .before .before .before .before .before .before .before .before .before .before .before .before .before .before .before .before .before .before .before .before .before .before .before .before .before .before .before .before .before .before .before .before .before .before .before .before .before .before .before .before .before .before .before .pre .1 .0)),
+    rw (c .before .before .first-at2 .ensures, c .before .width-at2 .ensures) (top-fields (c .before .before .before .before .before .before .before .before .before .before .before .before .before .before .before .before .before .before .before .before .before .before .before .before .before .before .before .before .before .before .before .before .before .before .before .before .before .before .before .before .before .before .before .before .before .before .before .before .before .before .before .pre .1 .0)),
+    rw (c .before .before .before .before .before .before .before .before .before .before .before .before .before .before .before .before .before .before .before .before .before .before .before .before .before .before .before .before .before .before .before .before .before .before .before .before .before .before .first-at .ensures, c .before .before .before .before .before .before .before .before .before .before .before .before .before .before .before .before .before .before .before .before .before .before .before .before .before .before .before .before .before .before .before .before .before .before .before .before .before .width-at .ensures) (list-fields _ _ _ (rw (c .before .before .before .before .before .before .before .before .before .before .before .before .before .before .before .before .before .before .before .before .before .before .before .before .before .before .before .before .before .before .before .before .before .before .before .before .before .before .first-at .ensures, c .before .before .before .before .before .before .before .before .before .before .before .before .before .before .before .before .before .before .before .before .before .before .before .before .before .before .before .before .before .before .before .before .before .before .before .before .before .width-at .ensures) at (c .before .before .before .before .before .before .before .before .before .before .before .before .before .before .before .before .before .before .before .before .before .before .before .before .before .before .before .before .before .before .before .before .get-at-indices .ensures)) _ (c .before .before .before .before .before .before .before .before .before .before .before .before .before .before .before .before .before .before .before .before .before .before .before .before .before .if1 .left) (c .before .before .before .before .before .before .before .before .before .before .before .before .before .before .before .before .before .optimize-projections .ensures) (c .before .before .before .before .before .before .before .before .before .before .before .before .before .before .before .before .before .before .before .before .before .before .before .before .before .before .before .before .before .before .before .before .before .before .before .before .before .before .before .before .before .before .before .before .before .before .before .before .before .before .before .pre .1 .0)),
   ),
 )
 
@@ -668,13 +675,13 @@ rewrite-projection-given-requirements-same-length-9 : (t : ℕ) → rewrite-proj
 rewrite-projection-given-requirements-same-length-9 t c = search needs
 
 rewrite-projection-given-requirements-same-length-10 : (t : ℕ) → rewrite-projection-given-requirements-lts.Need-same-length-10 (rewrite-projection-given-requirements-calls t) (rewrite-projection-given-requirements-at t) rewrite-projection-given-requirements.Post
-rewrite-projection-given-requirements-same-length-10 t c = omega (arith, c .before .before .before .before .before .before .before .before .before .before .before .before .before .before .before .before .before .before .before .before .before .before .before .before .before .before .before .before .before .before .before .before .before .before .get-at-indices .kept .1 .1 .1 .1 .1 .1 .1 .1 .1 .0, c .before .before .before .before .before .before .before .before .before .before .before .before .before .before .before .before .before .before .before .optimize-projections .kept .1 .1 .1 .1 .1 .1 .1 .1 .1 .1 .1 .1 .1 .0)
+rewrite-projection-given-requirements-same-length-10 t c = omega (arith, c .before .before .before .before .before .before .before .before .before .before .before .before .before .before .before .before .before .before .before .before .before .before .before .before .before .before .before .before .before .before .before .before .before .before .before .get-at-indices .kept .1 .1 .1 .1 .1 .1 .1 .1 .1 .0, c .before .before .before .before .before .before .before .before .before .before .before .before .before .before .before .before .before .before .before .before .optimize-projections .kept .1 .1 .1 .1 .1 .1 .1 .1 .1 .1 .1 .1 .1 .0)
 
 rewrite-projection-given-requirements-same-length-11 : (t : ℕ) → rewrite-projection-given-requirements-lts.Need-same-length-11 (rewrite-projection-given-requirements-calls t) (rewrite-projection-given-requirements-at t) rewrite-projection-given-requirements.Post
-rewrite-projection-given-requirements-same-length-11 t c = omega (arith, c .before .before .before .before .before .before .before .before .before .before .before .before .before .before .before .before .before .before .before .before .before .before .before .before .before .before .before .before .before .before .before .before .before .before .get-at-indices .kept .1 .1 .1 .1 .1 .1 .1 .1 .1 .1 .0, c .before .before .before .before .before .before .before .before .before .before .before .before .before .before .before .before .before .before .before .optimize-projections .kept .1 .1 .1 .1 .1 .1 .1 .1 .1 .1 .1 .1 .1 .1 .0)
+rewrite-projection-given-requirements-same-length-11 t c = omega (arith, c .before .before .before .before .before .before .before .before .before .before .before .before .before .before .before .before .before .before .before .before .before .before .before .before .before .before .before .before .before .before .before .before .before .before .before .get-at-indices .kept .1 .1 .1 .1 .1 .1 .1 .1 .1 .1 .0, c .before .before .before .before .before .before .before .before .before .before .before .before .before .before .before .before .before .before .before .before .optimize-projections .kept .1 .1 .1 .1 .1 .1 .1 .1 .1 .1 .1 .1 .1 .1 .0)
 
 rewrite-projection-given-requirements-returns-2 : (t : ℕ) → rewrite-projection-given-requirements-lts.Need-returns-2 (rewrite-projection-given-requirements-calls t) (rewrite-projection-given-requirements-at t) rewrite-projection-given-requirements.Post
-rewrite-projection-given-requirements-returns-2 t c = put-after _ _ _ (rw (c .before .before .before .before .before .before .before .before .before .before .before .before .before .before .before .before .before .before .before .before .before .before .before .before .before .before .before .before .before .before .before .before .before .before .before .before .before .before .before .width-at .ensures) at (c .before .before .before .before .before .before .before .before .before .before .before .before .before .before .before .before .before .before .before .before .before .before .before .before .before .before .before .before .before .before .before .before .before .before .get-at-indices .ensures)) _ (c .before .before .before .before .before .before .before .before .before .before .before .before .before .before .before .before .before .before .before .before .before .before .before .before .before .before .before .if1 .left) (c .before .before .before .before .before .before .before .before .before .before .before .before .before .before .before .before .before .before .before .optimize-projections .ensures) _ (rw (c .before .before .before .before .before .before .before .before .before .before .before .before .before .before .before .before .before .before .before .before .before .before .before .before .before .before .before .before .before .before .before .before .before .before .before .before .before .before .before .width-at .ensures, c .before .before .before .before .width-at2 .ensures) at (c .before .before .put-list .ensures))
+rewrite-projection-given-requirements-returns-2 t c = put-after _ _ _ (rw (c .before .before .before .before .before .before .before .before .before .before .before .before .before .before .before .before .before .before .before .before .before .before .before .before .before .before .before .before .before .before .before .before .before .before .before .before .before .before .before .before .before .first-at .ensures, c .before .before .before .before .before .before .before .before .before .before .before .before .before .before .before .before .before .before .before .before .before .before .before .before .before .before .before .before .before .before .before .before .before .before .before .before .before .before .before .before .width-at .ensures) at (c .before .before .before .before .before .before .before .before .before .before .before .before .before .before .before .before .before .before .before .before .before .before .before .before .before .before .before .before .before .before .before .before .before .before .before .get-at-indices .ensures)) _ (c .before .before .before .before .before .before .before .before .before .before .before .before .before .before .before .before .before .before .before .before .before .before .before .before .before .before .before .before .if1 .left) (c .before .before .before .before .before .before .before .before .before .before .before .before .before .before .before .before .before .before .before .before .optimize-projections .ensures) _ (rw (c .before .before .before .before .before .before .before .before .before .before .before .before .before .before .before .before .before .before .before .before .before .before .before .before .before .before .before .before .before .before .before .before .before .before .before .before .before .before .before .before .before .first-at .ensures, c .before .before .before .before .before .before .before .before .before .before .before .before .before .before .before .before .before .before .before .before .before .before .before .before .before .before .before .before .before .before .before .before .before .before .before .before .before .before .before .before .width-at .ensures, c .before .before .before .before .before .first-at2 .ensures, c .before .before .before .before .width-at2 .ensures) at (c .before .before .put-list .ensures))
 
 pub +merge-projections+optimize-input+optimize-inputs+optimize-projections+rewrite-projection-given-requirements-spec :
     {M : Type 1} → statement M
@@ -873,6 +880,7 @@ pub +merge-projections+optimize-input+optimize-inputs+optimize-projections+rewri
     λ t. rewrite-projection-given-requirements-lts.spec (rewrite-projection-given-requirements-calls t)
     (rewrite-projection-given-requirements-at t)
     rewrite-projection-given-requirements.Post
+    (rewrite-projection-given-requirements-first-at-requires t)
     (rewrite-projection-given-requirements-width-at-requires t)
     (rewrite-projection-given-requirements-get-at-indices-requires t)
     (rewrite-projection-given-requirements-same-length t)
@@ -881,6 +889,7 @@ pub +merge-projections+optimize-input+optimize-inputs+optimize-projections+rewri
     (rewrite-projection-given-requirements-same-length-4 t)
     (rewrite-projection-given-requirements-returns t)
     (rewrite-projection-given-requirements-optimize-projections-requires t)
+    (rewrite-projection-given-requirements-first-at-requires-2 t)
     (rewrite-projection-given-requirements-width-at-requires-2 t)
     (rewrite-projection-given-requirements-put-list-requires t)
     (rewrite-projection-given-requirements-same-length-5 t)

@@ -13,10 +13,10 @@ use Rattle.parts.proofs.resolve_aggs.Statement.{statement}
 use Rattle.parts.proofs.resolve_aggs.Tie as tie
 
 abbrev Inv-loop : tie.InvT-loop
-Inv-loop cells rows first count fields k width all₀ i₀ all i = Told (λ g. allPass (aggExprs g) (rowAt fields k width)) (aggAt rows cells) one first count (first + i) i all
+Inv-loop cells rows first count fields at width clear all₀ i₀ all i = Told (λ g. allPass (aggExprs g) (rowAt fields at width)) (aggAt rows cells) one first count (first + i) i all
 
 abbrev μ-loop : tie.MeasureT-loop
-μ-loop cells rows first count fields k width all₀ i₀ all i = count - i
+μ-loop cells rows first count fields at width clear all₀ i₀ all i = count - i
 
 loop-holds : tie.Need-loop-holds Inv-loop μ-loop
 loop-holds c = told-none _ _ _ _ _ _ (omega arith)
@@ -63,7 +63,7 @@ returns c =
     let loop = c .before .loop in
     let loop-test = c .loop-test in
     let args = c .before .before .before .before .before .args in
-    told-all _ _ _ _ _ _ _ (loop .inv) (loop-test .left) ∙ seen-concat (rowAt (args .fields .now) (args .k) (args .width)) aggExprs _
+    told-all _ _ _ _ _ _ _ (loop .inv) (loop-test .left) ∙ seen-concat (rowAt (args .fields .now) (args .at) (args .width)) aggExprs _
 
 pub resolve-aggs-spec : {M : Type 1} → statement M
 resolve-aggs-spec = tie.close (tie.spec Inv-loop μ-loop loop-holds add-agg-at agg-at-requires resolve-call-requires both-resolved-requires add-i loop-less loop-again returns)

@@ -14,10 +14,10 @@ use Rattle.parts.proofs.resolve_roots.Statement.{statement}
 use Rattle.parts.proofs.resolve_roots.Tie as tie
 
 abbrev Inv-loop : tie.InvT-loop
-Inv-loop cells rows first count fields k width all₀ i₀ all i = Told (λ e test. test (rowAt fields k width) e) (λ j. exprAt cells (rootAt rows j)) one first count (first + i) i all
+Inv-loop cells rows first count fields at width clear all₀ i₀ all i = Told (λ e test. test (rowAt fields at width) e) (λ j. exprAt cells (rootAt rows j)) one first count (first + i) i all
 
 abbrev μ-loop : tie.MeasureT-loop
-μ-loop cells rows first count fields k width all₀ i₀ all i = count - i
+μ-loop cells rows first count fields at width clear all₀ i₀ all i = count - i
 
 loop-holds : tie.Need-loop-holds Inv-loop μ-loop
 loop-holds c = told-none _ _ _ _ _ _ (omega arith)
@@ -58,7 +58,7 @@ loop-again c =
     let args = c .before .before .before .before .before .before .before .before .args in
     let row-at = c .before .before .row-at in
     let both-resolved = c .both-resolved in
-    told-more _ _ _ _ _ _ _ (loop .inv) _ (loop-test .taken) (resolve-expr .ensures ∙ ap (λ (x : ℕ). seen (rowAt (args .fields .now) (args .k) (args .width)) (exprAt (args .cells .now) x)) (row-at .ensures .root-is)) (both-resolved .ensures) (omega arith)
+    told-more _ _ _ _ _ _ _ (loop .inv) _ (loop-test .taken) (resolve-expr .ensures ∙ ap (λ (x : ℕ). seen (rowAt (args .fields .now) (args .at) (args .width)) (exprAt (args .cells .now) x)) (row-at .ensures .root-is)) (both-resolved .ensures) (omega arith)
 
 returns : tie.Need-returns Inv-loop μ-loop
 returns c =

@@ -13,10 +13,10 @@ use Rattle.parts.proofs.resolve_wins.Statement.{statement}
 use Rattle.parts.proofs.resolve_wins.Tie as tie
 
 abbrev Inv-loop : tie.InvT-loop
-Inv-loop cells rows first count fields k width all₀ row₀ i₀ all row i = Told (λ w. allPass (winExprs w) (rowAt fields k width)) (winAt rows cells) (winSize rows) first count row i all × AllAt (WinOk rows cells) (winSize rows) row (count - i)
+Inv-loop cells rows first count fields at width clear all₀ row₀ i₀ all row i = Told (λ w. allPass (winExprs w) (rowAt fields at width)) (winAt rows cells) (winSize rows) first count row i all × AllAt (WinOk rows cells) (winSize rows) row (count - i)
 
 abbrev μ-loop : tie.MeasureT-loop
-μ-loop cells rows first count fields k width all₀ row₀ i₀ all row i = count - i
+μ-loop cells rows first count fields at width clear all₀ row₀ i₀ all row i = count - i
 
 loop-holds : tie.Need-loop-holds Inv-loop μ-loop
 loop-holds c =
@@ -63,7 +63,7 @@ returns c =
     let loop = c .before .loop in
     let loop-test = c .loop-test in
     let args = c .before .before .before .before .before .args in
-    told-all _ _ _ _ _ _ _ (loop .inv .0) (loop-test .left) ∙ seen-concat (rowAt (args .fields .now) (args .k) (args .width)) winExprs _
+    told-all _ _ _ _ _ _ _ (loop .inv .0) (loop-test .left) ∙ seen-concat (rowAt (args .fields .now) (args .at) (args .width)) winExprs _
 
 pub resolve-wins-spec : {M : Type 1} → statement M
 resolve-wins-spec = tie.close (tie.spec Inv-loop μ-loop loop-holds resolve-win-requires both-resolved-requires win-at-requires add-i loop-less loop-again returns)

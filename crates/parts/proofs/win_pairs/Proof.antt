@@ -2,27 +2,25 @@
 use Prim.Native.Nat.{_-_}
 use Rattle.arena.specs.Rows.{pairAt}
 use Rattle.cpl.specs.Read.{ok}
-use Rattle.lookup.specs.Fields.{rowAt}
 use Rattle.parts.proofs.Strides.{Strode, all-here, strode-all, strode-more, strode-none}
 use Rattle.parts.specs.Parts.{WinInside}
 use Rattle.tree.proofs.Plans.{taken}
 use Rattle.tree.specs.Rows.{listAt, winSize}
-use mathlib.Core.List.{_++_}
 use mathlib.Core.Path.{_∙_}
 use native.Mathlib.Omega.{arith}
 use Rattle.parts.proofs.win_pairs.Statement.{statement}
 use Rattle.parts.proofs.win_pairs.Tie as tie
 
 abbrev Inv-loop : tie.InvT-loop
-Inv-loop fields₀ k at rows first n row₀ i₀ fields row i = Strode (WinInside rows) (pairAt rows) (winSize rows) n k at row i (rowAt fields₀ k at ++ listAt (pairAt rows) (winSize rows) first n) fields₀ fields
+Inv-loop fields₀ to rows first n row₀ i₀ fields row i = Strode (WinInside rows) (pairAt rows) (winSize rows) n to row i (listAt (pairAt rows) (winSize rows) first n) fields₀ fields
 
 abbrev μ-loop : tie.MeasureT-loop
-μ-loop fields₀ k at rows first n row₀ i₀ fields row i = n - i
+μ-loop fields₀ to rows first n row₀ i₀ fields row i = n - i
 
 loop-holds : tie.Need-loop-holds Inv-loop μ-loop
 loop-holds c =
     let pre = c .before .before .pre in
-    strode-none _ _ _ _ _ _ _ _ (pre .2)
+    strode-none _ _ _ _ _ _ _ (pre .1)
 
 win-at-requires : tie.Need-win-at-requires Inv-loop μ-loop
 win-at-requires c κs =
@@ -30,29 +28,17 @@ win-at-requires c κs =
     let loop-test = c .loop-test in
     all-here _ _ _ _ _ (loop .inv .ok) (loop-test .taken)
 
-mul-put-field : tie.Need-mul-put-field Inv-loop μ-loop
-mul-put-field c =
-    let pre = c .before .before .before .before .before .before .pre in
-    let loop = c .before .before .before .loop in
-    omega (arith, pre .0, pre .1, loop .inv .filling .kept .long)
-
 add-put-field : tie.Need-add-put-field Inv-loop μ-loop
 add-put-field c =
     let pre = c .before .before .before .before .before .before .pre in
     let loop = c .before .before .before .loop in
-    omega (arith, pre .0, pre .1, loop .inv .filling .kept .long)
-
-add-put-field-2 : tie.Need-add-put-field-2 Inv-loop μ-loop
-add-put-field-2 c =
-    let pre = c .before .before .before .before .before .before .pre in
-    let loop = c .before .before .before .loop in
-    omega (arith, pre .0, pre .1, loop .inv .filling .kept .long)
+    omega (arith, pre .0, loop .inv .filling .kept .long)
 
 put-field-requires : tie.Need-put-field-requires Inv-loop μ-loop
 put-field-requires c κs =
     let pre = c .before .before .before .before .before .before .pre in
     let loop = c .before .before .before .loop in
-    omega (arith, pre .0, pre .1, loop .inv .filling .kept .long)
+    omega (arith, pre .0, loop .inv .filling .kept .long)
 
 add-i : tie.Need-add-i Inv-loop μ-loop
 add-i c = omega arith
@@ -67,7 +53,7 @@ loop-again c =
     let pre = c .before .before .before .before .before .before .before .before .before .pre in
     let put-field = c .before .before .put-field in
     let win-at = c .before .before .before .before .win-at in
-    strode-more _ _ _ _ _ _ _ _ (loop .inv) (loop-test .taken) (pre .0) (put-field .ensures .0 ∙ win-at .ensures .pair-is) (put-field .ensures .1) (win-at .ensures .next-is)
+    strode-more _ _ _ _ _ _ _ (loop .inv) (loop-test .taken) (put-field .ensures .0 ∙ win-at .ensures .pair-is) (put-field .ensures .1) (win-at .ensures .next-is)
 
 same-length : tie.Need-same-length Inv-loop μ-loop
 same-length c =
@@ -78,7 +64,7 @@ returns : tie.Need-returns Inv-loop μ-loop
 returns c =
     let loop = c .before .loop in
     let loop-test = c .loop-test in
-    strode-all _ _ _ _ _ _ _ _ (loop .inv) (loop-test .left)
+    strode-all _ _ _ _ _ _ _ (loop .inv) (loop-test .left)
 
 pub win-pairs-spec : {M : Type 1} → statement M
-win-pairs-spec = tie.close (tie.spec Inv-loop μ-loop loop-holds win-at-requires mul-put-field add-put-field add-put-field-2 put-field-requires add-i loop-less loop-again same-length returns)
+win-pairs-spec = tie.close (tie.spec Inv-loop μ-loop loop-holds win-at-requires add-put-field put-field-requires add-i loop-less loop-again same-length returns)

@@ -1,7 +1,7 @@
 -- `predicate_writer::write_keys` meets its contract: the pairs are written as the rows of a join's list. Assumes nothing.
 use Rattle.join_keys.specs.Entries.{result}
 use Rattle.answers.proofs.Ends.{no-room}
-use Rattle.predicate_writer.proofs.Ends.{few-taken, narrow, rows-bytes, rows-countable, rows-fine, written-out}
+use Rattle.predicate_writer.proofs.Ends.{narrow, rows-bytes, rows-countable, rows-fine, written-out}
 use Rattle.tree.proofs.Plans.{taken}
 use Rattle.writer_parts.proofs.Over.{so}
 use borrow.Author.Needs.{needs}
@@ -48,10 +48,9 @@ write-counted-requires c κs =
     let rows-of = c .before .before .before .before .before .before .before .before .rows-of in
     let pre = c .before .before .before .before .before .before .before .before .before .before .before .before .before .before .pre in
     let rows = c .before .before .before .before .before .before .before .rows in
-    let args = c .before .before .before .before .before .before .before .before .before .before .before .before .before .before .args in
     let counted-size = c .before .before .before .counted-size in
     let if1 = c .before .before .if1 in
-    (rows-fine _ (everything .result) (everything .ensures) (rows-of .ensures) (pre .0 .0) (omega (arith, pre .0, rows)) (pre .1 .0), (few-taken (args .cells .now) (everything .result) (everything .ensures) (rows-of .ensures) (pre .0 .0), omega (arith, counted-size .ensures .bytes-are, if1 .left)))
+    (rows-fine _ (everything .result) (everything .ensures) (rows-of .ensures) (pre .0 .0) (omega (arith, pre .0, rows)) (pre .1 .0), omega (arith, counted-size .ensures .bytes-are, if1 .left))
 
 same-length-2 : tie.Need-same-length-2
 same-length-2 c = search needs

@@ -9,10 +9,10 @@ use Rattle.projections.proofs.is_projection_unnecessary.Statement.{stat
 use Rattle.projections.proofs.is_projection_unnecessary.Tie as tie
 
 abbrev Inv-loop : tie.InvT-loop
-Inv-loop fields top width kept k input-width input-kept from₀ at₀ from at = Alike fields top width kept k input-width input-kept from at
+Inv-loop fields start width kept lower input-width input-kept from₀ at₀ from at = Alike fields start width kept lower input-width input-kept from at
 
 abbrev μ-loop : tie.MeasureT-loop
-μ-loop fields top width kept k input-width input-kept from₀ at₀ from at = width - from
+μ-loop fields start width kept lower input-width input-kept from₀ at₀ from at = width - from
 
 loop-holds : tie.Need-loop-holds Inv-loop μ-loop
 loop-holds c =
@@ -76,13 +76,6 @@ returns-3 c =
     let enum-told4 = c .enum-told4 in
     second-ends _ _ _ _ (pre .0) _ _ _ (pre .1) _ _ (loop .inv) (next .result) (next .ensures) (next3 .result) (next3 .ensures) _ (i .given .1) (enum-told4 .given .1)
 
-mul-field-at : tie.Need-mul-field-at Inv-loop μ-loop
-mul-field-at c =
-    let pre = c .before .before .before .before .before .before .before .before .before .before .pre in
-    let next = c .before .before .before .before .before .before .before .next in
-    let i = c .before .before .before .before .before .i in
-    omega (arith, pre .0 .inside, found _ _ (pre .0 .within) _ (next .result) (next .ensures) _ (i .given .1))
-
 add-field-at : tie.Need-add-field-at Inv-loop μ-loop
 add-field-at c =
     let pre = c .before .before .before .before .before .before .before .before .before .before .pre in
@@ -96,13 +89,6 @@ field-at-requires c κs =
     let next = c .before .before .before .before .before .before .before .next in
     let i = c .before .before .before .before .before .i in
     omega (arith, pre .0 .inside, found _ _ (pre .0 .within) _ (next .result) (next .ensures) _ (i .given .1))
-
-mul-field-at-2 : tie.Need-mul-field-at-2 Inv-loop μ-loop
-mul-field-at-2 c =
-    let pre = c .before .before .before .before .before .before .before .before .before .before .before .pre in
-    let next3 = c .before .before .before .before .next3 in
-    let j = c .before .before .j in
-    omega (arith, pre .1 .inside, found _ _ (pre .1 .within) _ (next3 .result) (next3 .ensures) _ (j .given .1))
 
 add-field-at-2 : tie.Need-add-field-at-2 Inv-loop μ-loop
 add-field-at-2 c =
@@ -166,4 +152,4 @@ loop-again c =
     alike-more _ _ _ _ (pre .0) _ _ _ (pre .1) _ _ (loop .inv) (next .result) (next .ensures) (next3 .result) (next3 .ensures) _ (i .given .1) _ (j .given .1) (field-at .ensures) (field-at2 .ensures) (not-false _ (if1 .left))
 
 pub is-projection-unnecessary-spec : {M : Type 1} → statement M
-is-projection-unnecessary-spec = tie.close (tie.spec Inv-loop μ-loop loop-holds next-requires enum-known-i enum-told next-requires-2 enum-told-2 enum-told-3 returns returns-2 next-requires-3 enum-known-j enum-told-4 returns-3 mul-field-at add-field-at field-at-requires mul-field-at-2 add-field-at-2 field-at-requires-2 returns-4 add-from add-at loop-less loop-again)
+is-projection-unnecessary-spec = tie.close (tie.spec Inv-loop μ-loop loop-holds next-requires enum-known-i enum-told next-requires-2 enum-told-2 enum-told-3 returns returns-2 next-requires-3 enum-known-j enum-told-4 returns-3 add-field-at field-at-requires add-field-at-2 field-at-requires-2 returns-4 add-from add-at loop-less loop-again)

@@ -4,6 +4,7 @@ use borrow.Author.Needs.{needs}
 use native.Mathlib.Omega.{arith}
 use mathlib.Core.Path.{_∙_}
 use Rattle.reader.proofs.Names.{tables-none, tables-bad, tables-right}
+use Rattle.versions.specs.Versions.{versionOf}
 use borrow.Fn.Kinds.{In}
 use borrow.Fn.PlainCycle.{Measures, is, falls, and}
 use Rattle.reader.proofs.read_tables.Reads as read-tables
@@ -27,7 +28,7 @@ module _ (t : ℕ) where
   returns : lts.Need-returns (callees t) (given t) read-tables.Post
   returns c =
       let if1 = c .if1 in
-      tables-none _ _ _ _ _ (if1 .taken)
+      tables-none (versionOf (c .before .before .before .args .version)) _ _ _ _ _ (if1 .taken)
 
   read-table-requires : lts.Need-read-table-requires (callees t) (given t) read-tables.Post
   read-table-requires c κs =
@@ -50,7 +51,7 @@ module _ (t : ℕ) where
       let args = c .before .before .before .before .before .before .before .before .before .args in
       let if1 = c .before .before .before .before .before .before .if1 in
       let read-table = c .before .before .before .before .read-table in
-      rw (enum-told .given .1) (tables-bad _ _ _ (args .t) (if1 .left) (rw (enum-told .given .1) at (read-table .ensures)))
+      rw (enum-told .given .1) (tables-bad (versionOf (c .before .before .before .before .before .before .before .before .before .args .version)) _ _ _ (args .t) (if1 .left) (rw (enum-told .given .1) at (read-table .ensures)))
 
   sub-read-tables : lts.Need-sub-read-tables (callees t) (given t) read-tables.Post
   sub-read-tables c = search needs
@@ -73,7 +74,7 @@ module _ (t : ℕ) where
       let first = c .before .before .before .before .before .first in
       let read-table = c .before .before .before .before .before .before .before .before .before .read-table in
       let read-tables = c .before .before .read-tables in
-      tables-right _ _ _ _ (if1 .left) _ _ _ _ (rw (first .given .1) at (read-table .ensures)) (read-tables .result) (read-tables .ensures)
+      tables-right (versionOf (c .before .before .before .before .before .before .before .before .before .before .before .before .before .before .args .version)) _ _ _ _ (if1 .left) (c .before .before .before .before .before .before .before .before .before .before .before .before .before .before .pre .1 .2) _ _ _ _ (rw (first .given .1) at (read-table .ensures)) (read-tables .result) (read-tables .ensures)
 
 pub +read-tables-spec : {M : Type 1} → statement M
 +read-tables-spec = close μ λ t.

@@ -6,6 +6,7 @@ use lib.ListN.{length-set}
 use Rattle.cpl.specs.Read.{any, nonzero}
 use Rattle.reader_parts.proofs.Counts.{from-any}
 use Rattle.reader_parts.proofs.Parts.{list-bad}
+use Rattle.versions.specs.Versions.{versionOf}
 use Rattle.reader.proofs.Names.{table-right}
 use Rattle.reader.proofs.read_table.Statement.{statement}
 use Rattle.reader.proofs.read_table.Tie as tie
@@ -50,7 +51,7 @@ returns : tie.Need-returns
 returns c =
     let count = c .before .count in
     let read-count = c .before .before .before .read-count in
-    λ tags n. list-bad any 64 (nonzero 2) _ _ tags (rw (count .given .1) at (read-count .ensures any from-any)) n
+    λ tags n. list-bad (c .before .before .before .before .before .before .args .version .wide) any (c .before .before .before .before .before .before .args .version .columns) (nonzero 2) _ _ tags (rw (count .given .1) at (read-count .ensures any from-any)) n
 
 same-length : tie.Need-same-length
 same-length c =
@@ -64,7 +65,7 @@ returns-2 c =
     let pre = c .before .before .before .before .before .before .before .before .before .before .pre in
     let read-names = c .before .before .read-names in
     let e = rw (count2 .given .1) at (read-count .ensures any from-any) in
-    table-right _ _ _ _ (e .0) (omega (arith, pre)) _ (read-names .result) (read-names .ensures)
+    table-right (versionOf (c .before .before .before .before .before .before .before .before .before .before .args .version)) _ _ _ _ (e .0) (omega (arith, pre)) _ (read-names .result) (read-names .ensures)
 
 pub read-table-spec : {M : Type 1} → statement M
 read-table-spec = tie.close (tie.spec read-count-requires enum-known-count enum-known-count-2 mul-base cast-names mul-names slice-write-names add-read-names read-names-requires returns same-length returns-2)

@@ -26,8 +26,8 @@ enum-known-groups-2 c = search needs
 flag-requires : tie.Need-flag-requires
 flag-requires c κs = search needs
 
-sub-read-list : tie.Need-sub-read-list
-sub-read-list c = search needs
+sub-least : tie.Need-sub-least
+sub-least c = search needs
 
 read-list-requires-2 : tie.Need-read-list-requires-2
 read-list-requires-2 c κs =
@@ -36,7 +36,7 @@ read-list-requires-2 c κs =
     let pre = c .before .before .before .before .before .before .before .before .before .before .before .before .before .before .before .before .pre in
     let a = rw (groups2 .given .1) at (read-list .ensures any from-any) in
     let g = a 0 in
-    omega (arith, g .made-is, g .row-is, g .grown, g .few, all-one itemStore (λ x. refl) (g .value), counted-few _ _ _ _ _ _ _ (g .is), pre)
+    omega (arith, g .made-is, g .row-is, g .grown, g .few, all-one itemStore (λ x. refl) (g .value), counted-few _ _ _ _ _ _ _ _ (g .is), pre)
 
 enum-known-values : tie.Need-enum-known-values
 enum-known-values c = search needs
@@ -44,16 +44,16 @@ enum-known-values c = search needs
 enum-known-values-2 : tie.Need-enum-known-values-2
 enum-known-values-2 c = search needs
 
-sub-t27 : tie.Need-sub-t27
-sub-t27 c =
+sub-t30 : tie.Need-sub-t30
+sub-t30 c =
     let groups2 = c .before .before .before .before .before .before .before .before .before .before .before .before .before .before .groups2 in
     let read-list = c .before .before .before .before .before .before .before .before .before .before .before .before .before .before .before .before .before .before .before .before .read-list in
     let a = rw (groups2 .given .1) at (read-list .ensures any from-any) in
     let g = a 0 in
     omega (arith, g .row-is)
 
-sub-t29 : tie.Need-sub-t29
-sub-t29 c =
+sub-t32 : tie.Need-sub-t32
+sub-t32 c =
     let values2 = c .before .before .before .before .before .values2 in
     let read-list2 = c .before .before .before .before .before .before .before .before .before .before .before .read-list2 in
     let flag = c .before .before .before .before .before .before .before .before .before .before .before .before .before .before .flag in
@@ -93,7 +93,7 @@ same-length-5 : tie.Need-same-length-5
 same-length-5 c =
     let read-list2 = c .before .before .before .before .before .before .before .before .before .before .before .read-list2 in
     let read-list = c .before .before .before .before .before .before .before .before .before .before .before .before .before .before .before .before .before .before .before .before .before .before .read-list in
-    read-list2 .kept .1 .1 .1 .1 .1 .0 ∙ read-list .kept .1 .1 .1 .1 .1 .0
+    read-list2 .kept .1 .1 .1 .1 .1 .1 .0 ∙ read-list .kept .1 .1 .1 .1 .1 .1 .0
 
 same-length-6 : tie.Need-same-length-6
 same-length-6 c = search needs
@@ -110,4 +110,4 @@ returns-3 c =
     (_, aggregate-took _ _ _ _ _ _ _ _ _ _ n _ _ _ _ refl refl a (rw (values2 .given .1) at (read-list2 .ensures (NotBoth (length (a .value))) from) n))
 
 pub read-aggregate-spec : {M : Type 1} → statement M
-read-aggregate-spec = tie.close (tie.spec read-list-requires enum-known-groups enum-known-groups-2 flag-requires sub-read-list read-list-requires-2 enum-known-values enum-known-values-2 sub-t27 sub-t29 same-length same-length-2 returns same-length-3 same-length-4 returns-2 same-length-5 same-length-6 returns-3)
+read-aggregate-spec = tie.close (tie.spec read-list-requires enum-known-groups enum-known-groups-2 flag-requires sub-least read-list-requires-2 enum-known-values enum-known-values-2 sub-t30 sub-t32 same-length same-length-2 returns same-length-3 same-length-4 returns-2 same-length-5 same-length-6 returns-3)

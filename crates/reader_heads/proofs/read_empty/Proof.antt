@@ -27,8 +27,8 @@ enum-known-list c = search needs
 enum-known-list-2 : tie.Need-enum-known-list-2
 enum-known-list-2 c = search needs
 
-sub-t22 : tie.Need-sub-t22
-sub-t22 c =
+sub-t25 : tie.Need-sub-t25
+sub-t25 c =
     let list2 = c .before .before .before .list2 in
     let read-list = c .before .before .before .before .before .before .before .before .before .read-list in
     let a = rw (list2 .given .1) at (read-list .ensures any from-any) 0 in
@@ -72,4 +72,4 @@ returns-3 c =
     (_, empty-took _ _ _ _ _ _ _ _ n _ (e .0 .0 _ n) (e .0 .1) _ refl (moved (listStore pairStore) (args .s) _ _ _ _ _ n _ (rw (list2 .given .1) at (read-list .ensures any from-any) n)))
 
 pub read-empty-spec : {M : Type 1} → statement M
-read-empty-spec = tie.close (tie.spec read-below-requires enum-known-row enum-known-row-2 read-list-requires enum-known-list enum-known-list-2 sub-t22 returns same-length same-length-2 returns-2 same-length-3 same-length-4 returns-3)
+read-empty-spec = tie.close (tie.spec read-below-requires enum-known-row enum-known-row-2 read-list-requires enum-known-list enum-known-list-2 sub-t25 returns same-length same-length-2 returns-2 same-length-3 same-length-4 returns-3)

@@ -17,8 +17,8 @@ enum-known-list c = search needs
 enum-known-list-2 : tie.Need-enum-known-list-2
 enum-known-list-2 c = search needs
 
-sub-t15 : tie.Need-sub-t15
-sub-t15 c =
+sub-t18 : tie.Need-sub-t18
+sub-t18 c =
     let list2 = c .before .before .before .list2 in
     let read-list = c .before .before .before .before .before .before .before .before .before .read-list in
     let a = rw (list2 .given .1) at (read-list .ensures any from-any) 0 in
@@ -49,4 +49,4 @@ returns-2 c =
     λ C place n. (_, projection-took _ _ _ _ _ _ _ _ n _ _ refl (rw (list2 .given .1) at (read-list .ensures any from-any) n))
 
 pub read-projection-spec : {M : Type 1} → statement M
-read-projection-spec = tie.close (tie.spec read-list-requires enum-known-list enum-known-list-2 sub-t15 same-length same-length-2 returns same-length-3 same-length-4 returns-2)
+read-projection-spec = tie.close (tie.spec read-list-requires enum-known-list enum-known-list-2 sub-t18 same-length same-length-2 returns same-length-3 same-length-4 returns-2)

@@ -8,6 +8,7 @@ use mathlib.Core.List.{[]}
 use Rattle.cpl.specs.Read.{below}
 use Rattle.reader_heads.specs.Heads.{scanRest}
 use Rattle.reader_heads.proofs.Heads.{head-moved, scan-bad, scan-bad-name, scan-on}
+use Rattle.versions.specs.Versions.{versionOf}
 use Rattle.reader_heads.proofs.read_scan.Statement.{statement}
 use Rattle.reader_heads.proofs.read_scan.Tie as tie
 
@@ -58,10 +59,10 @@ cast-columns c =
     let shared-slice-known3 = c .shared-slice-known3 in
     let table2 = c .before .before .before .before .before .before .table2 in
     let shared-slice-known2 = c .before .before .before .before .before .before .before .before .before .before .before .shared-slice-known2 in
-    omega (arith, shared-slice-known3 .given (65 * table2 .given .0 .0), shared-slice-known2 .given (65 * table2 .given .0 .0))
+    omega (arith, shared-slice-known3 .given (513 * table2 .given .0 .0), shared-slice-known2 .given (513 * table2 .given .0 .0))
 
-read-columns-requires : tie.Need-read-columns-requires
-read-columns-requires c κs = search needs
+read-over-requires : tie.Need-read-over-requires
+read-over-requires c κs = search needs
 
 returns : tie.Need-returns
 returns c =
@@ -94,10 +95,10 @@ returns-3 c =
     let name2 = c .before .before .before .before .before .before .before .before .before .name2 in
     let read-name = c .before .before .before .before .before .before .before .before .before .before .before .read-name in
     let args = c .before .before .before .before .before .before .before .before .before .before .before .before .before .before .before .before .before .before .before .before .args in
-    let read-columns = c .before .before .before .before .read-columns in
+    let read-over = c .before .before .before .before .read-over in
     λ C wide place n. let e = rw (table2 .given .1) at (read-below .ensures) in
     let f = rw (name2 .given .1) at (read-name .ensures) in
-    head-moved 11 (args .s) _ _ _ _ _ n (read-columns .result) (scan-on _ _ _ _ _ n (rw (← (wide .count)) at (e .0 .0 (args .s .tags) n)) (f .0 _ n) (wide .columns _ (e .0 .1))) (read-columns .ensures n)
+    head-moved (versionOf (args .version)) 11 (args .s) _ _ _ _ _ n (read-over .result) (scan-on _ _ _ _ _ n (rw (← (wide .count)) at (e .0 .0 (args .s .tags) n)) (f .0 _ n) (wide .columns _ (e .0 .1))) (read-over .ensures n)
 
 pub read-scan-spec : {M : Type 1} → statement M
-read-scan-spec = tie.close (tie.spec read-below-requires enum-known-table enum-known-table-2 read-name-requires enum-known-name enum-known-name-2 mul-base mul-columns shared-slice-read-columns cast-columns read-columns-requires returns returns-2 same-length same-length-2 returns-3)
+read-scan-spec = tie.close (tie.spec read-below-requires enum-known-table enum-known-table-2 read-name-requires enum-known-name enum-known-name-2 mul-base mul-columns shared-slice-read-columns cast-columns read-over-requires returns returns-2 same-length same-length-2 returns-3)

@@ -31,7 +31,7 @@ returns c =
     let args = c .before .before .before .before .before .before .before .args in
     let count = c .before .count in
     let read-count = c .before .before .before .read-count in
-    λ allowed from. list-bad allowed _ (readerOf (args .kind)) _ _ _ (rw (count .given .1) at (read-count .ensures allowed from))
+    λ allowed from. list-bad _ allowed _ (readerOf (args .kind)) _ _ _ (rw (count .given .1) at (read-count .ensures allowed from))
 
 same-length : tie.Need-same-length
 same-length c = search needs
@@ -46,7 +46,7 @@ returns-2 c =
     let args = c .before .before .before .before .before .before .before .before .before .before .before .before .before .before .args in
     let read-parts = c .before .before .before .before .read-parts in
     λ allowed from. let e = rw (count2 .given .1) at (read-count .ensures allowed from) in
-    list-right allowed _ (readerOf (args .kind)) _ (storeOf (args .kind)) _ (e .0) _ _ _ _ (read-parts .result) (read-parts .ensures)
+    list-right _ allowed _ (readerOf (args .kind)) _ (storeOf (args .kind)) _ (e .0) _ _ _ _ (read-parts .result) (read-parts .ensures)
 
 pub read-list-spec : {M : Type 1} → statement M
 read-list-spec = tie.close (tie.spec read-count-requires enum-known-count enum-known-count-2 read-parts-requires returns same-length same-length-2 returns-2)

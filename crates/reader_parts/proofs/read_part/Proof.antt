@@ -44,7 +44,10 @@ enum-known-kind : tie.Need-enum-known-kind
 enum-known-kind c = search needs
 
 read-index-requires : tie.Need-read-index-requires
-read-index-requires c κs = search needs
+read-index-requires c κs =
+    let kind = c .before .before .kind in
+    let pre = c .before .before .before .before .before .before .before .pre in
+    omega (arith, pre, rw (kind .given .1) at (pre .4))
 
 same-length : tie.Need-same-length
 same-length c = search needs

@@ -36,8 +36,8 @@ abbrev callees : ℕ → lts.Claims
 callees t = (node-at-reads.Asked, node-at-reads.Learnt, first-fit-reads.Asked, first-fit-reads.Learnt, with-index-reads.Asked, with-index-reads.Learnt, and 2 add-expr-kinds.ps (falls 2 add-expr-kinds.ps _<_ μ t) add-expr.Pre, add-expr.Post)
 
 -- a field's index is one of a set
-place-fits : {fields : List ℕ} {k width : ℕ} (c : Pair) (i : ℕ) → Below fields k width → some i ≡ find c (rowAt fields k width) → i < 128
-place-fits {fields} {k} {width} c i b e = omega (arith, b .few, found-below c (rowAt fields k width) i (sym e), list-length (fieldAt fields) one (k * 128) width)
+place-fits : {fields : List ℕ} {start width : ℕ} (c : Pair) (i : ℕ) → Below fields start width → some i ≡ find c (rowAt fields start width) → i < 512
+place-fits {fields} {start} {width} c i b e = omega (arith, b .few, found-below c (rowAt fields start width) i (sym e), list-length (fieldAt fields) one start width)
 
 module _ (t : ℕ) where
   node-at-requires : lts.Need-node-at-requires (callees t) (given t) add-expr.Post
@@ -47,11 +47,6 @@ module _ (t : ℕ) where
 
   enum-known-v : lts.Need-enum-known-v (callees t) (given t) add-expr.Post
   enum-known-v c = search needs
-
-  mul-first-fit : lts.Need-mul-first-fit (callees t) (given t) add-expr.Post
-  mul-first-fit c =
-      let pre = c .before .before .before .before .before .before .pre in
-      omega (arith, pre .1 .1 .inside)
 
   first-fit-requires : lts.Need-first-fit-requires (callees t) (given t) add-expr.Post
   first-fit-requires c κs =
@@ -154,4 +149,4 @@ module _ (t : ℕ) where
 pub +add-expr-spec : {M : Type 1} → statement M
 +add-expr-spec = close μ λ t.
     lts.spec (callees t) (given t) add-expr.Post
-    (node-at-requires t) (enum-known-v t) (mul-first-fit t) (first-fit-requires t) (enum-known-f t) (enum-told t) (returns t) (with-index-requires t) (enum-told-2 t) (enum-told-3 t) (enum-known-v-2 t) (add-expr-requires t) (enum-known-v-3 t) (add-expr-requires-2 t) (add-expr-requires-3 t) (returns-2 t) (returns-3 t) (returns-4 t) (returns-5 t) (returns-6 t)
+    (node-at-requires t) (enum-known-v t) (first-fit-requires t) (enum-known-f t) (enum-told t) (returns t) (with-index-requires t) (enum-told-2 t) (enum-told-3 t) (enum-known-v-2 t) (add-expr-requires t) (enum-known-v-3 t) (add-expr-requires-2 t) (add-expr-requires-3 t) (returns-2 t) (returns-3 t) (returns-4 t) (returns-5 t) (returns-6 t)

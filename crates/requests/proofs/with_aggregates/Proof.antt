@@ -16,11 +16,11 @@ use Rattle.requests.proofs.with_aggregates.Statement.{statement}
 use Rattle.requests.proofs.with_aggregates.Tie as tie
 
 abbrev Inv-loop : tie.InvT-loop
-Inv-loop rows first count cells kept fields k width out₀ i₀ out i =
-    Picked (concatMap aggExprs (select (requestMask count kept) (aggsAt rows cells first count))) aggExprs count (setOf kept) (rowAt fields k width) out₀ i (rest (aggAt rows cells) first count i) out
+Inv-loop rows first count cells kept fields start width out₀ i₀ out i =
+    Picked (concatMap aggExprs (select (requestMask count kept) (aggsAt rows cells first count))) aggExprs count (setOf kept) (rowAt fields start width) out₀ i (rest (aggAt rows cells) first count i) out
 
 abbrev μ-loop : tie.MeasureT-loop
-μ-loop rows first count cells kept fields k width out₀ i₀ out i = count - i
+μ-loop rows first count cells kept fields start width out₀ i₀ out i = count - i
 
 loop-holds : tie.Need-loop-holds Inv-loop μ-loop
 loop-holds c =

@@ -17,11 +17,11 @@ use Rattle.requests.proofs.with_items.Statement.{statement}
 use Rattle.requests.proofs.with_items.Tie as tie
 
 abbrev Inv-loop : tie.InvT-loop
-Inv-loop items first count cells kept fields k width out₀ i₀ out i =
-    Picked (map itemExpr (select (requestMask count kept) (itemsAt items cells first count))) itemOnly count (setOf kept) (rowAt fields k width) out₀ i (rest (itemAt items cells) first count i) out
+Inv-loop items first count cells kept fields start width out₀ i₀ out i =
+    Picked (map itemExpr (select (requestMask count kept) (itemsAt items cells first count))) itemOnly count (setOf kept) (rowAt fields start width) out₀ i (rest (itemAt items cells) first count i) out
 
 abbrev μ-loop : tie.MeasureT-loop
-μ-loop items first count cells kept fields k width out₀ i₀ out i = count - i
+μ-loop items first count cells kept fields start width out₀ i₀ out i = count - i
 
 loop-holds : tie.Need-loop-holds Inv-loop μ-loop
 loop-holds c = picked-none (items-picked _ _ _ _ _)

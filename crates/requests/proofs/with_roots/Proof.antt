@@ -9,10 +9,10 @@ use Rattle.requests.proofs.with_roots.Statement.{statement}
 use Rattle.requests.proofs.with_roots.Tie as tie
 
 abbrev Inv-loop : tie.InvT-loop
-Inv-loop rows first count at cells fields k width out₀ i₀ out i = Rooted rows cells at first count (rowAt fields k width) out₀ i out
+Inv-loop rows first count at cells fields start width out₀ i₀ out i = Rooted rows cells at first count (rowAt fields start width) out₀ i out
 
 abbrev μ-loop : tie.MeasureT-loop
-μ-loop rows first count at cells fields k width out₀ i₀ out i = count - i
+μ-loop rows first count at cells fields start width out₀ i₀ out i = count - i
 
 loop-holds : tie.Need-loop-holds Inv-loop μ-loop
 loop-holds c = rooted-none _ _ _ _ _

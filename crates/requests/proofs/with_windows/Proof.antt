@@ -15,12 +15,12 @@ use Rattle.requests.proofs.with_windows.Statement.{statement}
 use Rattle.requests.proofs.with_windows.Tie as tie
 
 abbrev Inv-loop : tie.InvT-loop
-Inv-loop rows first count cells kept fields k width out₀ at₀ i₀ out at i =
-    Picked (concatMap winExprs (select (requestMask count kept) (winsAt rows cells first count))) winExprs count (setOf kept) (rowAt fields k width) out₀ i (winsAt rows cells at (count - i)) out
+Inv-loop rows first count cells kept fields start width out₀ at₀ i₀ out at i =
+    Picked (concatMap winExprs (select (requestMask count kept) (winsAt rows cells first count))) winExprs count (setOf kept) (rowAt fields start width) out₀ i (winsAt rows cells at (count - i)) out
     × AllAt (WinOk rows cells) (winSize rows) at (count - i)
 
 abbrev μ-loop : tie.MeasureT-loop
-μ-loop rows first count cells kept fields k width out₀ at₀ i₀ out at i = count - i
+μ-loop rows first count cells kept fields start width out₀ at₀ i₀ out at i = count - i
 
 loop-holds : tie.Need-loop-holds Inv-loop μ-loop
 loop-holds c =

@@ -5,7 +5,7 @@ use Prim.Native.Nat.{_*_}
 use mathlib.Core.Path.{_≡_, refl, ap, _∙_}
 use lib.ListN.{length, length-set}
 use Rattle.required_indices.specs.Request.{wordsN}
-use Rattle.result.proofs.Forms.{stored}
+use Rattle.result.proofs.Forms.{record-stored}
 use Rattle.result.proofs.put_record.Statement.{statement}
 use Rattle.result.proofs.put_record.Tie as tie
 
@@ -62,7 +62,7 @@ returns c =
     let store = c .before .before .store in
     let a = args in
     let long : length (a .set .indices) ≡ wordsN = search needs in
-    stored (a .records .now) (a .i * 6) (a .form) (a .old) (a .first) (a .second) (a .set) long (search needs) (a .i) refl _ (store .ensures)
+    record-stored (a .records .now) (a .i * 13) (a .form) (a .old) (a .first) (a .second) (a .set) long (search needs) (a .i) refl _ (store .ensures)
 
 pub put-record-spec : {M : Type 1} → statement M
 put-record-spec = tie.close (tie.spec mul-at mul-records slice-write-records add-records mul-records-2 slice-write-records-2 add-records-2 mul-records-3 slice-write-records-3 add-records-3 mul-records-4 slice-write-records-4 add-store store-requires same-length returns)

@@ -4,8 +4,7 @@ use Prim.Native.Nat.{ℕ, _*_, _^_, _<_}
 use native.Mathlib.Nat.{lt-of-le-of-lt, div-mul-le-self}
 use mathlib.Core.Path.{sym, subst}
 use Rattle.required_indices.specs.Request.{wordsN, setOf}
-use Rattle.required_indices.proofs.Places.{words}
-use Rattle.required_indices.proofs.Determined.{set-lt}
+use Rattle.required_indices.proofs.Places.{words, set-lt}
 use Rattle.sets_show.proofs.behind.Statement.{statement}
 use Rattle.sets_show.proofs.behind.Tie as tie
 

@@ -1,4 +1,4 @@
--- `sets_show::indices` meets its contract: the next index is below 128, so that the loop goes on behind it and ends.
+-- `sets_show::indices` meets its contract: the next index is below 512, so that the loop goes on behind it and ends.
 use borrow.Author.Needs.{needs}
 use native.Mathlib.Omega.{arith}
 use Prim.Native.Nat.{ℕ, _-_, _≤_, _<_}
@@ -10,20 +10,19 @@ use Rattle.required_indices.specs.Request.{wordsN, setOf, IsNext}
 use Rattle.required_indices.specs.declared.RequiredIndices.{RequiredIndices}
 use Rattle.required_indices.specs.declared.Next.{Next}
 use Rattle.required_indices.specs.declared.Next.the-variants.{At}
-use Rattle.required_indices.proofs.Places.{words}
-use Rattle.required_indices.proofs.Determined.{set-lt}
+use Rattle.required_indices.proofs.Places.{words, set-lt}
 use Rattle.required_indices.proofs.Walk.{next-ge, next-below}
 use Rattle.sets_show.proofs.indices.Statement.{statement}
 use Rattle.sets_show.proofs.indices.Tie as tie
 
-found : (r : RequiredIndices) → length (r .indices) ≡ wordsN → All Word (r .indices) → (at : ℕ) (out : Next) → IsNext (setOf r) at out → (i : ℕ) → out ≡ At i → (at ≤ i) × (i < 128)
-found r long hs at out g i e = (next-ge (setOf r) at out g i e, next-below (setOf r) at out g i e 128 (set-lt r long hs))
+found : (r : RequiredIndices) → length (r .indices) ≡ wordsN → All Word (r .indices) → (at : ℕ) (out : Next) → IsNext (setOf r) at out → (i : ℕ) → out ≡ At i → (at ≤ i) × (i < 512)
+found r long hs at out g i e = (next-ge (setOf r) at out g i e, next-below (setOf r) at out g i e 512 (set-lt r long hs))
 
 abbrev Inv-loop : tie.InvT-loop
-Inv-loop r at₀ t4 t5 at = at ≤ 128
+Inv-loop r at₀ t4 t5 at = at ≤ 512
 
 abbrev μ-loop : tie.MeasureT-loop
-μ-loop r at₀ t4 t5 at = 128 - at
+μ-loop r at₀ t4 t5 at = 512 - at
 
 loop-holds : tie.Need-loop-holds Inv-loop μ-loop
 loop-holds c = search needs

@@ -1,7 +1,6 @@
 -- `tree::win_at` meets its contract. Assumes nothing.
 use borrow.Author.Needs.{needs}
-use native.Mathlib.Omega.{arith}
-use Rattle.tree.proofs.Parts.{last-is, win-is}
+use Rattle.tree.proofs.Parts.{win-is}
 use Rattle.tree.proofs.win_at.Statement.{statement}
 use Rattle.tree.proofs.win_at.Tie as tie
 
@@ -14,42 +13,24 @@ add-mid c = search needs
 add-mid-2 : tie.Need-add-mid-2
 add-mid-2 c = search needs
 
-column-at-requires : tie.Need-column-at-requires
-column-at-requires c κs = search needs
-
-add-last : tie.Need-add-last
-add-last c = search needs
-
-add-last-2 : tie.Need-add-last-2
-add-last-2 c =
-    let row-at = c .before .row-at in
-    let column-at = c .column-at in
-    let pre = c .before .before .before .pre in
-    omega (arith, last-is (row-at .ensures) (column-at .ensures), pre)
-
 row-at-requires-2 : tie.Need-row-at-requires-2
-row-at-requires-2 c κs =
-    let row-at = c .before .row-at in
-    let column-at = c .column-at in
-    let pre = c .before .before .before .pre in
-    rw (last-is (row-at .ensures) (column-at .ensures)) (pre)
+row-at-requires-2 c κs = search needs
+
+add-key : tie.Need-add-key
+add-key c = search needs
+
+wide-requires : tie.Need-wide-requires
+wide-requires c κs = search needs
 
 add-t9 : tie.Need-add-t9
 add-t9 c = search needs
 
-add-t10 : tie.Need-add-t10
-add-t10 c =
-    let row-at = c .before .before .row-at in
-    let column-at = c .before .column-at in
-    let pre = c .before .before .before .before .pre in
-    omega (arith, last-is (row-at .ensures) (column-at .ensures), pre)
-
 returns : tie.Need-returns
 returns c =
     let row-at = c .before .before .row-at in
-    let column-at = c .before .column-at in
-    let row-at2 = c .row-at2 in
-    win-is (row-at .ensures) (column-at .ensures) (row-at2 .ensures)
+    let row-at2 = c .before .row-at2 in
+    let wide = c .wide in
+    win-is (row-at .ensures) (row-at2 .ensures) (wide .ensures)
 
 pub win-at-spec : {M : Type 1} → statement M
-win-at-spec = tie.close (tie.spec row-at-requires add-mid add-mid-2 column-at-requires add-last add-last-2 row-at-requires-2 add-t9 add-t10 returns)
+win-at-spec = tie.close (tie.spec row-at-requires add-mid add-mid-2 row-at-requires-2 add-key wide-requires add-t9 returns)

@@ -24,7 +24,7 @@ returns c =
     let all-bare = c .before .all-bare in
     let if1 = c .if1 in
     let js = keptItems (args .lrows .now) (args .lcells .now) (args .from) (args .size) (args .request) in
-    let fs = rowAt (args .fields .now) (args .k) (args .width) in
+    let fs = rowAt (args .fields .now) (args .start) (args .width) in
     columns-picked js fs (new .ensures) (with-items .ensures) (all-bare .ensures .is (args .lcells .now)) (if1 .taken)
 
 copy-kept-requires : tie.Need-copy-kept-requires
@@ -52,7 +52,7 @@ returns-2 c =
     let enum-told = c .enum-told in
     let copy-kept = c .before .before .before .before .before .before .copy-kept in
     let js = keptItems (args .lrows .now) (args .lcells .now) (args .from) (args .size) (args .request) in
-    let fs = rowAt (args .fields .now) (args .k) (args .width) in
+    let fs = rowAt (args .fields .now) (args .start) (args .width) in
     large-picked js fs (new .ensures) (with-items .ensures) (all-bare .ensures .is (args .lcells .now)) (if1 .left) _ (rw (enum-told .given .1) at (copy-kept .ensures))
 
 add-t27 : tie.Need-add-t27
@@ -78,7 +78,7 @@ returns-3 c =
     let if1 = c .before .before .before .before .before .before .before .before .before .before .if1 in
     let copy-kept = c .before .before .before .before .before .before .before .copy-kept in
     let js = keptItems (args .lrows .now) (args .lcells .now) (args .from) (args .size) (args .request) in
-    let fs = rowAt (args .fields .now) (args .k) (args .width) in
+    let fs = rowAt (args .fields .now) (args .start) (args .width) in
     items-picked js fs (new .ensures) (with-items .ensures) (all-bare .ensures .is (args .lcells .now)) (if1 .left) (rw (c .before .c .given .1) at (copy-kept .ensures))
 
 pub choose-spec : {M : Type 1} → statement M

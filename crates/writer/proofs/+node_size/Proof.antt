@@ -1,6 +1,5 @@
 -- The proof of the cycle of calls {node_size}. The measure is the record's number. Each way through is a law of `Plans`. Assumes nothing.
 use Prim.Native.Nat.{_<_, ℕ}
-use Rattle.lookup.proofs.Lists.{Asked}
 use Rattle.writer.proofs.Plans.{above-length, alone-length, countable, first-input, inside, one-counts, second-input, shaped, splits, taken, two-counts, two-sum}
 use borrow.Author.Needs.{needs}
 use mathlib.Core.Path.{_∙_, sym}
@@ -18,7 +17,7 @@ use Rattle.writer.proofs.+node_size.{statement}
 use Rattle.writer.proofs.+node_size.Tie.{close}
 
 abbrev μ : Measures 8 node-size-kinds.ps ℕ
-μ κs a = a .1 .1 .1 .1 .1 .1 .1 .1 .0
+μ κs a = a .1 .1 .1 .1 .1 .1 .1 .1 .1 .0
 
 -- what it is given at the measure t, and what its callees ask and give, itself below t
 abbrev given : ℕ → In 8 node-size-kinds.ps
@@ -32,7 +31,7 @@ module _ (t : ℕ) where
   shape-at-requires c κs =
       let pre = c .before .before .before .before .before .before .before .before .pre in
       let good = c .before .before .before .before .before .before .before .before .good in
-      (inside (pre .1), taken (pre .1) (omega (arith, good .1 .0 .0)))
+      (inside (pre .1), taken (pre .1) (omega (arith, good .1 .1 .0 .0)))
 
   head-size-requires : lts.Need-head-size-requires (callees t) (given t) node-size.Post
   head-size-requires c κs =
@@ -44,7 +43,7 @@ module _ (t : ℕ) where
   kids-requires c κs =
       let pre = c .before .before .before .before .before .before .before .before .before .before .pre in
       let good = c .before .before .before .before .before .before .before .before .before .before .good in
-      (inside (pre .1), taken (pre .1) (omega (arith, good .1 .0 .0)))
+      (inside (pre .1), taken (pre .1) (omega (arith, good .1 .1 .0 .0)))
 
   enum-known-inputs : lts.Need-enum-known-inputs (callees t) (given t) node-size.Post
   enum-known-inputs c = search needs

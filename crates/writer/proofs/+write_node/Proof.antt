@@ -1,6 +1,5 @@
 -- The proof of the cycle of calls {write_node}. The measure is the record's number. Each way through is a law of `Plans`. Assumes nothing.
 use Prim.Native.Nat.{_<_, ℕ}
-use Rattle.lookup.proofs.Lists.{Asked}
 use Rattle.writer.proofs.Plans.{above-length, alone-wrote, countable, first-input, head-le, inside, one-wrote, room-after, second-input, shaped, splits, taken, two-length, two-wrote}
 use borrow.Author.Needs.{needs}
 use mathlib.Core.Path.{_∙_, refl, sym}
@@ -17,7 +16,7 @@ use Rattle.writer.proofs.+write_node.{statement}
 use Rattle.writer.proofs.+write_node.Tie.{close}
 
 abbrev μ : Measures 9 write-node-kinds.ps ℕ
-μ κs a = a .1 .1 .1 .1 .1 .1 .1 .1 .0
+μ κs a = a .1 .1 .1 .1 .1 .1 .1 .1 .1 .0
 
 -- what it is given at the measure t, and what its callees ask and give, itself below t
 abbrev given : ℕ → In 9 write-node-kinds.ps
@@ -31,7 +30,7 @@ module _ (t : ℕ) where
   shape-at-requires c κs =
       let pre = c .before .before .before .before .before .before .before .before .before .pre in
       let good = c .before .before .before .before .before .before .before .before .before .good in
-      (inside (pre .1 .0), taken (pre .1 .0) (omega (arith, good .1 .0 .0)))
+      (inside (pre .1 .0), taken (pre .1 .0) (omega (arith, good .1 .1 .0 .0)))
 
   write-head-requires : lts.Need-write-head-requires (callees t) (given t) write-node.Post
   write-head-requires c κs =
@@ -43,7 +42,7 @@ module _ (t : ℕ) where
   kids-requires c κs =
       let pre = c .before .before .before .before .before .before .before .before .before .before .before .before .before .before .pre in
       let good = c .before .before .before .before .before .before .before .before .before .before .before .before .before .before .good in
-      (inside (pre .1 .0), taken (pre .1 .0) (omega (arith, good .1 .0 .0)))
+      (inside (pre .1 .0), taken (pre .1 .0) (omega (arith, good .1 .1 .0 .0)))
 
   enum-known-inputs : lts.Need-enum-known-inputs (callees t) (given t) write-node.Post
   enum-known-inputs c = search needs
@@ -187,8 +186,8 @@ module _ (t : ℕ) where
         omega (arith, pre .0, rw e at (o .second-below)),
         (
           second-input w e o,
-          room-after (write-head .last .1 .1 .1 .1 .1 .1 .1 .1 .0) (write-node .last .1 .1 .1 .1 .1 .1 .1 .1 .1 .0) (write-head .result) (write-node .result) _
-              (write-head .kept .1 .1 .1 .1 .1 .1 .1 .1 .0) (write-node .kept .1 .1 .1 .1 .1 .1 .1 .1 .1 .0) (omega (arith, pre .1 .1, two-length e o, l, m)),
+          room-after (write-head .last .1 .1 .1 .1 .1 .1 .1 .1 .0) (write-node .last .1 .1 .1 .1 .1 .1 .1 .1 .1 .1 .0) (write-head .result) (write-node .result) _
+              (write-head .kept .1 .1 .1 .1 .1 .1 .1 .1 .0) (write-node .kept .1 .1 .1 .1 .1 .1 .1 .1 .1 .1 .0) (omega (arith, pre .1 .1, two-length e o, l, m)),
         ),
       )
 

@@ -1,8 +1,12 @@
 -- `writer::empty_shape` meets its contract. Assumes nothing.
 use borrow.Author.Needs.{needs}
+use mathlib.Core.Path.{_∙_}
 use Rattle.cpl.specs.Codes.{bit}
 use Rattle.writer.proofs.empty_shape.Statement.{statement}
 use Rattle.writer.proofs.empty_shape.Tie as tie
+
+all-of-requires : tie.Need-all-of-requires
+all-of-requires c κs = search needs
 
 plain-requires : tie.Need-plain-requires
 plain-requires c κs = search needs
@@ -12,7 +16,8 @@ unfolding bit
 returns c =
     let if1 = c .before .if1 in
     let plain = c .plain in
-    rw (if1 .taken) (plain .ensures)
+    let all-of = c .before .before .all-of in
+    plain .ensures ∙ rw (if1 .taken, all-of .ensures)
 
 plain-requires-2 : tie.Need-plain-requires-2
 plain-requires-2 c κs = search needs
@@ -22,7 +27,8 @@ unfolding bit
 returns-2 c =
     let if1 = c .before .if1 in
     let plain2 = c .plain2 in
-    rw (if1 .left) (plain2 .ensures)
+    let all-of = c .before .before .all-of in
+    plain2 .ensures ∙ rw (if1 .left, all-of .ensures)
 
 pub empty-shape-spec : {M : Type 1} → statement M
-empty-shape-spec = tie.close (tie.spec plain-requires returns plain-requires-2 returns-2)
+empty-shape-spec = tie.close (tie.spec all-of-requires plain-requires returns plain-requires-2 returns-2)

@@ -22,7 +22,7 @@ shape-size-requires c κs =
     let set-at = c .before .before .before .set-at in
     let good = c .before .before .before .before .before .before .before .before .before .before .good in
     head-ready
-    (head-of pre _ (enum-told .given .1) (record-at .ensures) (set-at .ensures) (omega (arith, good .1 .1 .0 .0)) (omega (arith, good .1 .1 .1 .1 .1 .0 .0)))
+    (head-of pre _ (enum-told .given .1) (record-at .ensures) (set-at .ensures) (omega (arith, good .1 .1 .0 .0)) (omega (arith, good .1 .1 .1 .0 .0)) (omega (arith, good .1 .1 .1 .1 .1 .0 .0)))
     (head-countable (pre .writes))
 
 enum-told-2 : tie.Need-enum-told-2
@@ -36,7 +36,7 @@ shape-size-requires-2 c κs =
     let set-at = c .before .before .before .set-at in
     let good = c .before .before .before .before .before .before .before .before .before .before .good in
     head-ready
-    (head-of pre _ (enum-told2 .given .1) (record-at .ensures) (set-at .ensures) (omega (arith, good .1 .1 .0 .0)) (omega (arith, good .1 .1 .1 .1 .1 .0 .0)))
+    (head-of pre _ (enum-told2 .given .1) (record-at .ensures) (set-at .ensures) (omega (arith, good .1 .1 .0 .0)) (omega (arith, good .1 .1 .1 .0 .0)) (omega (arith, good .1 .1 .1 .1 .1 .0 .0)))
     (head-countable (pre .writes))
 
 enum-told-3 : tie.Need-enum-told-3
@@ -50,7 +50,7 @@ shape-size-requires-3 c κs =
     let set-at = c .before .before .before .set-at in
     let good = c .before .before .before .before .before .before .before .before .before .before .good in
     head-ready
-    (head-of pre _ (enum-told3 .given .1) (record-at .ensures) (set-at .ensures) (omega (arith, good .1 .1 .0 .0)) (omega (arith, good .1 .1 .1 .1 .1 .0 .0)))
+    (head-of pre _ (enum-told3 .given .1) (record-at .ensures) (set-at .ensures) (omega (arith, good .1 .1 .0 .0)) (omega (arith, good .1 .1 .1 .0 .0)) (omega (arith, good .1 .1 .1 .1 .1 .0 .0)))
     (head-countable (pre .writes))
 
 enum-told-4 : tie.Need-enum-told-4
@@ -64,7 +64,7 @@ shape-size-requires-4 c κs =
     let set-at = c .before .before .before .set-at in
     let good = c .before .before .before .before .before .before .before .before .before .before .good in
     head-ready
-    (head-of pre _ (enum-told4 .given .1) (record-at .ensures) (set-at .ensures) (omega (arith, good .1 .1 .0 .0)) (omega (arith, good .1 .1 .1 .1 .1 .0 .0)))
+    (head-of pre _ (enum-told4 .given .1) (record-at .ensures) (set-at .ensures) (omega (arith, good .1 .1 .0 .0)) (omega (arith, good .1 .1 .1 .0 .0)) (omega (arith, good .1 .1 .1 .1 .1 .0 .0)))
     (head-countable (pre .writes))
 
 returns : tie.Need-returns
@@ -75,7 +75,7 @@ returns c =
     let good = c .before .before .before .before .before .before .before .before .before .before .before .good in
     let shape-size = c .shape-size in
     λ s. head-counts
-    (head-of s _ (enum-told .given .1) (record-at .ensures) (set-at .ensures) (omega (arith, good .1 .1 .0 .0)) (omega (arith, good .1 .1 .1 .1 .1 .0 .0)))
+    (head-of s _ (enum-told .given .1) (record-at .ensures) (set-at .ensures) (omega (arith, good .1 .1 .0 .0)) (omega (arith, good .1 .1 .1 .0 .0)) (omega (arith, good .1 .1 .1 .1 .1 .0 .0)))
     (shape-size .ensures)
 
 returns-2 : tie.Need-returns-2
@@ -86,7 +86,7 @@ returns-2 c =
     let good = c .before .before .before .before .before .before .before .before .before .before .before .good in
     let shape-size2 = c .shape-size2 in
     λ s. head-counts
-    (head-of s _ (enum-told2 .given .1) (record-at .ensures) (set-at .ensures) (omega (arith, good .1 .1 .0 .0)) (omega (arith, good .1 .1 .1 .1 .1 .0 .0)))
+    (head-of s _ (enum-told2 .given .1) (record-at .ensures) (set-at .ensures) (omega (arith, good .1 .1 .0 .0)) (omega (arith, good .1 .1 .1 .0 .0)) (omega (arith, good .1 .1 .1 .1 .1 .0 .0)))
     (shape-size2 .ensures)
 
 returns-3 : tie.Need-returns-3
@@ -97,7 +97,7 @@ returns-3 c =
     let good = c .before .before .before .before .before .before .before .before .before .before .before .good in
     let shape-size3 = c .shape-size3 in
     λ s. head-counts
-    (head-of s _ (enum-told3 .given .1) (record-at .ensures) (set-at .ensures) (omega (arith, good .1 .1 .0 .0)) (omega (arith, good .1 .1 .1 .1 .1 .0 .0)))
+    (head-of s _ (enum-told3 .given .1) (record-at .ensures) (set-at .ensures) (omega (arith, good .1 .1 .0 .0)) (omega (arith, good .1 .1 .1 .0 .0)) (omega (arith, good .1 .1 .1 .1 .1 .0 .0)))
     (shape-size3 .ensures)
 
 returns-4 : tie.Need-returns-4
@@ -108,7 +108,7 @@ returns-4 c =
     let good = c .before .before .before .before .before .before .before .before .before .before .before .good in
     let shape-size4 = c .shape-size4 in
     λ s. head-counts
-    (head-of s _ (enum-told4 .given .1) (record-at .ensures) (set-at .ensures) (omega (arith, good .1 .1 .0 .0)) (omega (arith, good .1 .1 .1 .1 .1 .0 .0)))
+    (head-of s _ (enum-told4 .given .1) (record-at .ensures) (set-at .ensures) (omega (arith, good .1 .1 .0 .0)) (omega (arith, good .1 .1 .1 .0 .0)) (omega (arith, good .1 .1 .1 .1 .1 .0 .0)))
     (shape-size4 .ensures)
 
 pub head-size-spec : {M : Type 1} → statement M

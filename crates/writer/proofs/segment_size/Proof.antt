@@ -2,7 +2,11 @@
 use borrow.Author.Needs.{needs}
 use native.Mathlib.Omega.{arith}
 use mathlib.Core.Path.{refl, sym}
+use mathlib.Core.Bool.{false}
+use Rattle.writer_parts.specs.Lists.{takenCount, winsBytes}
+use Rattle.writer.specs.Shapes.{which}
 use Rattle.writer_parts.proofs.Over.{length-bytes}
+use Rattle.writer_parts.proofs.Lists.{counted-length}
 use Rattle.writer.proofs.segment_size.Statement.{statement}
 use Rattle.writer.proofs.segment_size.Tie as tie
 
@@ -18,7 +22,7 @@ counted-size-requires c κs =
     let pre = c .before .before .before .before .before .pre in
     let p = rw (segment .given .1) at (pre .0) in
     let q = rw (segment .given .1) at (pre .1) in
-    (p .0, q)
+    (p, q)
 
 enum-known-segment-2 : tie.Need-enum-known-segment-2
 enum-known-segment-2 c = search needs
@@ -27,18 +31,22 @@ wins-size-requires : tie.Need-wins-size-requires
 wins-size-requires c κs =
     let segment2 = c .before .segment2 in
     let pre = c .before .before .before .before .before .pre in
+    let args = c .before .before .before .before .before .args in
+    let l = counted-length (segment2 .given .0 .0) (takenCount (which false (args .set)) (segment2 .given .0 .1 .1 .0)) (winsBytes (args .rows .now) (args .cells .now) (segment2 .given .0 .1 .0) (segment2 .given .0 .1 .1 .0) (which false (args .set))) in
     let p = rw (segment2 .given .1) at (pre .0) in
     let q = rw (segment2 .given .1) at (pre .1) in
-    (p .0, omega (arith, q))
+    (p, omega (arith, q, l))
 
 both-requires : tie.Need-both-requires
 both-requires c κs =
     let segment2 = c .before .before .segment2 in
     let pre = c .before .before .before .before .before .before .pre in
+    let args = c .before .before .before .before .before .before .args in
+    let l = counted-length (segment2 .given .0 .0) (takenCount (which false (args .set)) (segment2 .given .0 .1 .1 .0)) (winsBytes (args .rows .now) (args .cells .now) (segment2 .given .0 .1 .0) (segment2 .given .0 .1 .1 .0) (which false (args .set))) in
     let wins-size = c .wins-size in
     let p = rw (segment2 .given .1) at (pre .0) in
     let q = rw (segment2 .given .1) at (pre .1) in
-    omega (arith, q, wins-size .ensures)
+    omega (arith, q, l, wins-size .ensures)
 
 enum-known-segment-3 : tie.Need-enum-known-segment-3
 enum-known-segment-3 c = search needs
@@ -90,8 +98,10 @@ returns-3 : tie.Need-returns-3
 returns-3 c =
     let segment2 = c .before .before .before .segment2 in
     let both = c .both in
+    let args = c .before .before .before .before .before .before .before .args in
+    let l = counted-length (segment2 .given .0 .0) (takenCount (which false (args .set)) (segment2 .given .0 .1 .1 .0)) (winsBytes (args .rows .now) (args .cells .now) (segment2 .given .0 .1 .0) (segment2 .given .0 .1 .1 .0) (which false (args .set))) in
     let wins-size = c .before .wins-size in
-    rw (segment2 .given .1) (omega (arith, both .ensures, wins-size .ensures))
+    rw (segment2 .given .1) (omega (arith, l, both .ensures, wins-size .ensures))
 
 returns-4 : tie.Need-returns-4
 returns-4 c =

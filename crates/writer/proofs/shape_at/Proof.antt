@@ -1,7 +1,6 @@
 -- `writer::shape_at` meets its contract. Assumes nothing.
 use borrow.Author.Needs.{needs}
 use mathlib.Core.Path.{_∙_, sym}
-use native.Mathlib.Omega.{arith}
 use Rattle.writer.proofs.shape_at.Statement.{statement}
 use Rattle.writer.proofs.shape_at.Tie as tie
 
@@ -32,12 +31,8 @@ shape-of-requires c κs =
 enum-known-form-2 : tie.Need-enum-known-form-2
 enum-known-form-2 c = search needs
 
-mul-t14 : tie.Need-mul-t14
-mul-t14 c =
-    let record-at = c .before .before .before .record-at in
-    let form2 = c .before .form2 in
-    let pre = c .before .before .before .before .before .before .before .pre in
-    omega (arith, rw (sym (record-at .ensures), form2 .given .1) at (pre .1))
+first-at-requires : tie.Need-first-at-requires
+first-at-requires c κs = search needs
 
 width-at-requires-2 : tie.Need-width-at-requires-2
 width-at-requires-2 c κs = search needs
@@ -57,8 +52,8 @@ plain-requires-2 c κs = search needs
 enum-told : tie.Need-enum-told
 enum-told c = search needs
 
-plain-requires-3 : tie.Need-plain-requires-3
-plain-requires-3 c κs = search needs
+empty-shape-requires : tie.Need-empty-shape-requires
+empty-shape-requires c κs = search needs
 
 returns : tie.Need-returns
 returns c =
@@ -73,9 +68,10 @@ returns-2 : tie.Need-returns-2
 returns-2 c =
     let plain = c .plain in
     let width-at2 = c .before .width-at2 in
-    let record-at = c .before .before .before .before .before .record-at in
-    let form2 = c .before .before .before .form2 in
-    plain .ensures ∙ rw (width-at2 .ensures, sym (record-at .ensures), form2 .given .1)
+    let first-at = c .before .before .first-at in
+    let record-at = c .before .before .before .before .before .before .record-at in
+    let form2 = c .before .before .before .before .form2 in
+    plain .ensures ∙ rw (width-at2 .ensures, first-at .ensures, sym (record-at .ensures), form2 .given .1)
 
 returns-3 : tie.Need-returns-3
 returns-3 c =
@@ -87,10 +83,10 @@ returns-3 c =
 
 returns-4 : tie.Need-returns-4
 returns-4 c =
-    let plain3 = c .plain3 in
+    let empty-shape = c .empty-shape in
     let record-at = c .before .before .before .record-at in
     let enum-told = c .before .enum-told in
-    plain3 .ensures ∙ rw (sym (record-at .ensures), enum-told .given .1)
+    empty-shape .ensures ∙ rw (sym (record-at .ensures), enum-told .given .1)
 
 pub shape-at-spec : {M : Type 1} → statement M
-shape-at-spec = tie.close (tie.spec record-at-requires enum-known-form node-at-requires width-at-requires shape-of-requires enum-known-form-2 mul-t14 width-at-requires-2 plain-requires enum-known-form-3 all-of-requires plain-requires-2 enum-told plain-requires-3 returns returns-2 returns-3 returns-4)
+shape-at-spec = tie.close (tie.spec record-at-requires enum-known-form node-at-requires width-at-requires shape-of-requires enum-known-form-2 first-at-requires width-at-requires-2 plain-requires enum-known-form-3 all-of-requires plain-requires-2 enum-told empty-shape-requires returns returns-2 returns-3 returns-4)

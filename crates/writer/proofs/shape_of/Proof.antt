@@ -50,14 +50,14 @@ plain-requires-4 c κs = search needs
 enum-known-node-5 : tie.Need-enum-known-node-5
 enum-known-node-5 c = search needs
 
+add-behind : tie.Need-add-behind
+add-behind c =
+    let node5 = c .before .node5 in
+    let pre = c .before .before .before .pre in
+    let h = rw (node5 .given .1) at pre in omega (arith, h)
+
 all-of-requires-3 : tie.Need-all-of-requires-3
 all-of-requires-3 c κs = search needs
-
-add-t35 : tie.Need-add-t35
-add-t35 c =
-    let node5 = c .before .before .node5 in
-    let pre = c .before .before .before .before .pre in
-    let h = rw (node5 .given .1) at pre in omega (arith, h)
 
 enum-known-node-6 : tie.Need-enum-known-node-6
 enum-known-node-6 c = search needs
@@ -102,7 +102,10 @@ enum-known-node-9 : tie.Need-enum-known-node-9
 enum-known-node-9 c = search needs
 
 scan-shape-requires : tie.Need-scan-shape-requires
-scan-shape-requires c κs = search needs
+scan-shape-requires c κs =
+    let node9 = c .before .node9 in
+    let pre = c .before .before .before .pre in
+    rw (node9 .given .1) at pre
 
 enum-known-node-10 : tie.Need-enum-known-node-10
 enum-known-node-10 c = search needs
@@ -188,4 +191,4 @@ returns-12 c =
     empty-shape .ensures ∙ (rw (node10 .given .1))
 
 pub shape-of-spec : {M : Type 1} → statement M
-shape-of-spec = tie.close (tie.spec enum-known-node all-of-requires plain-requires enum-known-node-2 plain-requires-2 enum-known-node-3 all-of-requires-2 plain-requires-3 enum-known-node-4 wide-requires mul-plain add-plain wide-requires-2 plain-requires-4 enum-known-node-5 all-of-requires-3 add-t35 enum-known-node-6 plain-requires-5 enum-known-node-7 wide16-requires mul-plain-2 add-plain-2 plain-requires-6 enum-told plain-requires-7 enum-told-2 plain-requires-8 enum-known-node-8 join-shape-requires enum-known-node-9 scan-shape-requires enum-known-node-10 empty-shape-requires returns returns-2 returns-3 returns-4 returns-5 returns-6 returns-7 returns-8 returns-9 returns-10 returns-11 returns-12)
+shape-of-spec = tie.close (tie.spec enum-known-node all-of-requires plain-requires enum-known-node-2 plain-requires-2 enum-known-node-3 all-of-requires-2 plain-requires-3 enum-known-node-4 wide-requires mul-plain add-plain wide-requires-2 plain-requires-4 enum-known-node-5 add-behind all-of-requires-3 enum-known-node-6 plain-requires-5 enum-known-node-7 wide16-requires mul-plain-2 add-plain-2 plain-requires-6 enum-told plain-requires-7 enum-told-2 plain-requires-8 enum-known-node-8 join-shape-requires enum-known-node-9 scan-shape-requires enum-known-node-10 empty-shape-requires returns returns-2 returns-3 returns-4 returns-5 returns-6 returns-7 returns-8 returns-9 returns-10 returns-11 returns-12)

@@ -22,7 +22,7 @@ write-shape-requires c κs =
     let set-at = c .before .before .before .before .set-at in
     let good = c .before .before .before .before .before .before .before .before .before .before .before .before .good in
     head-room
-    (head-of (pre .0) _ (enum-told .given .1) (record-at .ensures) (set-at .ensures) (omega (arith, good .1 .1 .0 .0)) (omega (arith, good .1 .1 .1 .1 .1 .0 .0)))
+    (head-of (pre .0) _ (enum-told .given .1) (record-at .ensures) (set-at .ensures) (omega (arith, good .1 .1 .0 .0)) (omega (arith, good .1 .1 .1 .0 .0)) (omega (arith, good .1 .1 .1 .1 .1 .0 .0)))
     (pre .1)
 
 enum-told-2 : tie.Need-enum-told-2
@@ -36,7 +36,7 @@ write-shape-requires-2 c κs =
     let set-at = c .before .before .before .before .set-at in
     let good = c .before .before .before .before .before .before .before .before .before .before .before .before .good in
     head-room
-    (head-of (pre .0) _ (enum-told2 .given .1) (record-at .ensures) (set-at .ensures) (omega (arith, good .1 .1 .0 .0)) (omega (arith, good .1 .1 .1 .1 .1 .0 .0)))
+    (head-of (pre .0) _ (enum-told2 .given .1) (record-at .ensures) (set-at .ensures) (omega (arith, good .1 .1 .0 .0)) (omega (arith, good .1 .1 .1 .0 .0)) (omega (arith, good .1 .1 .1 .1 .1 .0 .0)))
     (pre .1)
 
 enum-told-3 : tie.Need-enum-told-3
@@ -50,7 +50,7 @@ write-shape-requires-3 c κs =
     let set-at = c .before .before .before .before .set-at in
     let good = c .before .before .before .before .before .before .before .before .before .before .before .before .good in
     head-room
-    (head-of (pre .0) _ (enum-told3 .given .1) (record-at .ensures) (set-at .ensures) (omega (arith, good .1 .1 .0 .0)) (omega (arith, good .1 .1 .1 .1 .1 .0 .0)))
+    (head-of (pre .0) _ (enum-told3 .given .1) (record-at .ensures) (set-at .ensures) (omega (arith, good .1 .1 .0 .0)) (omega (arith, good .1 .1 .1 .0 .0)) (omega (arith, good .1 .1 .1 .1 .1 .0 .0)))
     (pre .1)
 
 enum-told-4 : tie.Need-enum-told-4
@@ -64,7 +64,7 @@ write-shape-requires-4 c κs =
     let set-at = c .before .before .before .before .set-at in
     let good = c .before .before .before .before .before .before .before .before .before .before .before .before .good in
     head-room
-    (head-of (pre .0) _ (enum-told4 .given .1) (record-at .ensures) (set-at .ensures) (omega (arith, good .1 .1 .0 .0)) (omega (arith, good .1 .1 .1 .1 .1 .0 .0)))
+    (head-of (pre .0) _ (enum-told4 .given .1) (record-at .ensures) (set-at .ensures) (omega (arith, good .1 .1 .0 .0)) (omega (arith, good .1 .1 .1 .0 .0)) (omega (arith, good .1 .1 .1 .1 .1 .0 .0)))
     (pre .1)
 
 same-length : tie.Need-same-length
@@ -78,7 +78,7 @@ returns c =
     let good = c .before .before .before .before .before .before .before .before .before .before .before .before .before .before .before .good in
     let write-shape = c .before .before .write-shape in
     λ s. head-wrote
-    (head-of s _ (enum-told .given .1) (record-at .ensures) (set-at .ensures) (omega (arith, good .1 .1 .0 .0)) (omega (arith, good .1 .1 .1 .1 .1 .0 .0)))
+    (head-of s _ (enum-told .given .1) (record-at .ensures) (set-at .ensures) (omega (arith, good .1 .1 .0 .0)) (omega (arith, good .1 .1 .1 .0 .0)) (omega (arith, good .1 .1 .1 .1 .1 .0 .0)))
     (write-shape .ensures)
 
 same-length-2 : tie.Need-same-length-2
@@ -92,7 +92,7 @@ returns-2 c =
     let good = c .before .before .before .before .before .before .before .before .before .before .before .before .before .before .before .good in
     let write-shape2 = c .before .before .write-shape2 in
     λ s. head-wrote
-    (head-of s _ (enum-told2 .given .1) (record-at .ensures) (set-at .ensures) (omega (arith, good .1 .1 .0 .0)) (omega (arith, good .1 .1 .1 .1 .1 .0 .0)))
+    (head-of s _ (enum-told2 .given .1) (record-at .ensures) (set-at .ensures) (omega (arith, good .1 .1 .0 .0)) (omega (arith, good .1 .1 .1 .0 .0)) (omega (arith, good .1 .1 .1 .1 .1 .0 .0)))
     (write-shape2 .ensures)
 
 same-length-3 : tie.Need-same-length-3
@@ -106,7 +106,7 @@ returns-3 c =
     let good = c .before .before .before .before .before .before .before .before .before .before .before .before .before .before .before .good in
     let write-shape3 = c .before .before .write-shape3 in
     λ s. head-wrote
-    (head-of s _ (enum-told3 .given .1) (record-at .ensures) (set-at .ensures) (omega (arith, good .1 .1 .0 .0)) (omega (arith, good .1 .1 .1 .1 .1 .0 .0)))
+    (head-of s _ (enum-told3 .given .1) (record-at .ensures) (set-at .ensures) (omega (arith, good .1 .1 .0 .0)) (omega (arith, good .1 .1 .1 .0 .0)) (omega (arith, good .1 .1 .1 .1 .1 .0 .0)))
     (write-shape3 .ensures)
 
 same-length-4 : tie.Need-same-length-4
@@ -120,7 +120,7 @@ returns-4 c =
     let good = c .before .before .before .before .before .before .before .before .before .before .before .before .before .before .before .good in
     let write-shape4 = c .before .before .write-shape4 in
     λ s. head-wrote
-    (head-of s _ (enum-told4 .given .1) (record-at .ensures) (set-at .ensures) (omega (arith, good .1 .1 .0 .0)) (omega (arith, good .1 .1 .1 .1 .1 .0 .0)))
+    (head-of s _ (enum-told4 .given .1) (record-at .ensures) (set-at .ensures) (omega (arith, good .1 .1 .0 .0)) (omega (arith, good .1 .1 .1 .0 .0)) (omega (arith, good .1 .1 .1 .1 .1 .0 .0)))
     (write-shape4 .ensures)
 
 pub write-head-spec : {M : Type 1} → statement M

@@ -52,7 +52,7 @@ add-result c =
     let write-node = c .before .before .write-node in
     let good = c .before .before .before .before .before .before .before .before .before .before .before .before .before .before .before .before .before .before .before .good in
     let l = length-take-le (args .start) (args .file .now) (pre .0) in
-    omega (arith, pre .1 .1, l, copy .ensures .0, write-node .ensures (pre .1 .0) .long, good .1 .1 .1 .1 .1 .1 .1 .1 .1 .1 .1 .0 .0)
+    omega (arith, pre .1 .1, l, copy .ensures .0, write-node .ensures (pre .1 .0) .long, good .1 .1 .1 .1 .1 .1 .1 .1 .1 .1 .1 .1 .0 .0)
 
 same-length : tie.Need-same-length
 same-length c = search needs

@@ -2,10 +2,13 @@
 use borrow.Author.Needs.{needs}
 use native.Mathlib.Omega.{arith}
 use mathlib.Core.Path.{refl}
-use Prim.Native.Nat.{_<_}
+use mathlib.Core.Bool.{false}
+use Rattle.writer_parts.specs.Lists.{takenCount, winsBytes}
+use Rattle.writer.specs.Shapes.{which}
 use Rattle.cpl.specs.Bytes.{bytes}
 use Rattle.writer_parts.proofs.Over.{length-bytes, start}
-use Rattle.writer_parts.proofs.Lists.{after-byte}
+use Rattle.writer_parts.proofs.Lists.{after-count, counted-length}
+use Rattle.writer.proofs.Segments.{after-mark}
 use Rattle.writer_parts.proofs.Rows.{number-wrote}
 use Rattle.writer.proofs.write_segment.Statement.{statement}
 use Rattle.writer.proofs.write_segment.Tie as tie
@@ -22,7 +25,7 @@ write-counted-requires c κs =
     let pre = c .before .before .before .before .before .before .before .pre in
     let p = rw (segment .given .1) at (pre .0) in
     let q = rw (segment .given .1) at (pre .1) in
-    (p .0, (p .1, q))
+    (p, q)
 
 enum-known-segment-2 : tie.Need-enum-known-segment-2
 enum-known-segment-2 c = search needs
@@ -34,25 +37,33 @@ put-at-requires : tie.Need-put-at-requires
 put-at-requires c κs =
     let segment2 = c .before .before .before .segment2 in
     let pre = c .before .before .before .before .before .before .before .before .pre in
+    let args = c .before .before .before .before .before .before .before .before .args in
+    let l = counted-length (segment2 .given .0 .0) (takenCount (which false (args .set)) (segment2 .given .0 .1 .1 .0)) (winsBytes (args .rows .now) (args .cells .now) (segment2 .given .0 .1 .0) (segment2 .given .0 .1 .1 .0) (which false (args .set))) in
     let p = rw (segment2 .given .1) at (pre .0) in
     let q = rw (segment2 .given .1) at (pre .1) in
-    omega (arith, q)
+    omega (arith, q, l)
 
 sub-write-wins : tie.Need-sub-write-wins
 sub-write-wins c =
     let segment2 = c .before .before .before .before .before .before .segment2 in
     let pre = c .before .before .before .before .before .before .before .before .before .before .before .pre in
+    let args = c .before .before .before .before .before .before .before .before .before .before .before .args in
+    let l = counted-length (segment2 .given .0 .0) (takenCount (which false (args .set)) (segment2 .given .0 .1 .1 .0)) (winsBytes (args .rows .now) (args .cells .now) (segment2 .given .0 .1 .0) (segment2 .given .0 .1 .1 .0) (which false (args .set))) in
+    let put-at = c .before .before .put-at in
     let p = rw (segment2 .given .1) at (pre .0) in
     let q = rw (segment2 .given .1) at (pre .1) in
-    omega (arith, q)
+    omega (arith, q, l, put-at .ensures .long)
 
 part-write-wins-start : tie.Need-part-write-wins-start
 part-write-wins-start c =
     let segment2 = c .before .before .before .before .before .before .segment2 in
     let pre = c .before .before .before .before .before .before .before .before .before .before .before .pre in
+    let args = c .before .before .before .before .before .before .before .before .before .before .before .args in
+    let l = counted-length (segment2 .given .0 .0) (takenCount (which false (args .set)) (segment2 .given .0 .1 .1 .0)) (winsBytes (args .rows .now) (args .cells .now) (segment2 .given .0 .1 .0) (segment2 .given .0 .1 .1 .0) (which false (args .set))) in
+    let put-at = c .before .before .put-at in
     let p = rw (segment2 .given .1) at (pre .0) in
     let q = rw (segment2 .given .1) at (pre .1) in
-    omega (arith, q)
+    omega (arith, q, l, put-at .ensures .long)
 
 part-write-wins-end : tie.Need-part-write-wins-end
 part-write-wins-end c = search needs
@@ -61,19 +72,25 @@ write-wins-requires : tie.Need-write-wins-requires
 write-wins-requires c κs =
     let segment2 = c .before .before .before .before .before .before .before .segment2 in
     let pre = c .before .before .before .before .before .before .before .before .before .before .before .before .pre in
+    let args = c .before .before .before .before .before .before .before .before .before .before .before .before .args in
+    let l = counted-length (segment2 .given .0 .0) (takenCount (which false (args .set)) (segment2 .given .0 .1 .1 .0)) (winsBytes (args .rows .now) (args .cells .now) (segment2 .given .0 .1 .0) (segment2 .given .0 .1 .1 .0) (which false (args .set))) in
+    let put-at = c .before .before .before .put-at in
     let p = rw (segment2 .given .1) at (pre .0) in
     let q = rw (segment2 .given .1) at (pre .1) in
-    (p .0, omega (arith, q))
+    (p, omega (arith, q, l, put-at .ensures .long))
 
 add-result : tie.Need-add-result
 add-result c =
     let segment2 = c .before .before .before .before .before .before .before .before .before .before .segment2 in
     let pre = c .before .before .before .before .before .before .before .before .before .before .before .before .before .before .before .pre in
+    let args = c .before .before .before .before .before .before .before .before .before .before .before .before .before .before .before .args in
+    let l = counted-length (segment2 .given .0 .0) (takenCount (which false (args .set)) (segment2 .given .0 .1 .1 .0)) (winsBytes (args .rows .now) (args .cells .now) (segment2 .given .0 .1 .0) (segment2 .given .0 .1 .1 .0) (which false (args .set))) in
+    let put-at = c .before .before .before .before .before .before .put-at in
     let write-wins = c .before .before .write-wins in
     let good = c .before .before .before .before .before .before .before .before .before .before .before .before .before .before .before .good in
     let p = rw (segment2 .given .1) at (pre .0) in
     let q = rw (segment2 .given .1) at (pre .1) in
-    omega (arith, q, write-wins .ensures .long, good .1 .1 .1 .1 .0 .0)
+    omega (arith, q, l, put-at .ensures .long, write-wins .ensures .long, good .1 .1 .1 .1 .0 .0)
 
 enum-known-segment-3 : tie.Need-enum-known-segment-3
 enum-known-segment-3 c = search needs
@@ -172,13 +189,10 @@ same-length-2 c = search needs
 returns-3 : tie.Need-returns-3
 returns-3 c =
     let segment2 = c .before .before .before .before .before .before .before .before .before .before .segment2 in
-    let pre = c .before .before .before .before .before .before .before .before .before .before .before .before .before .before .before .pre in
     let len = c .before .before .before .before .before .before .before .len in
     let put-at = c .before .before .before .before .before .before .put-at in
     let write-wins = c .before .before .write-wins in
-    let p = rw (segment2 .given .1) at (pre .0) in
-    let q = rw (segment2 .given .1) at (pre .1) in
-    rw (segment2 .given .1) (after-byte (len .ensures) (p .1) (put-at .ensures) (write-wins .ensures))
+    rw (segment2 .given .1) (after-count (len .ensures) (put-at .ensures) (write-wins .ensures))
 
 same-length-3 : tie.Need-same-length-3
 same-length-3 c = search needs
@@ -197,7 +211,7 @@ returns-5 c =
     let segment4 = c .before .before .before .before .before .before .before .before .before .segment4 in
     let put-at2 = c .before .before .before .before .before .before .put-at2 in
     let write-expr2 = c .before .before .write-expr2 in
-    let h : 1 < 256 = omega arith in rw (segment4 .given .1) (after-byte refl h (put-at2 .ensures) (write-expr2 .ensures))
+    rw (segment4 .given .1) (after-mark (put-at2 .ensures) (write-expr2 .ensures))
 
 same-length-5 : tie.Need-same-length-5
 same-length-5 c = search needs

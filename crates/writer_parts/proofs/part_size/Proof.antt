@@ -1,6 +1,7 @@
 -- `writer_parts::part_size` meets its contract. Assumes nothing.
 use borrow.Author.Needs.{needs}
-use Rattle.writer_parts.proofs.Rows.{byte-length, field-length, field-tags, pair-length}
+use Rattle.writer_parts.proofs.Rows.{field-length, field-tags, pair-length}
+use Rattle.writer_parts.proofs.Over.{length-bytes}
 use mathlib.Core.Path.{refl, sym}
 use Rattle.writer_parts.proofs.part_size.Statement.{statement}
 use Rattle.writer_parts.proofs.part_size.Tie as tie
@@ -62,14 +63,14 @@ on-size-requires c κs =
 enum-told-6 : tie.Need-enum-told-6
 enum-told-6 c = search needs
 
+enum-known-part : tie.Need-enum-known-part
+enum-known-part c = search needs
+
+enum-known-part-2 : tie.Need-enum-known-part-2
+enum-known-part-2 c = search needs
+
 enum-told-7 : tie.Need-enum-told-7
 enum-told-7 c = search needs
-
-enum-told-8 : tie.Need-enum-told-8
-enum-told-8 c = search needs
-
-enum-told-9 : tie.Need-enum-told-9
-enum-told-9 c = search needs
 
 returns : tie.Need-returns
 returns c =
@@ -109,18 +110,18 @@ returns-6 c =
 
 returns-7 : tie.Need-returns-7
 returns-7 c =
-    let enum-told7 = c .enum-told7 in
-    rw (enum-told7 .given .1) (record { bytes-are = sym (byte-length _); tags-are = refl })
+    let part = c .before .part in
+    rw (part .given .1) (record { bytes-are = sym (length-bytes _ _); tags-are = refl })
 
 returns-8 : tie.Need-returns-8
 returns-8 c =
-    let enum-told8 = c .enum-told8 in
-    rw (enum-told8 .given .1) (record { bytes-are = sym (byte-length _); tags-are = refl })
+    let part2 = c .before .part2 in
+    rw (part2 .given .1) (record { bytes-are = sym (length-bytes _ _); tags-are = refl })
 
 returns-9 : tie.Need-returns-9
 returns-9 c =
-    let enum-told9 = c .enum-told9 in
-    rw (enum-told9 .given .1) (record { bytes-are = sym (field-length _); tags-are = sym (field-tags _) })
+    let enum-told7 = c .enum-told7 in
+    rw (enum-told7 .given .1) (record { bytes-are = sym (field-length _); tags-are = sym (field-tags _) })
 
 pub part-size-spec : {M : Type 1} → statement M
-part-size-spec = tie.close (tie.spec enum-told item-size-requires enum-told-2 key-size-requires enum-told-3 agg-size-requires enum-told-4 row-at-requires expr-size-requires enum-told-5 on-size-requires enum-told-6 enum-told-7 enum-told-8 enum-told-9 returns returns-2 returns-3 returns-4 returns-5 returns-6 returns-7 returns-8 returns-9)
+part-size-spec = tie.close (tie.spec enum-told item-size-requires enum-told-2 key-size-requires enum-told-3 agg-size-requires enum-told-4 row-at-requires expr-size-requires enum-told-5 on-size-requires enum-told-6 enum-known-part enum-known-part-2 enum-told-7 returns returns-2 returns-3 returns-4 returns-5 returns-6 returns-7 returns-8 returns-9)

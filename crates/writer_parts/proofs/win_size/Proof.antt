@@ -36,7 +36,7 @@ call-size-requires c κs =
     let pre = c .before .before .before .before .before .before .pre in
     let args = c .before .before .before .before .before .before .args in
     let everything = c .before .before .everything in
-    (win-at .ensures .node _ (pre .0 .ok), omega (arith, pre .1, win-length (args .cells .now) (win-at .ensures) (pre .0) (everything .result) (everything .ensures), win-tags (args .cells .now) (win-at .ensures) (pre .0) (everything .result) (everything .ensures)))
+    (win-at .ensures .node _ (pre .0), omega (arith, pre .1, win-length (args .cells .now) (win-at .ensures) (pre .0) (everything .result) (everything .ensures), win-tags (args .cells .now) (win-at .ensures) (pre .0) (everything .result) (everything .ensures)))
 
 both-requires : tie.Need-both-requires
 both-requires c κs =

@@ -1,7 +1,8 @@
 -- `writer_parts::write_part` meets its contract. Assumes nothing.
 use borrow.Author.Needs.{needs}
 use native.Mathlib.Omega.{arith}
-use Rattle.writer_parts.proofs.Rows.{byte-length, field-length, field-wrote, number-wrote, pair-length, pair-wrote}
+use Rattle.writer_parts.proofs.Rows.{field-length, field-wrote, number-wrote, pair-length, pair-wrote}
+use Rattle.writer_parts.proofs.Over.{length-bytes}
 use mathlib.Core.Path.{refl}
 use lib.ListN.{getD}
 use Prim.Native.Nat.{_+_, _*_}
@@ -79,54 +80,54 @@ put-pair-requires c κs =
     let args = c .before .before .before .before .before .before .before .args in
     let q = rw (enum-told6 .given .1) at (pre .1) in omega (arith, q, pair-length (getD (args .rows .now) (args .i * 4) 0) (getD (args .rows .now) (args .i * 4 + 1) 0))
 
-enum-told-7 : tie.Need-enum-told-7
-enum-told-7 c = search needs
+enum-known-part : tie.Need-enum-known-part
+enum-known-part c = search needs
 
 column-at-requires : tie.Need-column-at-requires
 column-at-requires c κs =
-    let enum-told7 = c .before .enum-told7 in
-    let pre = c .before .before .before .before .before .before .pre in
-    rw (enum-told7 .given .1) at (pre .0)
+    let part = c .before .before .part in
+    let pre = c .before .before .before .before .before .before .before .pre in
+    rw (part .given .1) at (pre .0)
 
 put-at-requires : tie.Need-put-at-requires
 put-at-requires c κs =
-    let enum-told7 = c .before .before .enum-told7 in
-    let pre = c .before .before .before .before .before .before .before .pre in
-    let args = c .before .before .before .before .before .before .before .args in
-    let q = rw (enum-told7 .given .1) at (pre .1) in omega (arith, q, byte-length (getD (args .rows .now) (args .i * 4) 0))
+    let part = c .before .before .before .part in
+    let pre = c .before .before .before .before .before .before .before .before .pre in
+    let args = c .before .before .before .before .before .before .before .before .args in
+    let q = rw (part .given .1) at (pre .1) in omega (arith, q, length-bytes (part .given .0 .0) (getD (args .rows .now) (args .i * 4) 0))
 
-enum-told-8 : tie.Need-enum-told-8
-enum-told-8 c = search needs
+enum-known-part-2 : tie.Need-enum-known-part-2
+enum-known-part-2 c = search needs
 
 put-at-requires-2 : tie.Need-put-at-requires-2
 put-at-requires-2 c κs =
-    let enum-told8 = c .before .enum-told8 in
-    let pre = c .before .before .before .before .before .before .pre in
-    let args = c .before .before .before .before .before .before .args in
-    let q = rw (enum-told8 .given .1) at (pre .1) in omega (arith, q, byte-length (args .i))
+    let part2 = c .before .before .part2 in
+    let pre = c .before .before .before .before .before .before .before .pre in
+    let args = c .before .before .before .before .before .before .before .args in
+    let q = rw (part2 .given .1) at (pre .1) in omega (arith, q, length-bytes (part2 .given .0 .0) (args .i))
 
-enum-told-9 : tie.Need-enum-told-9
-enum-told-9 c = search needs
+enum-told-7 : tie.Need-enum-told-7
+enum-told-7 c = search needs
 
 field-at-requires : tie.Need-field-at-requires
 field-at-requires c κs =
-    let enum-told9 = c .enum-told9 in
+    let enum-told7 = c .enum-told7 in
     let pre = c .before .before .before .before .before .pre in
-    rw (enum-told9 .given .1) at (pre .0)
+    rw (enum-told7 .given .1) at (pre .0)
 
 put-at-requires-3 : tie.Need-put-at-requires-3
 put-at-requires-3 c κs =
-    let enum-told9 = c .before .before .enum-told9 in
+    let enum-told7 = c .before .before .enum-told7 in
     let pre = c .before .before .before .before .before .before .before .pre in
     let args = c .before .before .before .before .before .before .before .args in
-    let q = rw (enum-told9 .given .1) at (pre .1) in omega (arith, q, field-length (fieldAt (args .rows .now) (args .i)))
+    let q = rw (enum-told7 .given .1) at (pre .1) in omega (arith, q, field-length (fieldAt (args .rows .now) (args .i)))
 
 put-pair-requires-2 : tie.Need-put-pair-requires-2
 put-pair-requires-2 c κs =
-    let enum-told9 = c .before .before .before .before .before .before .enum-told9 in
+    let enum-told7 = c .before .before .before .before .before .before .enum-told7 in
     let pre = c .before .before .before .before .before .before .before .before .before .before .before .pre in
     let args = c .before .before .before .before .before .before .before .before .before .before .before .args in
-    let q = rw (enum-told9 .given .1) at (pre .1) in omega (arith, q, field-length (fieldAt (args .rows .now) (args .i)))
+    let q = rw (enum-told7 .given .1) at (pre .1) in omega (arith, q, field-length (fieldAt (args .rows .now) (args .i)))
 
 same-length : tie.Need-same-length
 same-length c = search needs
@@ -189,30 +190,30 @@ same-length-7 c = search needs
 
 returns-7 : tie.Need-returns-7
 returns-7 c =
-    let enum-told7 = c .before .before .before .before .before .enum-told7 in
+    let part = c .before .before .before .before .before .before .part in
     let column-at = c .before .before .before .column-at in
     let put-at = c .before .before .put-at in
-    rw (enum-told7 .given .1) (number-wrote (column-at .ensures) (put-at .ensures))
+    rw (part .given .1) (number-wrote (column-at .ensures) (put-at .ensures))
 
 same-length-8 : tie.Need-same-length-8
 same-length-8 c = search needs
 
 returns-8 : tie.Need-returns-8
 returns-8 c =
-    let enum-told8 = c .before .before .before .before .enum-told8 in
+    let part2 = c .before .before .before .before .before .part2 in
     let put-at2 = c .before .before .put-at2 in
-    rw (enum-told8 .given .1) (number-wrote refl (put-at2 .ensures))
+    rw (part2 .given .1) (number-wrote refl (put-at2 .ensures))
 
 same-length-9 : tie.Need-same-length-9
 same-length-9 c = search needs
 
 returns-9 : tie.Need-returns-9
 returns-9 c =
-    let enum-told9 = c .before .before .before .before .before .before .before .before .before .enum-told9 in
+    let enum-told7 = c .before .before .before .before .before .before .before .before .before .enum-told7 in
     let field-at = c .before .before .before .before .before .before .before .before .field-at in
     let put-at3 = c .before .before .before .before .before .before .put-at3 in
     let put-pair2 = c .before .before .put-pair2 in
-    rw (enum-told9 .given .1) (field-wrote (field-at .ensures) (put-at3 .ensures) (put-pair2 .ensures))
+    rw (enum-told7 .given .1) (field-wrote (field-at .ensures) (put-at3 .ensures) (put-pair2 .ensures))
 
 pub write-part-spec : {M : Type 1} → statement M
-write-part-spec = tie.close (tie.spec enum-told write-item-requires enum-told-2 write-key-requires enum-told-3 write-agg-requires enum-told-4 row-at-requires write-expr-requires enum-told-5 write-on-requires enum-told-6 pair-at-requires put-pair-requires enum-told-7 column-at-requires put-at-requires enum-told-8 put-at-requires-2 enum-told-9 field-at-requires put-at-requires-3 put-pair-requires-2 same-length returns same-length-2 returns-2 same-length-3 returns-3 same-length-4 returns-4 same-length-5 returns-5 same-length-6 returns-6 same-length-7 returns-7 same-length-8 returns-8 same-length-9 returns-9)
+write-part-spec = tie.close (tie.spec enum-told write-item-requires enum-told-2 write-key-requires enum-told-3 write-agg-requires enum-told-4 row-at-requires write-expr-requires enum-told-5 write-on-requires enum-told-6 pair-at-requires put-pair-requires enum-known-part column-at-requires put-at-requires enum-known-part-2 put-at-requires-2 enum-told-7 field-at-requires put-at-requires-3 put-pair-requires-2 same-length returns same-length-2 returns-2 same-length-3 returns-3 same-length-4 returns-4 same-length-5 returns-5 same-length-6 returns-6 same-length-7 returns-7 same-length-8 returns-8 same-length-9 returns-9)

@@ -1,7 +1,7 @@
 -- `writer_parts::write_win` meets its contract. Assumes nothing.
 use borrow.Author.Needs.{needs}
 use native.Mathlib.Omega.{arith}
-use Rattle.writer_parts.proofs.Wins.{keys-small, parts-small, win-keys, win-length, win-parts, win-wrote}
+use Rattle.writer_parts.proofs.Wins.{win-keys, win-length, win-parts, win-wrote}
 use Rattle.writer_parts.proofs.Over.{kept, part, start, then}
 use mathlib.Core.Path.{refl}
 use Rattle.writer_parts.proofs.write_win.Statement.{statement}
@@ -70,7 +70,7 @@ write-counted-requires c κs =
     let pre = c .before .before .before .before .before .before .before .before .before .before .before .before .before .before .before .pre in
     let everything = c .before .before .before .before .before .before .before .before .before .before .everything in
     let good = c .before .before .before .before .before .before .before .before .before .before .before .before .before .before .before .good in
-    (win-parts (args .cells .now) (win-at .ensures) (pre .0) (everything .result) (everything .ensures) (omega (arith, good .0 .0)), (parts-small (args .cells .now) (win-at .ensures) (pre .0) (everything .result) (everything .ensures), omega (arith, pre .1, win-length (args .cells .now) (win-at .ensures) (pre .0) (everything .result) (everything .ensures))))
+    (win-parts (args .cells .now) (win-at .ensures) (pre .0) (everything .result) (everything .ensures) (omega (arith, good .0 .0)), omega (arith, pre .1, win-length (args .cells .now) (win-at .ensures) (pre .0) (everything .result) (everything .ensures)))
 
 add-c : tie.Need-add-c
 add-c c =
@@ -121,7 +121,7 @@ write-counted-requires-2 c κs =
     let put-pair = c .before .before .before .before .before .before .before .before .before .before .before .before .put-pair in
     let put-at = c .before .before .before .before .before .before .before .put-at in
     let write-counted = c .before .before .before .write-counted in
-    (win-keys (args .cells .now) (win-at .ensures) (pre .0) (everything .result) (everything .ensures) (omega (arith, good .0 .0)), (keys-small (args .cells .now) (win-at .ensures) (pre .0) (everything .result) (everything .ensures), let k = kept (part (then (then start (put-pair .ensures)) (put-at .ensures)) (write-counted .ensures)) (omega (arith, pre .1, win-length (args .cells .now) (win-at .ensures) (pre .0) (everything .result) (everything .ensures), put-pair .ensures .long, put-at .ensures .long, write-counted .ensures .long)) in omega (arith, pre .1, win-length (args .cells .now) (win-at .ensures) (pre .0) (everything .result) (everything .ensures), put-pair .ensures .long, put-at .ensures .long, write-counted .ensures .long, k)))
+    (win-keys (args .cells .now) (win-at .ensures) (pre .0) (everything .result) (everything .ensures) (omega (arith, good .0 .0)), let k = kept (part (then (then start (put-pair .ensures)) (put-at .ensures)) (write-counted .ensures)) (omega (arith, pre .1, win-length (args .cells .now) (win-at .ensures) (pre .0) (everything .result) (everything .ensures), put-pair .ensures .long, put-at .ensures .long, write-counted .ensures .long)) in omega (arith, pre .1, win-length (args .cells .now) (win-at .ensures) (pre .0) (everything .result) (everything .ensures), put-pair .ensures .long, put-at .ensures .long, write-counted .ensures .long, k))
 
 add-d : tie.Need-add-d
 add-d c =
@@ -173,7 +173,7 @@ write-call-requires c κs =
     let args = c .before .before .before .before .before .before .before .before .before .before .before .before .before .before .before .before .before .before .before .before .before .before .before .args in
     let win-at = c .before .before .before .before .before .before .before .before .before .before .before .before .before .before .before .before .before .before .before .win-at in
     let everything = c .before .before .before .before .before .before .before .before .before .before .before .before .before .before .before .before .before .before .everything in
-    let k = kept (part (part (then (then start (put-pair .ensures)) (put-at .ensures)) (write-counted .ensures)) (write-counted2 .ensures)) (omega (arith, pre .1, win-length (args .cells .now) (win-at .ensures) (pre .0) (everything .result) (everything .ensures), put-pair .ensures .long, put-at .ensures .long, write-counted .ensures .long, write-counted2 .ensures .long)) in (win-at .ensures .node _ (pre .0 .ok), omega (arith, pre .1, win-length (args .cells .now) (win-at .ensures) (pre .0) (everything .result) (everything .ensures), put-pair .ensures .long, put-at .ensures .long, write-counted .ensures .long, write-counted2 .ensures .long, k))
+    let k = kept (part (part (then (then start (put-pair .ensures)) (put-at .ensures)) (write-counted .ensures)) (write-counted2 .ensures)) (omega (arith, pre .1, win-length (args .cells .now) (win-at .ensures) (pre .0) (everything .result) (everything .ensures), put-pair .ensures .long, put-at .ensures .long, write-counted .ensures .long, write-counted2 .ensures .long)) in (win-at .ensures .node _ (pre .0), omega (arith, pre .1, win-length (args .cells .now) (win-at .ensures) (pre .0) (everything .result) (everything .ensures), put-pair .ensures .long, put-at .ensures .long, write-counted .ensures .long, write-counted2 .ensures .long, k))
 
 add-result : tie.Need-add-result
 add-result c =

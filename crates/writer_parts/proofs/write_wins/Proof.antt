@@ -95,7 +95,7 @@ win-at-requires c κs =
     let loop = c .before .before .before .before .before .before .loop in
     let pre = c .before .before .before .before .before .before .before .before .before .before .pre in
     let loop-test = c .before .before .before .before .before .loop-test in
-    rw (loop .inv .1) (pre .0 .each (loop .i) (loop-test .taken) .ok .inside)
+    rw (loop .inv .1) (pre .0 .each (loop .i) (loop-test .taken) .inside)
 
 add-i : tie.Need-add-i Inv-loop μ-loop
 add-i c =

@@ -12,6 +12,8 @@ struct Counts {
     changed: usize,
     asking: usize,
     alone: usize,
+    second: usize,
+    filtered: usize,
     largest: usize,
     most_nodes: usize,
     broadest: usize,
@@ -24,8 +26,10 @@ struct Counts {
 
 fn count(plan: &Plan, c: &mut Counts) {
     *c.kinds.entry(plan.kind()).or_default() += 1;
-    if let Plan::Join(join, ..) = plan {
-        c.joins[join.kind as usize] += 1;
+    match plan {
+        Plan::Join(join, ..) => c.joins[join.kind as usize] += 1,
+        Plan::Scan { filters, .. } => c.filtered += !filters.is_empty() as usize,
+        _ => {}
     }
     plan.children().into_iter().for_each(|p| count(p, c));
 }
@@ -45,7 +49,7 @@ fn shown(bytes: &[u8]) -> String {
 
 fn run(n: usize, seed: u64, wide: bool, slip: bool) -> bool {
     let mut r = Random::new(seed);
-    let mix = Mix { wide, most_nodes: 256, most_bytes: 12000 };
+    let mix = Mix { wide, second: 50, keys: false, most_nodes: 256, most_bytes: 12000 };
     let (mut library, mut c) = (Library::new(slip), Counts::default());
     for _ in 0..n {
         let case = case(&mut r, mix);
@@ -53,9 +57,10 @@ fn run(n: usize, seed: u64, wide: bool, slip: bool) -> bool {
         let file = read(&case.file).expect("accepted");
         count(&file.plan, &mut c);
         c.most_nodes = c.most_nodes.max(nodes_in(&file.plan));
-        c.broadest = c.broadest.max(fields(&file.plan, &file.tables).len());
+        c.broadest = c.broadest.max(fields(&file.plan, &file.catalogue).len());
         c.asking += case.request.is_some() as usize;
-        c.alone += (names_alone(&file.plan, &file.tables) > 0) as usize;
+        c.alone += (names_alone(&file.plan, &file.catalogue) > 0) as usize;
+        c.second += (file.catalogue.version.number == 2) as usize;
         c.largest = c.largest.max(case.file.len());
         c.changed += (texts.as_ref() != Ok(&case.file)) as usize;
         match verdict(&case, &texts, &answer) {
@@ -67,6 +72,7 @@ fn run(n: usize, seed: u64, wide: bool, slip: bool) -> bool {
     }
     println!("{n} plans, seed {seed}{}: {} equal, {} differ", if wide { ", wide" } else { "" }, c.equal, n - c.equal);
     println!("  asking for some fields only: {}; changed by the pass: {}", c.asking, c.changed);
+    println!("  of version 2: {}, without keys; scans with filters: {}", c.second, c.filtered);
     println!("  with a name alone that finds a field with a qualifier: {}", c.alone);
     println!("  longest file {} bytes, most nodes {}, most fields of a root {}", c.largest, c.most_nodes, c.broadest);
     println!("  nodes: {}", c.kinds.iter().map(|(k, n)| format!("{k} {n}")).collect::<Vec<_>>().join(", "));

@@ -5,22 +5,26 @@
 //! requests of each pair, which must be noticed.
 use compare::{Library, ended, numbers};
 use generator::{Case, Mix, Random, case, line};
-use model::{File, Plan, accept, read, write};
+use model::{Catalogue, File, Plan, TableKey, accept, read, write};
 use simmerroof::Mode;
 use std::collections::BTreeMap;
 
-/// The plan with a table of its own for each scan.
+/// The plan with a table of its own for each scan, which has the key of the scan's table.
 fn apart(file: &File) -> File {
-    let mut out = File { tables: vec![], plan: file.plan.clone() };
-    number(&mut out.plan, &file.tables, &mut out.tables);
+    let catalogue = Catalogue { version: file.catalogue.version, tables: vec![], keys: vec![] };
+    let mut out = File { catalogue, plan: file.plan.clone() };
+    number(&mut out.plan, &file.catalogue, &mut out.catalogue);
     out
 }
 
-fn number(plan: &mut Plan, old: &[Vec<u16>], new: &mut Vec<Vec<u16>>) {
+fn number(plan: &mut Plan, old: &Catalogue, new: &mut Catalogue) {
     match plan {
         Plan::Scan { table, .. } => {
-            new.push(old[*table as usize].clone());
-            *table = (new.len() - 1) as u8;
+            let own = new.tables.len() as u8;
+            new.tables.push(old.tables[*table as usize].clone());
+            let key = old.keys.iter().find(|k| k.table == *table);
+            new.keys.extend(key.map(|k| TableKey { table: own, ..k.clone() }));
+            *table = own;
         }
         Plan::Projection(_, c)
         | Plan::Filter(_, c)
@@ -39,20 +43,20 @@ fn number(plan: &mut Plan, old: &[Vec<u16>], new: &mut Vec<Vec<u16>>) {
 }
 
 /// The columns that each scan of a rewritten plan reads, by its table.
-fn scans(plan: &Plan, out: &mut BTreeMap<u8, Vec<u8>>) {
+fn scans(plan: &Plan, out: &mut BTreeMap<u8, Vec<u16>>) {
     if let Plan::Scan { table, columns, .. } = plan {
         out.insert(*table, columns.clone().expect("a rewritten scan names its columns"));
     }
     plan.children().into_iter().for_each(|c| scans(c, out));
 }
 
-fn reads(bytes: &[u8]) -> BTreeMap<u8, Vec<u8>> {
+fn reads(bytes: &[u8]) -> BTreeMap<u8, Vec<u16>> {
     let mut out = BTreeMap::new();
     scans(&read(bytes).expect("a result reads").plan, &mut out);
     out
 }
 
-fn no_less(small: &BTreeMap<u8, Vec<u8>>, large: &BTreeMap<u8, Vec<u8>>) -> bool {
+fn no_less(small: &BTreeMap<u8, Vec<u16>>, large: &BTreeMap<u8, Vec<u16>>) -> bool {
     small.iter().all(|(t, is)| large.get(t).is_some_and(|js| is.iter().all(|i| js.contains(i))))
 }
 
@@ -65,16 +69,16 @@ fn requests(r: &mut Random, width: usize) -> (Vec<u16>, Vec<u16>) {
 
 fn run(n: usize, seed: u64, slip: bool) -> bool {
     let mut r = Random::new(seed);
-    let mix = Mix { wide: true, most_nodes: 256, most_bytes: 12000 };
+    let mix = Mix { wide: true, second: 50, keys: true, most_nodes: 256, most_bytes: 12000 };
     let mut library = Library::new(false);
-    let (mut pairs, mut fewer, mut gone, mut large) = (0, 0, 0, 0);
+    let (mut pairs, mut fewer, mut gone, mut large, mut of_two) = (0, 0, 0, 0, 0);
     while pairs < n {
         let drawn = case(&mut r, mix);
         let file = apart(&read(&drawn.file).expect("accepted"));
-        if file.tables.len() > 16 {
+        if file.catalogue.tables.len() > 16 {
             continue;
         }
-        let width = accept(&file.plan, &file.tables).expect("accepted").len();
+        let width = accept(&file.plan, &file.catalogue).expect("accepted").len();
         let (small, wide) = requests(&mut r, width);
         let (small, wide) = if slip { (wide, small) } else { (small, wide) };
         let (mode, number) = *r.pick(&[(Mode::Crate, 0), (Mode::House, 1)]);
@@ -94,11 +98,12 @@ fn run(n: usize, seed: u64, slip: bool) -> bool {
             return false;
         }
         pairs += 1;
+        of_two += (file.catalogue.version.number == 2) as usize;
         fewer += (a != b) as usize;
         gone += (a.len() < b.len()) as usize;
     }
     println!(
-        "  {fewer} pairs read more under the larger request, {gone} of them a scan more; {large} more pairs were LARGE"
+        "  {of_two} pairs of version 2; {fewer} pairs read more under the larger request, {gone} of them a scan more; {large} more pairs were LARGE"
     );
     println!("passed: {n} pairs of requests, seed {seed}: no scan reads less under the larger request");
     true

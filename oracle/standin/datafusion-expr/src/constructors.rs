@@ -123,6 +123,23 @@ impl Join {
     }
 }
 
+/// [D25] A scan's filters are over all columns of its table under the scan's name, whatever the projection has. Each of their
+/// columns must be found there, and only once; the columns themselves may have one name twice.
+fn check_filter(e: &Expr, table_name: &TableReference, source: &TableSource) -> Result<()> {
+    e.apply(|e| {
+        if let Expr::Column(c) = e {
+            let own = c.relation.as_ref().is_none_or(|q| q == table_name);
+            let fitting = source.names.iter().filter(|n| own && **n == c.name).count();
+            if fitting != 1 {
+                return Err(DataFusionError::Plan(format!("{fitting} columns fit a filter's {}", c.name)));
+            }
+        }
+        Ok(TreeNodeRecursion::Continue)
+    })
+    .map(|_| ())
+}
+
+/// [D25] The builder keeps the filters.
 pub struct TableScanBuilder(TableScan);
 impl From<TableScan> for TableScanBuilder {
     fn from(s: TableScan) -> Self {
@@ -135,8 +152,8 @@ impl TableScanBuilder {
         self
     }
     pub fn build(self) -> Result<TableScan> {
-        let TableScan { table_name, source, projection, .. } = self.0;
-        TableScan::try_new(table_name, source, projection)
+        let TableScan { table_name, source, projection, filters, .. } = self.0;
+        TableScan::try_new(table_name, source, projection, filters)
     }
 }
 impl TableScan {
@@ -145,13 +162,15 @@ impl TableScan {
         table_name: TableReference,
         source: Arc<TableSource>,
         projection: Option<Vec<usize>>,
+        filters: Vec<Expr>,
     ) -> Result<Self> {
+        filters.iter().try_for_each(|e| check_filter(e, &table_name, &source))?;
         let field = |i: usize| (Some(table_name.clone()), number_field(source.names[i].as_str()));
         let fields = match &projection {
             Some(p) => p.iter().map(|&i| field(i)).collect(),
             None => (0..source.names.len()).map(field).collect(),
         };
         let projected_schema = Arc::new(DFSchema::new_qualified(fields)?);
-        Ok(Self { table_name, source, projection, projected_schema })
+        Ok(Self { table_name, source, projection, projected_schema, filters })
     }
 }

@@ -111,6 +111,7 @@ pub struct TableScan {
     pub source: Arc<TableSource>,
     pub projection: Option<Vec<usize>>,
     pub projected_schema: DFSchemaRef,
+    pub filters: Vec<Expr>,
 }
 #[derive(Debug, Clone)]
 pub struct EmptyRelation {

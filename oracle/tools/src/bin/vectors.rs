@@ -10,7 +10,7 @@ fn bytes(text: &str) -> Vec<u8> {
 
 fn check(file: &[u8]) -> Result<(usize, usize), Fault> {
     let file = read(file)?;
-    Ok((nodes_in(&file.plan), accept(&file.plan, &file.tables)?.len()))
+    Ok((nodes_in(&file.plan), accept(&file.plan, &file.catalogue)?.len()))
 }
 
 fn got(case: &str) -> String {

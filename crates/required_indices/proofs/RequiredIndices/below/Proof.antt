@@ -1,25 +1,37 @@
 -- `required_indices::RequiredIndices::below` meets its contract.
 use borrow.Author.Needs.{needs}
 use native.Mathlib.Omega.{arith}
-use Prim.Native.Nat.{_-_, _*_}
-use mathlib.Core.Path.{_≡_, refl}
-use lib.ListN.{length, set}
-use Rattle.required_indices.specs.Request.{wordsN, flagOf}
+use Prim.Native.Nat.{ℕ, _-_, _*_}
+use mathlib.Core.Path.{_≡_, refl, sym, ap, _∙_}
+use lib.ListN.{length, take, length-take}
+use lib.Seq.{getD-take}
+use Rattle.required_indices.specs.Words.{number}
+use Rattle.required_indices.specs.Request.{wordsN, wordsOf, flagOf}
 use Rattle.required_indices.proofs.Loops.{Filled}
+use Rattle.required_indices.proofs.Pads.{words-take}
 use Rattle.required_indices.proofs.Places.{words}
-use Rattle.required_indices.proofs.Words.{belowW}
-use Rattle.required_indices.proofs.Parts.{below-start, below-turn, below-end}
+use Rattle.required_indices.proofs.Parts.{partW, below-start, below-turn, below-end}
 use Rattle.required_indices.proofs.RequiredIndices.below.Statement.{statement}
 use Rattle.required_indices.proofs.RequiredIndices.below.Tie as tie
 
 abbrev Inv-loop : tie.InvT-loop
-Inv-loop n self out₀ left₀ k₀ out left k = Filled (belowW n (self .indices)) (out .indices) k × (left ≡ n - k * 64) × (flagOf out ≡ flagOf self)
+Inv-loop n self out₀ last left₀ k₀ out left k = Filled (partW last n (wordsOf self)) (out .indices) k × (left ≡ n - k * 64) × (out .used ≡ last) × (flagOf out ≡ flagOf self)
 
 abbrev μ-loop : tie.MeasureT-loop
-μ-loop n self out₀ left₀ k₀ out left k = wordsN - k
+μ-loop n self out₀ last left₀ k₀ out left k = last - k
+
+words-for-requires : tie.Need-words-for-requires Inv-loop μ-loop
+words-for-requires c κs = search needs
+
+smaller-requires : tie.Need-smaller-requires Inv-loop μ-loop
+smaller-requires c κs = search needs
 
 loop-holds : tie.Need-loop-holds Inv-loop μ-loop
-loop-holds c = (below-start (c .args .n) (c .args .t1 .indices), omega arith, refl)
+loop-holds c =
+    let a = c .before .before .args in
+    let long : length (a .t1 .indices) ≡ wordsN = search needs in
+    let e = c .before .words-for .ensures in
+    (below-start (c .smaller .result) (a .n) (wordsOf (a .t1)) (a .t1 .indices) (omega (arith, c .smaller .ensures)), omega arith, refl, refl)
 
 mul-out : tie.Need-mul-out Inv-loop μ-loop
 mul-out c = search needs
@@ -48,22 +60,36 @@ loop-less c = omega arith
 loop-again : tie.Need-loop-again Inv-loop μ-loop
 loop-again c =
     let s = c .before .before .before .before in
-    let n = s .before .args .n in
-    let ws = s .before .args .t1 .indices in
-    let long : length ws ≡ wordsN = search needs in (
-      below-turn n ws (s .loop .out .indices) (s .loop .k) (s .loop .inv .0) (s .loop .left) (c .before .low-bits .result) (omega arith) (s .loop .inv .1) (c .before .low-bits .ensures),
+    let a = s .before .before .before .args in
+    let r = a .t1 in
+    let e = s .before .smaller .ensures in
+    let d = s .before .before .words-for .ensures in
+    let long : length (r .indices) ≡ wordsN = search needs in
+    let few = length-take (r .used) (r .indices) in (
+      below-turn (s .before .smaller .result) (a .n) (wordsOf r) (s .loop .out .indices) (s .loop .k) (s .loop .inv .0) (s .loop .left) _ (c .before .low-bits .result) (omega arith) (omega arith) (s .loop .inv .1)
+          (sym (getD-take (r .used) (r .indices) (s .loop .k) 0 (omega arith))) (c .before .low-bits .ensures),
       omega (arith, c .less .ensures),
       s .loop .inv .2,
+      s .loop .inv .3,
     )
 
 returns : tie.Need-returns Inv-loop μ-loop
 returns c =
     let s = c .before in
-    let ws = s .before .args .t1 .indices in
-    let long : length ws ≡ wordsN = search needs in
+    let a = s .before .before .before .args in
+    let r = a .t1 in
+    let n = a .n in
+    let last = s .before .smaller .result in
+    let e = s .before .smaller .ensures in
+    let d = s .before .before .words-for .ensures in
+    let long : length (r .indices) ≡ wordsN = search needs in
+    let few = length-take (r .used) (r .indices) in
+    let hs = words-take (r .used) (words (r .indices) (λ i. search needs)) in
     record {
-      set = below-end (s .before .args .n) ws (s .loop .out .indices) (s .loop .k) (s .loop .inv .0) (omega arith) (words ws (λ i. search needs));
-      flag = s .loop .inv .2;
+      set =
+          ap (λ (x : ℕ). number (take x (s .loop .out .indices))) (s .loop .inv .2)
+          ∙ below-end last n (wordsOf r) (s .loop .out .indices) (s .loop .k) (s .loop .inv .0) (omega arith) (λ g. omega arith) hs;
+      flag = s .loop .inv .3;
     }
 
 pub below-spec : {M : Type 1} → statement M
@@ -72,6 +98,8 @@ below-spec =
     (tie.spec
     Inv-loop
     μ-loop
+    words-for-requires
+    smaller-requires
     loop-holds
     mul-out
     element-copy-out-out

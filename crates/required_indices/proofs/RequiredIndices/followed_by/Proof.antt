@@ -1,5 +1,6 @@
 -- `required_indices::RequiredIndices::followed_by` meets its contract.
 use borrow.Author.Needs.{needs}
+use native.Mathlib.Omega.{arith}
 use Prim.Native.Nat.{ℕ, _*_, _^_, _<_}
 use mathlib.Core.Path.{sym, ap, subst, _∙_}
 use lib.Bits.{bitOr}
@@ -15,7 +16,7 @@ sub-slide : tie.Need-sub-slide
 sub-slide c = search needs
 
 slide-requires : tie.Need-slide-requires
-slide-requires c κs = subst (λ (x : ℕ). x < 2 ^ (wordsN * 64)) (sym (slide-up (setOf (c .args .rest)) (c .args .n))) (c .pre)
+slide-requires c κs = (omega arith, subst (λ (x : ℕ). x < 2 ^ (wordsN * 64)) (sym (slide-up (setOf (c .args .rest)) (c .args .n))) (c .pre))
 
 append-requires : tie.Need-append-requires
 append-requires c κs = search needs

@@ -3,8 +3,11 @@ use borrow.Author.Needs.{needs}
 use native.Mathlib.Omega.{arith}
 use Prim.Native.Nat.{_+_, _-_}
 use mathlib.Core.Path.{_≡_, ap}
-use lib.ListN.{length, drop, drop-of-length-le}
-use Rattle.required_indices.specs.Request.{wordsN}
+use lib.Count.{ones}
+use lib.ListN.{length, drop, length-take, drop-of-length-le}
+use lib.Seq.{getD-take}
+use Rattle.required_indices.specs.Request.{wordsN, wordsOf}
+use Rattle.required_indices.proofs.Pads.{words-take}
 use Rattle.required_indices.proofs.Places.{words}
 use Rattle.required_indices.proofs.Words.{onesW, number-ones}
 use Rattle.required_indices.proofs.Loops.{ones-turn, ones-most}
@@ -12,10 +15,13 @@ use Rattle.required_indices.proofs.RequiredIndices.len.Statement.{state
 use Rattle.required_indices.proofs.RequiredIndices.len.Tie as tie
 
 abbrev Inv-loop : tie.InvT-loop
-Inv-loop self n₀ k₀ n k = n + onesW (drop k (self .indices)) ≡ onesW (self .indices)
+Inv-loop self last n₀ k₀ n k = n + onesW (drop k (wordsOf self)) ≡ onesW (wordsOf self)
 
 abbrev μ-loop : tie.MeasureT-loop
-μ-loop self n₀ k₀ n k = wordsN - k
+μ-loop self last n₀ k₀ n k = last - k
+
+smaller-requires : tie.Need-smaller-requires Inv-loop μ-loop
+smaller-requires c κs = search needs
 
 loop-holds : tie.Need-loop-holds Inv-loop μ-loop
 loop-holds c = omega arith
@@ -29,16 +35,20 @@ element-copy-out-n c = search needs
 cast-n : tie.Need-cast-n Inv-loop μ-loop
 cast-n c =
     let s = c .before .before in
-    let ws = s .before .args .t1 .indices in
-    let long : length ws ≡ wordsN = search needs in
-    omega (arith, ones-turn ws (s .loop .k) (omega arith), ones-most (words ws (λ i. search needs)))
+    let a = s .before .before .args .t1 in
+    let few = length-take (a .used) (a .indices) in
+    let long : length (a .indices) ≡ wordsN = search needs in
+    let get = ap ones (getD-take (a .used) (a .indices) (s .loop .k) 0 (omega arith)) in
+    omega (arith, ones-turn (wordsOf a) (s .loop .k) (omega arith), ones-most (words-take (a .used) (words (a .indices) (λ i. search needs))), get)
 
 add-n : tie.Need-add-n Inv-loop μ-loop
 add-n c =
     let s = c .before .before in
-    let ws = s .before .args .t1 .indices in
-    let long : length ws ≡ wordsN = search needs in
-    omega (arith, ones-turn ws (s .loop .k) (omega arith), ones-most (words ws (λ i. search needs)))
+    let a = s .before .before .args .t1 in
+    let few = length-take (a .used) (a .indices) in
+    let long : length (a .indices) ≡ wordsN = search needs in
+    let get = ap ones (getD-take (a .used) (a .indices) (s .loop .k) 0 (omega arith)) in
+    omega (arith, ones-turn (wordsOf a) (s .loop .k) (omega arith), ones-most (words-take (a .used) (words (a .indices) (λ i. search needs))), get)
 
 add-k : tie.Need-add-k Inv-loop μ-loop
 add-k c = search needs
@@ -49,17 +59,20 @@ loop-less c = omega arith
 loop-again : tie.Need-loop-again Inv-loop μ-loop
 loop-again c =
     let s = c .before .before in
-    let ws = s .before .args .t1 .indices in
-    let long : length ws ≡ wordsN = search needs in
-    omega (arith, ones-turn ws (s .loop .k) (omega arith))
+    let a = s .before .before .args .t1 in
+    let few = length-take (a .used) (a .indices) in
+    let long : length (a .indices) ≡ wordsN = search needs in
+    let get = ap ones (getD-take (a .used) (a .indices) (s .loop .k) 0 (omega arith)) in
+    omega (arith, ones-turn (wordsOf a) (s .loop .k) (omega arith), ones-most (words-take (a .used) (words (a .indices) (λ i. search needs))), get)
 
 returns : tie.Need-returns Inv-loop μ-loop
 unfolding onesW
 returns c =
     let s = c .before in
-    let ws = s .before .args .t1 .indices in
-    let long : length ws ≡ wordsN = search needs in
-    omega (arith, number-ones (words ws (λ i. search needs)), ap onesW (drop-of-length-le ws {i = s .loop .k} (omega arith)))
+    let a = s .before .before .args .t1 in
+    let few = length-take (a .used) (a .indices) in
+    let long : length (a .indices) ≡ wordsN = search needs in
+    omega (arith, number-ones (words-take (a .used) (words (a .indices) (λ i. search needs))), ap onesW (drop-of-length-le (wordsOf a) {i = s .loop .k} (omega arith)))
 
 pub len-spec : {M : Type 1} → statement M
 len-spec =
@@ -67,6 +80,7 @@ len-spec =
     (tie.spec
     Inv-loop
     μ-loop
+    smaller-requires
     loop-holds
     mul-n
     element-copy-out-n

@@ -1,12 +1,12 @@
 -- `required_indices::RequiredIndices::split_off` meets its contract.
 use borrow.Author.Needs.{needs}
+use native.Mathlib.Omega.{arith}
 use Prim.Native.Nat.{ℕ, _*_, _^_, _<_}
 use native.Mathlib.Nat.{lt-of-le-of-lt}
 use mathlib.Core.Path.{sym, subst, _∙_}
 use lib.Pow.{shr-le}
 use Rattle.required_indices.specs.Request.{wordsN, setOf}
-use Rattle.required_indices.proofs.Places.{words}
-use Rattle.required_indices.proofs.Determined.{set-lt}
+use Rattle.required_indices.proofs.Places.{words, set-lt}
 use Rattle.required_indices.proofs.Slides.{slide-rest}
 use Rattle.required_indices.proofs.RequiredIndices.split_off.Statement.{statement}
 use Rattle.required_indices.proofs.RequiredIndices.split_off.Tie as tie
@@ -18,7 +18,7 @@ slide-requires : tie.Need-slide-requires
 slide-requires c κs =
     let r = c .before .args .self in
     let n = c .before .args .n in
-    subst (λ (x : ℕ). x < 2 ^ (wordsN * 64)) (sym (slide-rest (setOf r) n)) (lt-of-le-of-lt (shr-le (setOf r) n) (set-lt r (search needs) (words (r .indices) (λ i. search needs))))
+    (omega arith, subst (λ (x : ℕ). x < 2 ^ (wordsN * 64)) (sym (slide-rest (setOf r) n)) (lt-of-le-of-lt (shr-le (setOf r) n) (set-lt r (search needs) (words (r .indices) (λ i. search needs)))))
 
 returns : tie.Need-returns
 returns c =

@@ -1,26 +1,38 @@
 -- `required_indices::RequiredIndices::store` meets its contract.
 use borrow.Author.Needs.{needs}
 use native.Mathlib.Omega.{arith}
-use Prim.Native.Nat.{_+_, _-_, _≤_}
-use mathlib.Core.Path.{_≡_, ap, _∙_}
-use lib.ListN.{length}
-use lib.Seq.{paste, paste-zero, length-paste}
-use Rattle.required_indices.specs.Request.{wordsN}
-use Rattle.required_indices.proofs.Stored.{store-turn}
+use Prim.Native.Nat.{ℕ, suc, _+_, _-_, _≤_}
+use mathlib.Core.Path.{_≡_, sym, ap, ap₂, _∙_}
+use mathlib.Core.List.{_∷_}
+use lib.ListN.{length, set, length-take, length-set}
+use lib.Seq.{paste, paste-zero, length-paste, getD-take}
+use Rattle.required_indices.specs.Request.{wordsN, wordsOf}
+use Rattle.required_indices.proofs.Stored.{store-turn, store-whole}
 use Rattle.required_indices.proofs.RequiredIndices.store.Statement.{statement}
 use Rattle.required_indices.proofs.RequiredIndices.store.Tie as tie
 
 abbrev Inv-loop : tie.InvT-loop
-Inv-loop words₀ at self k₀ words k = (k ≤ wordsN) × (words ≡ paste words₀ at (self .indices) k)
+Inv-loop words₀ at self last k₀ words k = (k ≤ last) × (words ≡ paste words₀ (at + 1) (wordsOf self) k)
 
 abbrev μ-loop : tie.MeasureT-loop
-μ-loop words₀ at self k₀ words k = wordsN - k
+μ-loop words₀ at self last k₀ words k = last - k
 
-loop-holds : tie.Need-loop-holds Inv-loop μ-loop
-loop-holds c = (omega arith, paste-zero (c .args .words .now) (c .args .at) (c .args .t1 .indices))
+smaller-requires : tie.Need-smaller-requires Inv-loop μ-loop
+smaller-requires c κs = search needs
 
 mul-words : tie.Need-mul-words Inv-loop μ-loop
 mul-words c = search needs
+
+slice-write-words : tie.Need-slice-write-words Inv-loop μ-loop
+slice-write-words c = search needs
+
+loop-holds : tie.Need-loop-holds Inv-loop μ-loop
+loop-holds c =
+    let a = c .before .before .args in
+    (omega arith, paste-zero (set (a .words .now) (a .at) (c .smaller .result)) (a .at + 1) (wordsOf (a .t1)))
+
+mul-words-2 : tie.Need-mul-words-2 Inv-loop μ-loop
+mul-words-2 c = search needs
 
 element-copy-out-words : tie.Need-element-copy-out-words Inv-loop μ-loop
 element-copy-out-words c = search needs
@@ -28,17 +40,25 @@ element-copy-out-words c = search needs
 add-words : tie.Need-add-words Inv-loop μ-loop
 add-words c = search needs
 
-mul-words-2 : tie.Need-mul-words-2 Inv-loop μ-loop
-mul-words-2 c = search needs
+add-words-2 : tie.Need-add-words-2 Inv-loop μ-loop
+add-words-2 c = search needs
 
-slice-write-words : tie.Need-slice-write-words Inv-loop μ-loop
-slice-write-words c =
+mul-words-3 : tie.Need-mul-words-3 Inv-loop μ-loop
+mul-words-3 c = search needs
+
+slice-write-words-2 : tie.Need-slice-write-words-2 Inv-loop μ-loop
+slice-write-words-2 c =
     let s = c .before .before in
-    let a = s .before .args in
-    let long : length (a .t1 .indices) ≡ wordsN = search needs in
-    let e = ap length (s .loop .inv .1) in
-    let f = length-paste (a .words .now) (a .at) (a .t1 .indices) (s .loop .k) (omega arith) (omega arith) in
-    omega arith
+    let a = s .before .before .before .args in
+    let r = a .t1 in
+    let last = s .before .smaller .result in
+    let e = s .before .smaller .ensures in
+    let long : length (r .indices) ≡ wordsN = search needs in
+    let few = length-take (r .used) (r .indices) in
+    let first = set (a .words .now) (a .at) last in
+    let g = length-set (a .words .now) (a .at) last in
+    let f = length-paste first (a .at + 1) (wordsOf r) (s .loop .k) (omega arith) (omega arith) in
+    omega (arith, ap length (s .loop .inv .1), f)
 
 add-k : tie.Need-add-k Inv-loop μ-loop
 add-k c = search needs
@@ -49,23 +69,48 @@ loop-less c = omega arith
 loop-again : tie.Need-loop-again Inv-loop μ-loop
 loop-again c =
     let s = c .before .before in
-    let a = s .before .args in
-    let long : length (a .t1 .indices) ≡ wordsN = search needs in
-    (omega arith, store-turn (a .words .now) (a .t1 .indices) (s .loop .words) (a .at) (s .loop .k) (s .loop .inv .1) (omega arith) (omega arith))
+    let a = s .before .before .before .args in
+    let k = s .loop .k in
+    let r = a .t1 in
+    let last = s .before .smaller .result in
+    let e = s .before .smaller .ensures in
+    let long : length (r .indices) ≡ wordsN = search needs in
+    let few = length-take (r .used) (r .indices) in
+    let first = set (a .words .now) (a .at) last in
+    let g = length-set (a .words .now) (a .at) last in
+    let get = sym (getD-take (r .used) (r .indices) k 0 (omega arith)) in (
+      omega arith,
+      ap (set (s .loop .words) (a .at + 1 + k)) get ∙ store-turn first (wordsOf r) (s .loop .words) (a .at + 1) k (s .loop .inv .1) (omega arith) (omega arith),
+    )
 
 same-length : tie.Need-same-length Inv-loop μ-loop
 same-length c =
     let s = c .before in
-    let a = s .before .args in
-    let long : length (a .t1 .indices) ≡ wordsN = search needs in
-    ap length (s .loop .inv .1) ∙ length-paste (a .words .now) (a .at) (a .t1 .indices) (s .loop .k) (omega arith) (omega arith)
+    let a = s .before .before .before .args in
+    let r = a .t1 in
+    let last = s .before .smaller .result in
+    let e = s .before .smaller .ensures in
+    let long : length (r .indices) ≡ wordsN = search needs in
+    let few = length-take (r .used) (r .indices) in
+    let first = set (a .words .now) (a .at) last in
+    let g = length-set (a .words .now) (a .at) last in
+    ap length (s .loop .inv .1) ∙ length-paste first (a .at + 1) (wordsOf r) (s .loop .k) (omega arith) (omega arith) ∙ g
 
 returns : tie.Need-returns Inv-loop μ-loop
 returns c =
     let s = c .before in
-    let a = s .before .args in
-    let e : s .loop .k ≡ wordsN = omega arith in
-    s .loop .inv .1 ∙ ap (paste (a .words .now) (a .at) (a .t1 .indices)) e
+    let a = s .before .before .before .args in
+    let r = a .t1 in
+    let last = s .before .smaller .result in
+    let e = s .before .smaller .ensures in
+    let long : length (r .indices) ≡ wordsN = search needs in
+    let few = length-take (r .used) (r .indices) in
+    let first = set (a .words .now) (a .at) last in
+    let g = length-set (a .words .now) (a .at) last in
+    let d : s .loop .k ≡ length (wordsOf r) = omega arith in
+    let h : last ≡ length (wordsOf r) = omega arith in
+    s .loop .inv .1 ∙ store-whole (a .words .now) (a .at) last (wordsOf r) (s .loop .k) (omega arith)
+    ∙ ap₂ (λ (x y : ℕ). paste (a .words .now) (a .at) (x ∷ wordsOf r) (suc y)) h d
 
 pub store-spec : {M : Type 1} → statement M
 store-spec =
@@ -73,12 +118,16 @@ store-spec =
     (tie.spec
     Inv-loop
     μ-loop
-    loop-holds
+    smaller-requires
     mul-words
+    slice-write-words
+    loop-holds
+    mul-words-2
     element-copy-out-words
     add-words
-    mul-words-2
-    slice-write-words
+    add-words-2
+    mul-words-3
+    slice-write-words-2
     add-k
     loop-less
     loop-again

@@ -1,0 +1,2 @@
+-- What is known of every version's numbers.
+pub mod Small
