@@ -171,6 +171,21 @@ impl Plan {
             Plan::Scan { .. } | Plan::Empty { .. } => vec![],
         }
     }
+
+    pub fn children_mut(&mut self) -> Vec<&mut Plan> {
+        match self {
+            Plan::Projection(_, c)
+            | Plan::Filter(_, c)
+            | Plan::Sort(_, c)
+            | Plan::Limit(_, _, c)
+            | Plan::Aggregate(_, _, c)
+            | Plan::Window(_, c)
+            | Plan::SubqueryAlias(_, c)
+            | Plan::Distinct(c) => vec![c],
+            Plan::Union(l, r) | Plan::Join(_, l, r) => vec![l, r],
+            Plan::Scan { .. } | Plan::Empty { .. } => vec![],
+        }
+    }
     pub fn kind(&self) -> &'static str {
         match self {
             Plan::Projection(..) => "projection",

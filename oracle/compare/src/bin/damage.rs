@@ -99,16 +99,7 @@ fn filter_first(plan: &mut Plan, pair: Pair, times: usize) -> bool {
             filters.extend((0..times).map(|_| Expr::Not(Box::new(Expr::Column(pair)))));
             true
         }
-        Plan::Empty { .. } => false,
-        Plan::Projection(_, c)
-        | Plan::Filter(_, c)
-        | Plan::Sort(_, c)
-        | Plan::Limit(_, _, c)
-        | Plan::Aggregate(_, _, c)
-        | Plan::Window(_, c)
-        | Plan::SubqueryAlias(_, c)
-        | Plan::Distinct(c) => filter_first(c, pair, times),
-        Plan::Union(l, r) | Plan::Join(_, l, r) => filter_first(l, pair, times) || filter_first(r, pair, times),
+        _ => plan.children_mut().into_iter().any(|c| filter_first(c, pair, times)),
     }
 }
 

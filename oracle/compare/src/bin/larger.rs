@@ -26,19 +26,7 @@ fn number(plan: &mut Plan, old: &Catalogue, new: &mut Catalogue) {
             new.keys.extend(key.map(|k| TableKey { table: own, ..k.clone() }));
             *table = own;
         }
-        Plan::Projection(_, c)
-        | Plan::Filter(_, c)
-        | Plan::Sort(_, c)
-        | Plan::Limit(_, _, c)
-        | Plan::Aggregate(_, _, c)
-        | Plan::Window(_, c)
-        | Plan::SubqueryAlias(_, c)
-        | Plan::Distinct(c) => number(c, old, new),
-        Plan::Union(l, r) | Plan::Join(_, l, r) => {
-            number(l, old, new);
-            number(r, old, new);
-        }
-        Plan::Empty { .. } => {}
+        _ => plan.children_mut().into_iter().for_each(|c| number(c, old, new)),
     }
 }
 
