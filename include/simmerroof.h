@@ -15,8 +15,9 @@
 extern "C" {
 #endif
 
-/* Modes. House mode loses no row and no value. Crate mode gives what the Rust crate datafusion-optimizer 55.0.0 gives, up
- * to what docs/DIFFERENCES.md lists; it folds two equal projections into one, which can change values. */
+/* Modes. House mode loses no row and no value; where the file declares keys, of tables that keep them. Crate mode gives what
+ * the Rust crate datafusion-optimizer 55.0.0 gives, up to what docs/DIFFERENCES.md lists; it folds two equal projections into
+ * one, which can change values. */
 #define SIMMERROOF_CRATE 0
 #define SIMMERROOF_HOUSE 1
 
@@ -83,6 +84,11 @@ extern "C" {
  * is 0, and is aligned for its type. `out`, `answer` and the lent arrays overlap neither each other nor what is read.
  * Nothing else is asked: every content of every array gets an answer.
  *
+ * Keys (version 2). A file that declares a key of a table says that in each content of this table no two rows have the same
+ * values in all key columns, and that none of these values is missing. By it both modes drop groups that were not requested.
+ * The library does not see the tables: over one that breaks its key the rewritten plan can give other rows. A file without
+ * keys, as every file of version 1, says nothing of its tables.
+ *
  * Stack: 4 MiB are enough for the two plain functions on files of version 1, 8 MiB on files of version 2, and 3 MiB for the lent
  * form below on both; less where plans are small. The plain ones keep their working arrays on the stack and clear them in each
  * call: 1.2 MB for a file of version 1, 3.2 MB for one of version 2. Besides, each level of a plan takes some 3.3 KB, and each
@@ -119,26 +125,26 @@ void simmerroof_without_keys(const uint8_t *predicate, size_t predicate_len, con
 
 /* ---- The lent form --------------------------------------------------------------------------------------------------
  * The same two with the working arrays lent: for callers that prune many plans, or have less stack. Keep one
- * `struct simmerroof_work` on the heap (3,151,136 bytes, for files of both versions) and call the two `_with` functions. What
+ * `struct simmerroof_work` on the heap (3,170,720 bytes, for files of both versions) and call the two `_with` functions. What
  * the arrays held does not matter, and what they hold afterwards means nothing; nobody clears them. One struct serves one call
  * at a time. */
 struct simmerroof_work {
-    uint64_t cells[12288], nodes[1792], widths[512], acells[12288], bcells[12288], records[3328], icells[12288];
+    uint64_t cells[12288], nodes[1792], widths[512], keys[2448], acells[12288], bcells[12288], records[3328], icells[12288];
     uint16_t rows[1065088], names[8208], fields[262144], arows[2048], brows[2048], items[16896];
 };
 
 /* The library's own functions, which take the arrays one by one. The number at the end of their names is that of the lengths
  * above and changes whenever one of them does, so that a program compiled for other lengths does not link. */
-void simmerroof_prune_in2(uint8_t mode, uint16_t mask, const uint8_t *file, size_t file_len, const uint16_t *request,
+void simmerroof_prune_in3(uint8_t mode, uint16_t mask, const uint8_t *file, size_t file_len, const uint16_t *request,
                           size_t request_len, uint8_t *out, size_t out_len, uint64_t cells[12288],
                           uint16_t rows[1065088], uint64_t nodes[1792], uint16_t names[8208], uint16_t fields[262144],
-                          uint64_t widths[512], uint16_t arows[2048], uint64_t acells[12288], uint16_t brows[2048],
-                          uint64_t bcells[12288], uint64_t records[3328], uint16_t items[16896],
+                          uint64_t widths[512], uint64_t keys[2448], uint16_t arows[2048], uint64_t acells[12288],
+                          uint16_t brows[2048], uint64_t bcells[12288], uint64_t records[3328], uint16_t items[16896],
                           uint64_t icells[12288], uint64_t answer[3]);
-void simmerroof_prune_all_in2(uint8_t mode, uint16_t mask, const uint8_t *file, size_t file_len, uint8_t *out,
+void simmerroof_prune_all_in3(uint8_t mode, uint16_t mask, const uint8_t *file, size_t file_len, uint8_t *out,
                               size_t out_len, uint64_t cells[12288], uint16_t rows[1065088], uint64_t nodes[1792],
                               uint16_t names[8208], uint16_t fields[262144], uint64_t widths[512],
-                              uint16_t arows[2048], uint64_t acells[12288], uint16_t brows[2048],
+                              uint64_t keys[2448], uint16_t arows[2048], uint64_t acells[12288], uint16_t brows[2048],
                               uint64_t bcells[12288], uint64_t records[3328], uint16_t items[16896],
                               uint64_t icells[12288], uint64_t answer[3]);
 
@@ -146,8 +152,8 @@ void simmerroof_prune_all_in2(uint8_t mode, uint16_t mask, const uint8_t *file, 
 static inline void simmerroof_prune_with(uint8_t mode, uint16_t mask, const uint8_t *file, size_t file_len,
                                          const uint16_t *request, size_t request_len, uint8_t *out, size_t out_len,
                                          struct simmerroof_work *work, uint64_t answer[3]) {
-    simmerroof_prune_in2(mode, mask, file, file_len, request, request_len, out, out_len, work->cells, work->rows,
-                         work->nodes, work->names, work->fields, work->widths, work->arows, work->acells, work->brows,
+    simmerroof_prune_in3(mode, mask, file, file_len, request, request_len, out, out_len, work->cells, work->rows,
+                         work->nodes, work->names, work->fields, work->widths, work->keys, work->arows, work->acells, work->brows,
                          work->bcells, work->records, work->items, work->icells, answer);
 }
 
@@ -155,8 +161,8 @@ static inline void simmerroof_prune_with(uint8_t mode, uint16_t mask, const uint
 static inline void simmerroof_prune_all_with(uint8_t mode, uint16_t mask, const uint8_t *file, size_t file_len,
                                              uint8_t *out, size_t out_len, struct simmerroof_work *work,
                                              uint64_t answer[3]) {
-    simmerroof_prune_all_in2(mode, mask, file, file_len, out, out_len, work->cells, work->rows, work->nodes,
-                             work->names, work->fields, work->widths, work->arows, work->acells, work->brows,
+    simmerroof_prune_all_in3(mode, mask, file, file_len, out, out_len, work->cells, work->rows, work->nodes,
+                             work->names, work->fields, work->widths, work->keys, work->arows, work->acells, work->brows,
                              work->bcells, work->records, work->items, work->icells, answer);
 }
 

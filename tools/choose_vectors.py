@@ -1,9 +1,9 @@
 #!/usr/bin/env python3
 """tools/choose_vectors.py [FOLDER [OUT]]: writes crates/replay/stdin and crates/replay/stdout, or stdin and stdout of the folder OUT.
 
-The vectors that the gate replays: cases made by hand from documents 01 and 02, then a choice of the lines of library.txt, bare.txt and version2.txt of
-FOLDER (../shared/vectors), then the answers of the Rust's own texts (oracle/answers.txt, made by oracle/answers), then a choice of the lines of
-check-bare.txt and check-v2.txt.
+The vectors that the gate replays: cases made by hand from documents 01 and 02, then a choice of the lines of library.txt, bare.txt, version2.txt and
+keys.txt of FOLDER (../shared/vectors), then the answers of the Rust's own texts (oracle/answers.txt, made by oracle/answers), then a choice of the
+lines of check-bare.txt and check-v2.txt.
 
 By hand. Each case below has the answer that the documents give, written down beside it, never computed by code of this project: a
 result is spelled out as bytes, a refusal as code and place. A file is a list of fields, so that an offset is the sum of the sizes before it.
@@ -582,6 +582,55 @@ def keys_of_tables():
     gives(sixteen + scan_2([]), sixteen + S_2, [])
 
 
+def keyed_groups():
+    """"If all key columns are groups of an Aggregate, bare or aliased, its other groups that were not requested are dropped."""
+    tables = [table_2(1, 2, 3), table_2(4, 5)]
+    of_a, of_both, of_other = (head_2(tables, [k]) for k in (key_2(0, 0), key_2(0, 1, 0), key_2(1, 0)))
+    x, a_1 = col(*X), add(A, lit(1))
+    max_c = pair(*X) + u8(4) + C
+    for mode in (0, 1):
+        for head, groups, asked, kept, columns in (
+            (of_a, [A, B], [], [A], [0]),
+            (of_a, [A, B], [0], [A], [0]),
+            (of_a, [A, B], [1], [A, B], [0, 1]),  # a requested group stays
+            (of_a, [B, A, C], [0], [B, A], [0, 1]),
+            (of_a, [B, C], [0], [B, C], [1, 2]),  # the key column is no group
+            (of_a, [alias(*X, A), B], [], [alias(*X, A)], [0]),
+            (of_a, [A, alias(*X, A), B], [], [A, alias(*X, A)], [0]),  # all groups that are key columns stay
+            (of_a, [alias(*X, a_1), B], [1], [alias(*X, a_1), B], [0, 1]),  # computed
+            (of_both, [A, C], [0], [A, C], [0, 2]),  # one of two
+            (of_both, [C, A, B], [], [A, B], [0, 1]),
+            (of_other, [A, B], [0], [A, B], [0, 1]),
+            (head_2(tables), [A, B], [0], [A, B], [0, 1]),
+        ):
+            gives(head + aggregate_2(kept, []) + scan_2(columns), head + aggregate_2(groups, []) + S_2, asked, mode=mode)
+    gives(of_a + aggregate_2([A], [max_c]) + scan_2([0, 2]), of_a + aggregate_2([A, B], [max_c]) + S_2, [2])
+    # "A key passes up through Filter, Sort, Limit, SubqueryAlias, a Scan that has all its columns and a Projection that has them all as bare columns"
+    by_a = u8(3) + u8(1) + u8(0) + A
+    four = u8(7) + u16(4)
+    for old, new in (
+        (aggregate_2([A, B], []) + B_IS_5 + S_2, aggregate_2([A], []) + projection_2(A) + B_IS_5 + scan_2([0, 1])),
+        (aggregate_2([A, B], []) + by_a + S_2, aggregate_2([A], []) + by_a + scan_2([0])),
+        (aggregate_2([A, B], []) + limit(0, 3) + S_2, aggregate_2([A], []) + limit(0, 3) + scan_2([0])),
+        (aggregate_2([col(4, 1), col(4, 2)], []) + four + S_2, aggregate_2([col(4, 1)], []) + four + scan_2([0])),
+        (aggregate_2([A, B], []) + scan_2(filters=[equal(B, lit(5))]), aggregate_2([A], []) + scan_2([0], filters=[equal(B, lit(5))])),
+        (aggregate_2([A, C], []) + scan_2([2, 0]), aggregate_2([A], []) + scan_2([0])),
+        (aggregate_2([B, C], []) + scan_2([1, 2]), aggregate_2([B, C], []) + scan_2([1, 2])),
+        (aggregate_2([x, B], []) + projection_2(B, alias(*X, A)) + S_2, aggregate_2([x], []) + projection_2(alias(*X, A)) + scan_2([0])),
+        (aggregate_2([x, B], []) + projection_2(B, alias(*X, a_1)) + S_2, aggregate_2([x, B], []) + projection_2(B, alias(*X, a_1)) + scan_2([0, 1])),
+        # a second copy of a key column is no key column
+        (aggregate_2([x, B], []) + projection_2(A, alias(*X, A), B) + S_2, aggregate_2([x, B], []) + projection_2(alias(*X, A), B) + scan_2([0, 1])),
+        (aggregate_2([A, x], []) + projection_2(A, alias(*X, A)) + S_2, aggregate_2([A], []) + scan_2([0])),
+        # "nothing else"
+        (aggregate_2([A, B], []) + DISTINCT + S_2, aggregate_2([A, B], []) + projection_2(A, B) + DISTINCT + scan_2([0, 1, 2])),
+        (aggregate_2([A, B], []) + UNION + S_2 * 2, aggregate_2([A, B], []) + UNION + scan_2([0, 1]) * 2),
+        (aggregate_2([A, B], []) + join_on(0) + S_2 + empty_2(one_row=1), aggregate_2([A, B], []) + join_on(0) + scan_2([0, 1]) + empty_2(one_row=1)),
+        (aggregate_2([A, B], []) + window_2(pair(*X) + u8(0) + u8(0) + u8(0)) + S_2, aggregate_2([A, B], []) + scan_2([0, 1])),
+        (aggregate_2([A, B], []) * 2 + S_2, aggregate_2([A, B], []) * 2 + scan_2([0, 1])),
+    ):
+        gives(of_a + new, of_a + old, [])
+
+
 def filters():
     """"n filter expressions, over all its table's columns under the scan's qualifier"; "Filters stay"."""
     five = equal(B, lit(5))
@@ -631,7 +680,7 @@ def wide_2():
 
 
 for make in (settings_and_marks, samples, requests, counts_of_fields, limits_of_a_file, large, values, cuts, acceptance, checks, bare_names,
-             version_2, cuts_2, counts_2, keys_of_tables, filters, wide_2):
+             version_2, cuts_2, counts_2, keys_of_tables, keyed_groups, filters, wide_2):
     make()
 
 
@@ -828,7 +877,7 @@ def choose(lines, traits, most, longest):
 
 
 # the file, its traits, how often one is wanted at most, and the longest line
-CHOICES = [('library.txt', traits, 3, 3000), ('bare.txt', traits, 1, 1000), ('version2.txt', traits, 1, 3000)]
+CHOICES = [('library.txt', traits, 1, 3000), ('bare.txt', traits, 1, 1000), ('version2.txt', traits, 1, 3000), ('keys.txt', traits, 1, 1000)]
 CHECKS = [('check-bare.txt', check_traits, 1, 1000), ('check-v2.txt', check_traits, 1, 1000)]
 
 

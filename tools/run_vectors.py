@@ -90,6 +90,7 @@ FILES = [
     ('library.txt', 'replay', replayed),
     ('bare.txt', 'replay', replayed),
     ('version2.txt', 'replay', replayed),
+    ('keys.txt', 'replay', replayed),
     ('program.txt', 'prune', one_by_one),
     ('check-bare.txt', 'replay', replayed),
     ('check-v2.txt', 'replay', replayed),

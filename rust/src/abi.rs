@@ -14,7 +14,7 @@ macro_rules! lent {
         }
 
         unsafe extern "C" {
-            fn simmerroof_prune_in2(
+            fn simmerroof_prune_in3(
                 mode: u8,
                 mask: u16,
                 file: *const u8,
@@ -26,7 +26,7 @@ macro_rules! lent {
                 $($array: *mut [$of; $n],)*
                 answer: *mut Answer,
             );
-            fn simmerroof_prune_all_in2(
+            fn simmerroof_prune_all_in3(
                 mode: u8,
                 mask: u16,
                 file: *const u8,
@@ -52,12 +52,12 @@ macro_rules! lent {
             // SAFETY: as in `prune`; the arrays are of the sizes that the library asks for and are borrowed exclusively
             unsafe {
                 match request {
-                    Some(r) => simmerroof_prune_in2(
+                    Some(r) => simmerroof_prune_in3(
                         mode, mask, file.as_ptr(), file.len(), r.as_ptr(), r.len(), start, length,
                         $(&mut work.$array,)*
                         &mut answer,
                     ),
-                    None => simmerroof_prune_all_in2(
+                    None => simmerroof_prune_all_in3(
                         mode, mask, file.as_ptr(), file.len(), start, length,
                         $(&mut work.$array,)*
                         &mut answer,
@@ -76,6 +76,7 @@ lent! {
     names: [u16; 8208],
     fields: [u16; 262144],
     widths: [u64; 512],
+    keys: [u64; 2448],
     arows: [u16; 2048],
     acells: [u64; 12288],
     brows: [u16; 2048],
@@ -86,7 +87,7 @@ lent! {
 }
 
 // what include/simmerroof.h and the documentation of `Pruner` say
-const _: () = assert!(size_of::<Work>() == 3_151_136);
+const _: () = assert!(size_of::<Work>() == 3_170_720);
 
 impl Work {
     /// On the heap from the start: it is too large to pass through the stack.

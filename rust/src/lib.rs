@@ -3,6 +3,10 @@
 //! A plan file and a request go in; a plan file comes out whose scans read only the columns that are needed. In house
 //! mode no row and no value is lost: that is proved of the library. This crate only carries slices across.
 //!
+//! A file of version 2 may declare a key for each table: that no two of its rows have the same values in all key columns, and
+//! that none of these values is missing. By it both modes drop groups that were not requested; over tables that break a key the
+//! rewritten plan can give other rows. A file without keys, as every file of version 1, says nothing of its tables.
+//!
 //! ```
 //! use simmerroof::{Mode, Pruner};
 //!
@@ -24,7 +28,7 @@ pub use refusal::{Kind, Refusal};
 pub enum Mode {
     /// What the Rust crate gives, up to docs/DIFFERENCES.md. It folds two equal projections into one, which can change values.
     Crate = 0,
-    /// Loses no row and no value.
+    /// Loses no row and no value; where the file declares keys, of tables that keep them.
     House = 1,
 }
 
@@ -61,7 +65,8 @@ pub fn check(file: &[u8]) -> Result<Shape, Refusal> {
 }
 
 /// Narrows the plan for the fields in `request`: indices of the root's fields, strictly increasing. Writes the result to
-/// the front of `out` and returns its length; what lies behind it stays. A refusal changes no byte of `out`.
+/// the front of `out` and returns its length; what lies behind it stays. A refusal changes no byte of `out`. What a file's keys
+/// ask of its tables is said [above](crate).
 ///
 /// The library keeps its working arrays on the stack and clears them in every call: 1.2 MB for a file of version 1, 3.2 MB for
 /// one of version 2. That is more than the 2 MiB that Rust gives a thread where plans are deep or of version 2; 4 MiB are enough
@@ -89,7 +94,7 @@ pub fn without_keys(predicate: &[u8], keys: &[u8], out: &mut [u8]) -> Result<usi
     result(abi::without_keys(predicate, keys, out))
 }
 
-/// Holds the library's working arrays (3,151,136 bytes, for files of both versions) on the heap, made once and never cleared
+/// Holds the library's working arrays (3,170,720 bytes, for files of both versions) on the heap, made once and never cleared
 /// between calls.
 pub struct Pruner {
     work: Box<abi::Work>,

@@ -73,6 +73,20 @@ fn keys_are_kept() {
 }
 
 #[test]
+fn a_key_lets_a_group_go() {
+    // columns 1 and 2 are the key of the table; groups 3, 2, 1
+    let groups =
+        |list: &str, scan: &str| file(&[TABLE, "01 00 0200 0100 0000", "05", list, "0000 0b 00 0100", scan, "00"]);
+    let three = "0300 00 0100 0300 00 0100 0200 00 0100 0100";
+    let plan = groups(three, "00");
+    assert_eq!(narrowed(&plan, Some(&[1])), Ok(groups("0200 00 0100 0200 00 0100 0100", "01 0200 0000 0100")));
+    // a requested group stays, and so do all without the whole key among them
+    assert_eq!(narrowed(&plan, Some(&[0])), Ok(groups(three, "01 0300 0000 0100 0200")));
+    let half = "0200 00 0100 0300 00 0100 0200";
+    assert_eq!(narrowed(&groups(half, "00"), Some(&[1])), Ok(groups(half, "01 0200 0100 0200")));
+}
+
+#[test]
 fn keys_that_are_refused() {
     let with = |keys: &str| file(&[TABLE, keys, "0b 00 0100 00 00"]);
     // the keys' count stands at 14

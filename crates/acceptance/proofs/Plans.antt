@@ -53,7 +53,7 @@ module _ (C : Catalogue) (a : Arrays) (count : ℕ) where
 
 -- ── an accepted plan stands ─────────────────────────────────────────────────────────────────
 
-abbrev pub standing : {file cells rows nodes fields widths : List ℕ} {version : Version} {start count : ℕ} → PlanIn file cells rows nodes fields widths version start count
+abbrev pub standing : {file cells rows nodes fields widths keys : List ℕ} {version : Version} {start count : ℕ} → PlanIn file cells rows nodes fields widths keys version start count
     → Standing cells rows nodes fields widths
 standing {cells = cells} {rows} {nodes} {count = count} p = record {
   C = p .C;

@@ -49,10 +49,10 @@ narrow-fields : {v : Version} → IsVersion v → v .maxFields ≤ 128 → field
 narrow-fields is-1 l = omega arith
 narrow-fields is-2 l = absurd (omega (arith, l))
 
-module _ (file : List ℕ) {cells rows nodes names fields widths : List ℕ} (c : length cells ≡ 12288) (n : length nodes ≡ 1792) (m : length names ≡ 8208)
-    (w : length widths ≡ 512) where
+module _ (file : List ℕ) {cells rows nodes names fields widths keys : List ℕ} (c : length cells ≡ 12288) (n : length nodes ≡ 1792) (m : length names ≡ 8208)
+    (w : length widths ≡ 512) (y : length keys ≡ 2448) where
   -- for every file
-  pub wide-room : length rows ≡ 1065088 → length fields ≡ 262144 → Room file cells rows nodes names fields widths
+  pub wide-room : length rows ≡ 1065088 → length fields ≡ 262144 → Room file cells rows nodes names fields widths keys
   wide-room r f = record {
     cells-long = omega arith;
     rows-long = λ v k. omega (arith, wide-rows (mark-known file v k), r);
@@ -60,10 +60,11 @@ module _ (file : List ℕ) {cells rows nodes names fields widths : List ℕ} (c 
     names-long = omega arith;
     fields-long = λ v k. omega (arith, wide-fields (mark-known file v k), f);
     widths-long = omega arith;
+    keys-long = omega arith;
   }
 
   -- for a narrow one
-  pub narrow-room : Narrow file → length rows ≡ 278656 → length fields ≡ 65536 → Room file cells rows nodes names fields widths
+  pub narrow-room : Narrow file → length rows ≡ 278656 → length fields ≡ 65536 → Room file cells rows nodes names fields widths keys
   narrow-room h r f = record {
     cells-long = omega arith;
     rows-long = λ v k. omega (arith, narrow-rows (mark-known file v k) (h v k), r);
@@ -71,4 +72,5 @@ module _ (file : List ℕ) {cells rows nodes names fields widths : List ℕ} (c 
     names-long = omega arith;
     fields-long = λ v k. omega (arith, narrow-fields (mark-known file v k) (h v k), f);
     widths-long = omega arith;
+    keys-long = omega arith;
   }

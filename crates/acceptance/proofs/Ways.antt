@@ -29,6 +29,7 @@ use Rattle.tree.proofs.Few.{room}
 use Rattle.tree.proofs.Plans.{nodes-pos}
 use Rattle.tree.proofs.Stored.{stored}
 use Rattle.reader.specs.Plans.{TookFile}
+use Rattle.key_sets.specs.Slots.{TableKeys}
 use Rattle.parts.specs.Catalogue.{catalogueAt, NamesOk}
 use Rattle.accept.specs.Verdicts.{Checked, FieldsStand, Judgeable}
 use Rattle.accept.specs.declared.Verdict.the-variants.{Fine}
@@ -46,27 +47,27 @@ use Rattle.acceptance.proofs.Tables.{catalogue-same, names-ok}
 abbrev pub Refuses : declared.Checked → (code place : ℕ) → Type 0
 Refuses r code place = (r .code ≡ code) × (r .place ≡ place) × (r .nodes ≡ 0) × (r .fields ≡ 0)
 
-module _ (file cells rows nodes fields widths : List ℕ) (r : Reading) where
-  refused : (code place : ℕ) → Refuses (r .checked) code place → finding (readFile file) ≡ faulty code place → ReadingIs file cells rows nodes fields widths r
+module _ (file cells rows nodes fields widths keys : List ℕ) (r : Reading) where
+  refused : (code place : ℕ) → Refuses (r .checked) code place → finding (readFile file) ≡ faulty code place → ReadingIs file cells rows nodes fields widths keys r
   unfolding checkFile numbersOf
   refused code place e h = record {
     says = subst⁻¹ (λ f. CheckedIs (numbersOf f) (r .checked)) h (record { code-is = e .0; place-is = e .1; nodes-is = e .2; fields-is = e .3 });
     plan = λ z. absurd (let s : Sound (faulty code place) = subst Sound h (file-sound file) in ⊎-elim (λ w. omega (arith, w .0, e .0)) (λ w. omega (arith, w, e .0)) s);
   }
 
-  pub refuse-read : (code place : ℕ) → Refuses (r .checked) code place → readFile file ≡ bad code place → ReadingIs file cells rows nodes fields widths r
+  pub refuse-read : (code place : ℕ) → Refuses (r .checked) code place → readFile file ≡ bad code place → ReadingIs file cells rows nodes fields widths keys r
   unfolding finding
   refuse-read code place e h = refused code place e (ap finding h)
 
   pub refuse-node : (C : Catalogue) (p : Plan) (next tags count code node : ℕ) → Refuses (r .checked) code node → readFile file ≡ ok (sourceOf C p) next tags count
-      → check C p 0 ≡ some (fault code node) → ReadingIs file cells rows nodes fields widths r
+      → check C p 0 ≡ some (fault code node) → ReadingIs file cells rows nodes fields widths keys r
   unfolding finding
   refuse-node C p next tags count code node e h f = refused code node e (ap finding h ∙ ap (found C p) f)
 
 -- ── a file that was read ────────────────────────────────────────────────────────────────────
 
--- the plan that was read stands in the arrays, and its tables in theirs
-pub record Got (file cells rows nodes names : List ℕ) (version : Version) (tables start count : ℕ) : Type 0 where
+-- the plan that was read stands in the arrays, and its tables and their keys in theirs
+pub record Got (file cells rows nodes names keys : List ℕ) (version : Version) (tables start count : ℕ) : Type 0 where
   pub C : Catalogue
   pub version-is : C .version ≡ versionOf version
   pub tables-fit : FitCatalogue C
@@ -77,14 +78,15 @@ pub record Got (file cells rows nodes names : List ℕ) (version : Version) (tab
   pub starts-at : readCatalogue (C .version) file 5 0 0 ≡ ok C start 0 0
   pub named : NamesOk names tables
   pub marked : Marked file (C .version)
+  pub keyed : TableKeys C keys
 
-pub some-node : {file cells rows nodes names : List ℕ} {version : Version} {tables start count : ℕ} → Got file cells rows nodes names version tables start count → 0 < count
+pub some-node : {file cells rows nodes names keys : List ℕ} {version : Version} {tables start count : ℕ} → Got file cells rows nodes names keys version tables start count → 0 < count
 some-node {cells} {rows} {nodes} g = let e = g .whole in let h = nodes-pos (planAt (lent cells rows nodes) 0) in omega arith
 
-pub got : {file cells cells′ rows rows′ nodes nodes′ names′ : List ℕ} {version : Version} {tables start count tags made : ℕ}
-    → TookFile file cells cells′ rows rows′ nodes nodes′ names′ version tables start count tags made → AreBytes file → 12288 ≤ length cells
-    → ((v : cpl-limits.Version) → Marked file v → rowsRoom v ≤ length rows) → 1792 ≤ length nodes → 8208 ≤ length names′ → Got file cells′ rows′ nodes′ names′ version tables start count
-got {file} {cells} {cells′} {rows} {rows′} {nodes} {nodes′} {names′} {version} {tables} {start} {count} {tags} t b lc lr ln lm =
+pub got : {file cells cells′ rows rows′ nodes nodes′ names′ keys′ : List ℕ} {version : Version} {tables start count tags made : ℕ}
+    → TookFile file cells cells′ rows rows′ nodes nodes′ names′ keys′ version tables start count tags made → AreBytes file → 12288 ≤ length cells
+    → ((v : cpl-limits.Version) → Marked file v → rowsRoom v ≤ length rows) → 1792 ≤ length nodes → 8208 ≤ length names′ → Got file cells′ rows′ nodes′ names′ keys′ version tables start count
+got {file} {cells} {cells′} {rows} {rows′} {nodes} {nodes′} {names′} {keys′} {version} {tables} {start} {count} {tags} t b lc lr ln lm =
     let p = t .plan in
     let C = t .C in
     let w = written-read file b _ _ _ _ (t .is) in
@@ -103,10 +105,11 @@ got {file} {cells} {cells′} {rows} {rows′} {nodes} {nodes′} {names′} {ve
       starts-at = t .starts-at;
       named = names-ok C names′ tables (t .tables-are) (fits .tables) (t .few-tables) lm;
       marked = t .marked;
+      keyed = t .keys-are;
     }
 
 -- what was read can be judged
-pub judgeable : {file cells rows nodes names fields widths : List ℕ} {version : Version} {tables start count : ℕ} (g : Got file cells rows nodes names version tables start count)
+pub judgeable : {file cells rows nodes names keys fields widths : List ℕ} {version : Version} {tables start count : ℕ} (g : Got file cells rows nodes names keys version tables start count)
     → ((v : cpl-limits.Version) → Marked file v → fieldsRoom v ≤ length fields) → 512 ≤ length widths
     → Judgeable (g .C) (lent cells rows nodes) count names tables version fields widths 0 0
 judgeable {count = count} g f w =
@@ -142,7 +145,7 @@ root-width {w} f = sym (list-length _ one (firstAt w 0) (widthAt w 0)) ∙ ap le
 
 -- ── an accepted plan ────────────────────────────────────────────────────────────────────────
 
-module _ {file cells rows nodes fields widths : List ℕ} {version : Version} {start count : ℕ} (p : PlanIn file cells rows nodes fields widths version start count) where
+module _ {file cells rows nodes fields widths keys : List ℕ} {version : Version} {start count : ℕ} (p : PlanIn file cells rows nodes fields widths keys version start count) where
   pub is-accepted : finding (readFile file) ≡ accepted (p .C) (rootPlan cells rows nodes)
   unfolding finding
   is-accepted = ap finding (p .reads) ∙ ap (found (p .C) (rootPlan cells rows nodes)) (p .fine)
@@ -157,9 +160,9 @@ module _ {file cells rows nodes fields widths : List ℕ} {version : Version} {s
   few-fields = omega (arith, root-fields, root-stands .few)
 
 -- the same under other names of the numbers
-abbrev pub renumbered : {file cells rows nodes fields widths : List ℕ} {version version′ : Version} {start start′ count count′ : ℕ}
-    (p : PlanIn file cells rows nodes fields widths version start count) → version′ ≡ version → start′ ≡ start → count′ ≡ count
-    → PlanIn file cells rows nodes fields widths version′ start′ count′
+abbrev pub renumbered : {file cells rows nodes fields widths keys : List ℕ} {version version′ : Version} {start start′ count count′ : ℕ}
+    (p : PlanIn file cells rows nodes fields widths keys version start count) → version′ ≡ version → start′ ≡ start → count′ ≡ count
+    → PlanIn file cells rows nodes fields widths keys version′ start′ count′
 renumbered {file} {cells} {rows} {nodes} p v s n = record {
   C = p .C;
   version-is = p .version-is ∙ ap versionOf (sym v);
@@ -169,17 +172,18 @@ renumbered {file} {cells} {rows} {nodes} p v s n = record {
   reads = p .reads ∙ ap (ok (sourceOf (p .C) (rootPlan cells rows nodes)) (length file) (planTags (rootPlan cells rows nodes))) (sym n);
   starts-at = p .starts-at ∙ ap (λ k. ok (p .C) k 0 0) (sym s);
   fine = p .fine;
+  keyed = p .keyed;
   stand = λ j h. p .stand j (subst (λ k. j < k) n h);
 }
 
-pub accept-ends : (file cells rows nodes names fields widths : List ℕ) (version : Version) (tables start count : ℕ) (r : Reading) (g : Got file cells rows nodes names version tables start count)
+pub accept-ends : (file cells rows nodes names fields widths keys : List ℕ) (version : Version) (tables start count : ℕ) (r : Reading) (g : Got file cells rows nodes names keys version tables start count)
     → check (g .C) (rootPlan cells rows nodes) 0 ≡ none
     → ((j : ℕ) → j < count → FieldsStand (g .C) (lent cells rows nodes) fields widths j)
     → (r .checked .code ≡ 0) × (r .checked .place ≡ 0) × (r .checked .nodes ≡ count) × (r .checked .fields ≡ widthAt widths 0) × (r .start ≡ start) × (r .version ≡ version)
-    → ReadingIs file cells rows nodes fields widths r
+    → ReadingIs file cells rows nodes fields widths keys r
 unfolding checkFile numbersOf
-accept-ends file cells rows nodes names fields widths version tables start count r g fine stand e =
-    let p : PlanIn file cells rows nodes fields widths version start count = record {
+accept-ends file cells rows nodes names fields widths keys version tables start count r g fine stand e =
+    let p : PlanIn file cells rows nodes fields widths keys version start count = record {
       C = g .C;
       version-is = g .version-is;
       tables = g .tables-fit;
@@ -188,6 +192,7 @@ accept-ends file cells rows nodes names fields widths version tables start count
       reads = g .reads;
       starts-at = g .starts-at;
       fine = fine;
+      keyed = g .keyed;
       stand = stand;
     } in
     record {
@@ -197,8 +202,8 @@ accept-ends file cells rows nodes names fields widths version tables start count
     }
 
 -- where nothing is refused
-module _ {file cells rows nodes fields widths : List ℕ} {r : Reading} (x : ReadingIs file cells rows nodes fields widths r) (z : r .checked .code ≤ 0) where
-  pub plan-in : PlanIn file cells rows nodes fields widths (r .version) (r .start) (r .checked .nodes)
+module _ {file cells rows nodes fields widths keys : List ℕ} {r : Reading} (x : ReadingIs file cells rows nodes fields widths keys r) (z : r .checked .code ≤ 0) where
+  pub plan-in : PlanIn file cells rows nodes fields widths keys (r .version) (r .start) (r .checked .nodes)
   plan-in = x .plan (omega arith)
 
   pub width-is : r .checked .fields ≡ length (fieldsOf (plan-in .C) (rootPlan cells rows nodes))

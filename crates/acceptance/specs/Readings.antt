@@ -16,6 +16,7 @@ use Rattle.rules.specs.Success.{sourceOf}
 use Rattle.versions.specs.Versions.{fieldsRoom, rowsRoom, versionOf}
 use Rattle.versions.specs.declared.Version.{Version}
 use Rattle.tree.specs.Tree.{lent, planAt, WfTree}
+use Rattle.key_sets.specs.Slots.{TableKeys}
 use Rattle.accept.specs.Verdicts.{FieldsStand}
 use Rattle.acceptance.specs.declared.Checked.{Checked}
 use Rattle.acceptance.specs.declared.Reading.{Reading}
@@ -40,16 +41,18 @@ abbrev pub Narrow : (file : List ℕ) → Type 0
 Narrow file = (v : cpl-limits.Version) → Marked file v → v .maxFields ≤ 128
 
 -- the lent arrays are long enough for every plan file of the file's version
-pub record Room (file cells rows nodes names fields widths : List ℕ) : Type 0 where
+pub record Room (file cells rows nodes names fields widths keys : List ℕ) : Type 0 where
   pub cells-long : 12288 ≤ length cells
   pub rows-long : (v : cpl-limits.Version) → Marked file v → rowsRoom v ≤ length rows
   pub nodes-long : 1792 ≤ length nodes
   pub names-long : 8208 ≤ length names
   pub fields-long : (v : cpl-limits.Version) → Marked file v → fieldsRoom v ≤ length fields
   pub widths-long : 512 ≤ length widths
+  pub keys-long : 2448 ≤ length keys
 
--- the file's plan was read, is of that version, starts at that offset, is accepted and stands in the arrays with the fields of each of its nodes
-pub record PlanIn (file cells rows nodes fields widths : List ℕ) (version : Version) (start count : ℕ) : Type 0 where
+-- the file's plan was read, is of that version, starts at that offset, is accepted and stands in the arrays with the fields of each of its nodes and the
+-- keys of its tables
+pub record PlanIn (file cells rows nodes fields widths keys : List ℕ) (version : Version) (start count : ℕ) : Type 0 where
   pub C : Catalogue
   pub version-is : C .version ≡ versionOf version
   pub tables : FitCatalogue C
@@ -58,9 +61,10 @@ pub record PlanIn (file cells rows nodes fields widths : List ℕ) (version : Ve
   pub reads : readFile file ≡ ok (sourceOf C (rootPlan cells rows nodes)) (length file) (planTags (rootPlan cells rows nodes)) count
   pub starts-at : readCatalogue (C .version) file 5 0 0 ≡ ok C start 0 0
   pub fine : cpl.check C (rootPlan cells rows nodes) 0 ≡ none
+  pub keyed : TableKeys C keys
   pub stand : (j : ℕ) → j < count → FieldsStand C (lent cells rows nodes) fields widths j
 
 -- what is said of a file; and where it is accepted, its plan
-pub record ReadingIs (file cells rows nodes fields widths : List ℕ) (r : Reading) : Type 0 where
+pub record ReadingIs (file cells rows nodes fields widths keys : List ℕ) (r : Reading) : Type 0 where
   pub says : CheckedIs (rules.checkFile file) (r .checked)
-  pub plan : r .checked .code ≡ 0 → PlanIn file cells rows nodes fields widths (r .version) (r .start) (r .checked .nodes)
+  pub plan : r .checked .code ≡ 0 → PlanIn file cells rows nodes fields widths keys (r .version) (r .start) (r .checked .nodes)

@@ -42,7 +42,7 @@ fn refuse(code: u8, place: usize) -> Reading
     }
 }
 
-/// A file's plan, read into the lent arrays and accepted; or a refusal. The arrays are long enough for every plan file of the file's version: see
+/// A file's plan, read into the lent arrays and accepted, with the keys of its tables in their slots; or a refusal. The arrays are long enough for every plan file of the file's version: see
 /// `reader::read_file` and `accept::accept_node`.
 pub fn read_and_check(
     file: &[u8],
@@ -52,11 +52,12 @@ pub fn read_and_check(
     names: &mut [u16],
     fields: &mut [u16],
     widths: &mut [u64],
+    keys: &mut [u64],
 ) -> Reading
-    requires { ⌜ Room (now file) (now cells) (now rows) (now nodes) (now names) (now fields) (now widths) ⌝ }
-    ensures { λ r. ⌜ ReadingIs (now (file .entry)) (now (cells .exit)) (now (rows .exit)) (now (nodes .exit)) (now (fields .exit)) (now (widths .exit)) r ⌝ }
+    requires { ⌜ Room (now file) (now cells) (now rows) (now nodes) (now names) (now fields) (now widths) (now keys) ⌝ }
+    ensures { λ r. ⌜ ReadingIs (now (file .entry)) (now (cells .exit)) (now (rows .exit)) (now (nodes .exit)) (now (fields .exit)) (now (widths .exit)) (now (keys .exit)) r ⌝ }
 {
-    let read = reader::read_file(file, cells, rows, nodes, names);
+    let read = reader::read_file(file, cells, rows, nodes, names, keys);
     match read {
         Read::Bad(code, place) => refuse(code, place),
         Read::Done {
@@ -109,10 +110,11 @@ pub fn check_in(
     names: &mut [u16; 8208],
     fields: &mut [u16; 262144],
     widths: &mut [u64; 512],
+    keys: &mut [u64; 2448],
 ) -> Checked
     ensures { λ r. ⌜ CheckedIs (checkFile (now (file .entry))) r ⌝ }
 {
-    let read = read_and_check(file, cells, rows, nodes, names, fields, widths);
+    let read = read_and_check(file, cells, rows, nodes, names, fields, widths, keys);
     read.checked
 }
 
@@ -126,6 +128,7 @@ fn check_wide(file: &[u8]) -> Checked
     let mut names = [0u16; 8208];
     let mut fields = [0u16; 262144];
     let mut widths = [0u64; 512];
+    let mut keys = [0u64; 2448];
     check_in(
         file,
         &mut cells,
@@ -134,6 +137,7 @@ fn check_wide(file: &[u8]) -> Checked
         &mut names,
         &mut fields,
         &mut widths,
+        &mut keys,
     )
 }
 
@@ -148,6 +152,7 @@ fn check_narrow(file: &[u8]) -> Checked
     let mut names = [0u16; 8208];
     let mut fields = [0u16; 65536];
     let mut widths = [0u64; 512];
+    let mut keys = [0u64; 2448];
     let read = read_and_check(
         file,
         &mut cells,
@@ -156,6 +161,7 @@ fn check_narrow(file: &[u8]) -> Checked
         &mut names,
         &mut fields,
         &mut widths,
+        &mut keys,
     );
     read.checked
 }

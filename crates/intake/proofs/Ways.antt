@@ -23,12 +23,12 @@ use Rattle.intake.specs.declared.Intake.{Intake}
 -- ── refusals ────────────────────────────────────────────────────────────────────────────────
 
 -- a refusal by its code, which is not 0
-by-code : (file : List ℕ) (request : ℕ → List ℕ) (cells rows nodes fields widths : List ℕ) (r : Intake) (code place : ℕ) → 1 ≤ code → r .place ≡ place
-    → ((M : Merge) → judged M request (readFile file) ≡ refused code place) → IntakeIs file request cells rows nodes fields widths r code
-by-code file request cells rows nodes fields widths r zero place l e h = absurd (omega arith)
-by-code file request cells rows nodes fields widths r (suc c) place l e h = λ M. h M ∙ ap (refused (suc c)) (sym e)
+by-code : (file : List ℕ) (request : ℕ → List ℕ) (cells rows nodes fields widths keys : List ℕ) (r : Intake) (code place : ℕ) → 1 ≤ code → r .place ≡ place
+    → ((M : Merge) → judged M request (readFile file) ≡ refused code place) → IntakeIs file request cells rows nodes fields widths keys r code
+by-code file request cells rows nodes fields widths keys r zero place l e h = absurd (omega arith)
+by-code file request cells rows nodes fields widths keys r (suc c) place l e h = λ M. h M ∙ ap (refused (suc c)) (sym e)
 
-module _ {file cells rows nodes fields widths : List ℕ} {a : Reading} (x : ReadingIs file cells rows nodes fields widths a) (request : ℕ → List ℕ) (r : Intake) where
+module _ {file cells rows nodes fields widths keys : List ℕ} {a : Reading} (x : ReadingIs file cells rows nodes fields widths keys a) (request : ℕ → List ℕ) (r : Intake) where
   -- the code is passed on
   passed-on : 0 < a .checked .code → (M : Merge) → judged M request (readFile file) ≡ refused (a .checked .code) (a .checked .place)
   unfolding checkFile
@@ -36,12 +36,12 @@ module _ {file cells rows nodes fields widths : List ℕ} {a : Reading} (x : Rea
       judged-by M request (readFile file) ∙ (refused-by M request (finding (readFile file)) (omega (arith, x .says .code-is))
       ∙ ap₂ refused (sym (x .says .code-is)) (sym (x .says .place-is)))
 
-  pub refused-file : 0 < a .checked .code → (r .code ≡ a .checked .code) × (r .place ≡ a .checked .place) → IntakeIs file request cells rows nodes fields widths r (r .code)
-  refused-file z e = subst⁻¹ (IntakeIs file request cells rows nodes fields widths r) (e .0) (by-code file request cells rows nodes fields widths r _ _ z (e .1) (passed-on z))
+  pub refused-file : 0 < a .checked .code → (r .code ≡ a .checked .code) × (r .place ≡ a .checked .place) → IntakeIs file request cells rows nodes fields widths keys r (r .code)
+  refused-file z e = subst⁻¹ (IntakeIs file request cells rows nodes fields widths keys r) (e .0) (by-code file request cells rows nodes fields widths keys r _ _ z (e .1) (passed-on z))
 
 -- ── the request ─────────────────────────────────────────────────────────────────────────────
 
-module _ {file cells rows nodes fields widths : List ℕ} {version : Version} {start count : ℕ} (p : PlanIn file cells rows nodes fields widths version start count) (request : ℕ → List ℕ) where
+module _ {file cells rows nodes fields widths keys : List ℕ} {version : Version} {start count : ℕ} (p : PlanIn file cells rows nodes fields widths keys version start count) (request : ℕ → List ℕ) where
   asked : (width : ℕ) → width ≡ length (fieldsOf (p .C) (rootPlan cells rows nodes)) → (f : Option ℕ) → requestFault width (request width) ≡ f
       → (M : Merge) → judged M request (readFile file) ≡ requested M (p .C) (rootPlan cells rows nodes) (request (length (fieldsOf (p .C) (rootPlan cells rows nodes)))) f
   asked width w f h M =
@@ -49,20 +49,20 @@ module _ {file cells rows nodes fields widths : List ℕ} {version : Version} {s
       ∙ ap (requested M (p .C) (rootPlan cells rows nodes) (request (length (fieldsOf (p .C) (rootPlan cells rows nodes))))) (subst (λ n. requestFault n (request n) ≡ f) w h))
 
   module _ (width : ℕ) (wide : width ≡ length (fieldsOf (p .C) (rootPlan cells rows nodes))) (r : Intake) where
-    ended : (f : Option ℕ) → requestFault width (request width) ≡ f → AskIs width (request width) version start count r f → IntakeIs file request cells rows nodes fields widths r (r .code)
+    ended : (f : Option ℕ) → requestFault width (request width) ≡ f → AskIs width (request width) version start count r f → IntakeIs file request cells rows nodes fields widths keys r (r .code)
     unfolding requested
-    ended none e a = subst⁻¹ (IntakeIs file request cells rows nodes fields widths r) (a .0)
+    ended none e a = subst⁻¹ (IntakeIs file request cells rows nodes fields widths keys r) (a .0)
         (record {
           plan = renumbered p (a .1) (a .2) (a .3);
           asks = subst (λ n. Asks (r .set) (maskOf n (request n))) wide (a .4);
           flag = a .5;
           rest = asked width wide none e;
         })
-    ended (some place) e a = subst⁻¹ (IntakeIs file request cells rows nodes fields widths r) (a .0)
-        (by-code file request cells rows nodes fields widths r 11 place (omega arith) (a .1) (asked width wide (some place) e))
+    ended (some place) e a = subst⁻¹ (IntakeIs file request cells rows nodes fields widths keys r) (a .0)
+        (by-code file request cells rows nodes fields widths keys r 11 place (omega arith) (a .1) (asked width wide (some place) e))
 
-pub requested-file : {file cells rows nodes fields widths : List ℕ} {a : Reading} → ReadingIs file cells rows nodes fields widths a → (request : ℕ → List ℕ) (r : Intake)
+pub requested-file : {file cells rows nodes fields widths keys : List ℕ} {a : Reading} → ReadingIs file cells rows nodes fields widths keys a → (request : ℕ → List ℕ) (r : Intake)
     → a .checked .code ≤ 0
     → AskIs (a .checked .fields) (request (a .checked .fields)) (a .version) (a .start) (a .checked .nodes) r (requestFault (a .checked .fields) (request (a .checked .fields)))
-    → IntakeIs file request cells rows nodes fields widths r (r .code)
+    → IntakeIs file request cells rows nodes fields widths keys r (r .code)
 requested-file {a} x request r z h = ended (plan-in x z) request (a .checked .fields) (width-is x z) r (requestFault (a .checked .fields) (request (a .checked .fields))) refl h

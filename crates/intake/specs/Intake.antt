@@ -35,13 +35,13 @@ AskIs width is version start count r none = (r .code ≡ 0) × (r .version ≡ v
 AskIs width is version start count r (some place) = (r .code ≡ REQUEST) × (r .place ≡ place)
 
 -- the plan was read, is accepted and rightly requested: what is left is to rewrite it
-pub record Taken (file : List ℕ) (request : ℕ → List ℕ) (cells rows nodes fields widths : List ℕ) (r : Intake) : Type 0 where
-  pub plan : PlanIn file cells rows nodes fields widths (r .version) (r .start) (r .count)
+pub record Taken (file : List ℕ) (request : ℕ → List ℕ) (cells rows nodes fields widths keys : List ℕ) (r : Intake) : Type 0 where
+  pub plan : PlanIn file cells rows nodes fields widths keys (r .version) (r .start) (r .count)
   pub asks : Asks (r .set) (askedOf (plan .C) (rootPlan cells rows nodes) request)
   pub flag : flagOf (r .set) ≡ false
   pub rest : (M : Merge) → judged M request (readFile file) ≡ finish (plan .C) (rewrite M (plan .C) (rootPlan cells rows nodes) (askedOf (plan .C) (rootPlan cells rows nodes) request))
 
 -- by the code: 0, or the refusal, whatever the mode
-abbrev pub IntakeIs : (file : List ℕ) (request : ℕ → List ℕ) (cells rows nodes fields widths : List ℕ) (r : Intake) (code : ℕ) → Type 0
-IntakeIs file request cells rows nodes fields widths r zero = Taken file request cells rows nodes fields widths r
-IntakeIs file request cells rows nodes fields widths r (suc c) = (M : Merge) → judged M request (readFile file) ≡ refused (suc c) (r .place)
+abbrev pub IntakeIs : (file : List ℕ) (request : ℕ → List ℕ) (cells rows nodes fields widths keys : List ℕ) (r : Intake) (code : ℕ) → Type 0
+IntakeIs file request cells rows nodes fields widths keys r zero = Taken file request cells rows nodes fields widths keys r
+IntakeIs file request cells rows nodes fields widths keys r (suc c) = (M : Merge) → judged M request (readFile file) ≡ refused (suc c) (r .place)

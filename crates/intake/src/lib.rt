@@ -82,11 +82,12 @@ pub fn take_in(
     names: &mut [u16],
     fields: &mut [u16],
     widths: &mut [u64],
+    keys: &mut [u64],
 ) -> Intake
-    requires { ⌜ Room (now file) (now cells) (now rows) (now nodes) (now names) (now fields) (now widths) ⌝ }
-    ensures { λ r. ⌜ IntakeIs (now (file .entry)) (wanted all (now (request .entry))) (now (cells .exit)) (now (rows .exit)) (now (nodes .exit)) (now (fields .exit)) (now (widths .exit)) r (r .code) ⌝ }
+    requires { ⌜ Room (now file) (now cells) (now rows) (now nodes) (now names) (now fields) (now widths) (now keys) ⌝ }
+    ensures { λ r. ⌜ IntakeIs (now (file .entry)) (wanted all (now (request .entry))) (now (cells .exit)) (now (rows .exit)) (now (nodes .exit)) (now (fields .exit)) (now (widths .exit)) (now (keys .exit)) r (r .code) ⌝ }
 {
-    let read = acceptance::read_and_check(file, cells, rows, nodes, names, fields, widths);
+    let read = acceptance::read_and_check(file, cells, rows, nodes, names, fields, widths, keys);
     let checked = read.checked;
     if checked.code > 0 {
         return refuse(checked.code, checked.place);

@@ -1,6 +1,6 @@
 -- What is known at a node of an accepted plan, and what the job of a kind says of it. Assumes nothing.
 use mathlib.Core.Path.{_≡_, refl, sym, ap, subst, _∙_}
-use mathlib.Core.Bool.{Bool}
+use mathlib.Core.Bool.{Bool, false}
 use mathlib.Core.List.{List}
 use Prim.Native.Nat.{ℕ, _+_, _*_, _<_, _≤_}
 use native.Mathlib.Omega.{arith}
@@ -10,8 +10,9 @@ use Rattle.cpl.specs.Lists.{Fit}
 use Rattle.cpl.specs.Plan.{Binary, Catalogue, Leaf, Pair, Unary, empty}
 use Rattle.cpl.specs.ReadPlan.{h0, h1, h2}
 use Rattle.cpl.proofs.Accepted.{Accepted}
+use Rattle.rules.specs.Keys.{keyOf}
 use Rattle.rules.specs.Mask.{Mask}
-use Rattle.required_indices.specs.Request.{flagOf, wordsN}
+use Rattle.required_indices.specs.Request.{Holds, flagOf, setOf, wordsN}
 use Rattle.required_indices.specs.declared.RequiredIndices.{RequiredIndices}
 use Rattle.arena.specs.Rows.{pairAt}
 use Rattle.tree.specs.Rows.{one, pairsAt}
@@ -23,6 +24,7 @@ use Rattle.tree.proofs.Plans.{taken}
 use Rattle.lookup.specs.Fields.{firstAt, rowAt, widthAt}
 use Rattle.lookup.proofs.Lists.{list-length}
 use Rattle.lookup.proofs.Standing.{row-is}
+use Rattle.key_sets.specs.Slots.{KeySet, SlotIn, nodeSlot, slotAt}
 use Rattle.requests.specs.Asked.{Below}
 use Rattle.requests.proofs.Rows.{row-below, set-fits}
 use Rattle.jobs.specs.Asked.{Asked}
@@ -33,14 +35,14 @@ use Rattle.jobs.specs.declared.Todo.the-variants as todos
 
 -- a job of a node with one input, by what is to be done
 by-todo : (C : Catalogue) (a : Arrays) {count k : ℕ} (node : Node) (b : Bool) (R : Mask) (j : Job) {h : Unary} → headOf a node ≡ h1 h → HasInput a count k h → NoProjection h
-    → (t : Todo) → OneIs C h (fieldsOf C (planAt a (k + 1))) b R j t → AtNode C a count k node b R j t
+    → (t : Todo) → OneIs C h (keyOf C (planAt a (k + 1))) (fieldsOf C (planAt a (k + 1))) b R j t → AtNode C a count k node b R j t
 by-todo C a node b R j {h} e i o todos.Leaf x = absurd x
 by-todo C a node b R j {h} e i o todos.Nothing x = record { h = h; head = e; input = i; other = o; job = x }
 by-todo C a node b R j {h} e i o todos.Same x = record { h = h; head = e; input = i; other = o; job = x }
 by-todo C a node b R j {h} e i o (todos.One topped) x = record { h = h; head = e; input = i; other = o; job = x }
 by-todo C a node b R j {h} e i o (todos.Two right) x = absurd x
 
-module _ {cells rows fields widths : List ℕ} {node : Node} {k : ℕ} {r : RequiredIndices} (q : Asked cells rows fields widths node k r) where
+module _ {cells rows fields widths keys : List ℕ} {node : Node} {k : ℕ} {r : RequiredIndices} (q : Asked cells rows fields widths keys node k r) where
   abbrev C : Catalogue
   C = q .standing .C
 
@@ -105,6 +107,13 @@ module _ {cells rows fields widths : List ℕ} {node : Node} {k : ℕ} {r : Requ
     unfolding fieldsOf
     one-fields = ap (fieldsOf C) (one-input .plan)
 
+    -- the slot of the input's key
+    pub one-slot : {slot : ℕ} → slot ≡ nodeSlot (k + 1) → SlotIn keys slot
+    one-slot e = omega (arith, e, one-input .below, q .standing .tree .few, q .keyed .room)
+
+    pub one-key : {slot : ℕ} {key : RequiredIndices} → slot ≡ nodeSlot (k + 1) → Holds key (slotAt keys slot) false → KeySet (setOf key) (keyOf C (planAt arrays (k + 1)))
+    one-key e g = subst (λ s. KeySet s (keyOf C (planAt arrays (k + 1)))) (sym (g .set ∙ ap (slotAt keys) e)) (q .keyed .nodes-have .each (k + 1) (omega arith) (one-input .below))
+
     module _ {f w : ℕ} (ef : f ≡ firstAt widths (k + 1)) (ew : w ≡ widthAt widths (k + 1)) where
       pub one-below : Below fields f w
       one-below = row-below (q .standing) (k + 1) (one-input .below) ef ew
@@ -118,10 +127,10 @@ module _ {cells rows fields widths : List ℕ} {node : Node} {k : ℕ} {r : Requ
             asks = q .asks;
           })
 
-      pub one-at : {j : Job} → NoProjection h → OneJob h (rowAt fields f w) r j → AtNode C arrays count k node (flagOf r) (q .R) j (j .todo)
+      pub one-at : {j : Job} → NoProjection h → OneJob h (keyOf C (planAt arrays (k + 1))) (rowAt fields f w) r j → AtNode C arrays count k node (flagOf r) (q .R) j (j .todo)
       one-at {j} o job =
           by-todo C arrays node (flagOf r) (q .R) j (ap (headOf arrays) e ∙ p) one-input o (j .todo)
-          (subst (λ fs. OneIs C h fs (flagOf r) (q .R) j (j .todo)) (row-is (q .standing) (k + 1) (one-input .below) ef ew) (job .is C (q .R) one-posed))
+          (subst (λ fs. OneIs C h (keyOf C (planAt arrays (k + 1))) fs (flagOf r) (q .R) j (j .todo)) (row-is (q .standing) (k + 1) (one-input .below) ef ew) (job .is C (q .R) one-posed))
 
   -- ── two inputs ────────────────────────────────────────────────────────────────────────────
 

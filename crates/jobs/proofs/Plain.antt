@@ -58,9 +58,9 @@ wins-long s cells f n = sym (list-length (winAt s cells) (winSize s) f n)
 abbrev Whole : Unary → Type 0
 Whole h = (s : ℕ) → (unaryPart s h ≡ h) × UnarySet s h
 
-module _ (C : Catalogue) (h : Unary) (fs : List Pair) (b : Bool) (R Q : Mask) {topped : Bool} {q : RequiredIndices} {j : Job} (t : Through q topped j) (w : Whole h)
-    (e : unaryJob C h fs b R ≡ rules.ask (flagOf q) Q topped (unary h) (λ K. K)) (a : Asks q Q) (f : Fit Q fs) where
-  input-is : InputIs C h fs b R topped (unary (unaryPart (setOf (j .set)) h)) j
+module _ (C : Catalogue) (h : Unary) (key : List ℕ) (fs : List Pair) (b : Bool) (R Q : Mask) {topped : Bool} {q : RequiredIndices} {j : Job} (t : Through q topped j) (w : Whole h)
+    (e : unaryJob C h key fs b R ≡ rules.ask (flagOf q) Q topped (unary h) (λ K. K)) (a : Asks q Q) (f : Fit Q fs) where
+  input-is : InputIs C h key fs b R topped (unary (unaryPart (setOf (j .set)) h)) j
   input-is = record {
     Q = Q;
     left = λ K. K;
@@ -71,46 +71,46 @@ module _ (C : Catalogue) (h : Unary) (fs : List Pair) (b : Bool) (R Q : Mask) {t
     rest = subst (λ x. RestIs fs (λ K. K) j x) (sym (t .rest-is)) (λ K. refl);
   }
 
-  through-is : OneIs C h fs b R j (j .todo)
-  through-is = subst (λ x. OneIs C h fs b R j x) (sym (t .todo-is)) input-is
+  through-is : OneIs C h key fs b R j (j .todo)
+  through-is = subst (λ x. OneIs C h key fs b R j x) (sym (t .todo-is)) input-is
 
-module _ {fs : List Pair} {r s q : RequiredIndices} {j : Job} where
+module _ {key : List ℕ} {fs : List Pair} {r s q : RequiredIndices} {j : Job} where
   -- a node that adds the columns of es
-  adding : (h : Unary) (es : List Expr) → Whole h → ((C : Catalogue) (b : Bool) (R : Mask) → unaryJob C h fs b R ≡ rules.ask true (plus es fs R) true (unary h) (λ K. K))
-      → ((R : Mask) → Fit R (unaryFields h fs) → Fit R fs) → Adds es fs r s → Holds q (setOf s) true → Through q true j → OneJob h fs r j
+  adding : (h : Unary) (es : List Expr) → Whole h → ((C : Catalogue) (b : Bool) (R : Mask) → unaryJob C h key fs b R ≡ rules.ask true (plus es fs R) true (unary h) (λ K. K))
+      → ((R : Mask) → Fit R (unaryFields h fs) → Fit R fs) → Adds es fs r s → Holds q (setOf s) true → Through q true j → OneJob h key fs r j
   adding h es w e f d g t = record {
     is = λ C R p.
-        through-is C h fs (flagOf r) R (plus es fs R) t w (e C (flagOf r) R ∙ ap (λ x. rules.ask x (plus es fs R) true (unary h) (λ K. K)) (sym (g .flag)))
+        through-is C h key fs (flagOf r) R (plus es fs R) t w (e C (flagOf r) R ∙ ap (λ x. rules.ask x (plus es fs R) true (unary h) (λ K. K)) (sym (g .flag)))
         (flag-asks (d .asks R (f R (p .fit)) (p .asks)) g) (plus-fit es (f R (p .fit)));
   }
 
-  pub filter-one : {e : Expr} → Adds (e ∷ []) fs r s → Holds q (setOf s) true → Through q true j → OneJob (filter e) fs r j
+  pub filter-one : {e : Expr} → Adds (e ∷ []) fs r s → Holds q (setOf s) true → Through q true j → OneJob (filter e) key fs r j
   unfolding unaryPart unaryJob unaryFields
   filter-one {e} = adding (filter e) (e ∷ []) (λ x. (refl, tt)) (λ C b R. refl) (λ R f. f)
 
-  pub sort-one : (ks : List Key) (es : List Expr) → map keyExpr ks ≡ es → Adds es fs r s → Holds q (setOf s) true → Through q true j → OneJob (sort ks) fs r j
+  pub sort-one : (ks : List Key) (es : List Expr) → map keyExpr ks ≡ es → Adds es fs r s → Holds q (setOf s) true → Through q true j → OneJob (sort ks) key fs r j
   unfolding unaryPart unaryJob unaryFields
   sort-one ks es e = adding (sort ks) es (λ x. (refl, tt)) (λ C b R. ap (λ x. rules.ask true (plus x fs R) true (unary (sort ks)) (λ K. K)) e) (λ R f. f)
 
-module _ {fs : List Pair} {r : RequiredIndices} {j : Job} where
-  pub limit-one : {b : Bool} (s : ℕ) (n : Option ℕ) → b ≡ flagOf r → Through r b j → OneJob (limit s n) fs r j
+module _ {key : List ℕ} {fs : List Pair} {r : RequiredIndices} {j : Job} where
+  pub limit-one : {b : Bool} (s : ℕ) (n : Option ℕ) → b ≡ flagOf r → Through r b j → OneJob (limit s n) key fs r j
   unfolding unaryPart unaryJob unaryFields
   limit-one s n e t = record {
-    is = λ C R p. through-is C (limit s n) fs (flagOf r) R R t (λ x. (refl, tt)) (ap (λ x. rules.ask (flagOf r) R x (unary (limit s n)) (λ K. K)) (sym e)) (p .asks) (p .fit);
+    is = λ C R p. through-is C (limit s n) key fs (flagOf r) R R t (λ x. (refl, tt)) (ap (λ x. rules.ask (flagOf r) R x (unary (limit s n)) (λ K. K)) (sym e)) (p .asks) (p .fit);
   }
 
-  pub alias-one : {q : RequiredIndices} (x : ℕ) → Holds q (setOf r) true → Through q true j → OneJob (subqueryAlias x) fs r j
+  pub alias-one : {q : RequiredIndices} (x : ℕ) → Holds q (setOf r) true → Through q true j → OneJob (subqueryAlias x) key fs r j
   unfolding unaryPart unaryJob unaryFields
   alias-one x g t = record {
     is = λ C R p.
-        through-is C (subqueryAlias x) fs (flagOf r) R R t (λ s. (refl, tt)) (ap (λ b. rules.ask b R true (unary (subqueryAlias x)) (λ K. K)) (sym (g .flag)))
+        through-is C (subqueryAlias x) key fs (flagOf r) R R t (λ s. (refl, tt)) (ap (λ b. rules.ask b R true (unary (subqueryAlias x)) (λ K. K)) (sym (g .flag)))
         (flag-asks (p .asks) g) (Fit-trans (p .fit) (Fit-map (requalify x) fs));
   }
 
-  pub distinct-one : {q : RequiredIndices} (width : ℕ) → width ≡ length fs → Holds q (2 ^ width - 1) false → Through q false j → OneJob distinct fs r j
+  pub distinct-one : {q : RequiredIndices} (width : ℕ) → width ≡ length fs → Holds q (2 ^ width - 1) false → Through q false j → OneJob distinct key fs r j
   unfolding unaryPart unaryJob unaryFields mask.ones
   distinct-one width e g t = record {
     is = λ C R p.
-        through-is C distinct fs (flagOf r) R (mask.ones fs) t (λ s. (refl, tt)) (ap (λ b. rules.ask b (mask.ones fs) false (unary distinct) (λ K. K)) (sym (g .flag)))
+        through-is C distinct key fs (flagOf r) R (mask.ones fs) t (λ s. (refl, tt)) (ap (λ b. rules.ask b (mask.ones fs) false (unary distinct) (λ K. K)) (sym (g .flag)))
         (all-asks fs width e g) (Fit-map (λ x. true) fs);
   }

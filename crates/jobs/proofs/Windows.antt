@@ -86,9 +86,9 @@ module _ (ws : List Win) {width : ℕ} {fs : List Pair} {r below set : RequiredI
     is = λ K. refl;
   }
 
-  pub same-is : (C : Catalogue) (none : RequiredIndices) → eqb (setOf set) 0 ≡ true → InputIs C (window ws) fs (flagOf r) R false (λ x. x) (job todos.Same (rests.InputThen width) below none set none)
+  pub same-is : (C : Catalogue) (key : List ℕ) (none : RequiredIndices) → eqb (setOf set) 0 ≡ true → InputIs C (window ws) key fs (flagOf r) R false (λ x. x) (job todos.Same (rests.InputThen width) below none set none)
   unfolding unaryJob
-  same-is C none e = record {
+  same-is C key none e = record {
     Q = R₀;
     left = λ K. K ++ S;
     job =
@@ -100,10 +100,10 @@ module _ (ws : List Win) {width : ℕ} {fs : List Pair} {r below set : RequiredI
     rest = then-is todos.Same below none;
   }
 
-  pub window-is : (C : Catalogue) {n : ℕ} {q : RequiredIndices} (none : RequiredIndices) → n ≡ length ws → eqb (setOf set) 0 ≡ false → Adds (concatMap winExprs (select (requestMask n set) ws)) fs below q
-      → InputIs C (window ws) fs (flagOf r) R true (unary (unaryPart (setOf set) (window ws))) (job (todos.One true) (rests.InputThen width) q none set none)
+  pub window-is : (C : Catalogue) (key : List ℕ) {n : ℕ} {q : RequiredIndices} (none : RequiredIndices) → n ≡ length ws → eqb (setOf set) 0 ≡ false → Adds (concatMap winExprs (select (requestMask n set) ws)) fs below q
+      → InputIs C (window ws) key fs (flagOf r) R true (unary (unaryPart (setOf set) (window ws))) (job (todos.One true) (rests.InputThen width) q none set none)
   unfolding unaryJob unaryExprs unaryPart
-  window-is C {n} {q} none en e d₀ =
+  window-is C key {n} {q} none en e d₀ =
       let es = concatMap winExprs (select S ws) in
       let d : Adds es fs below q = subst (λ M. Adds (concatMap winExprs (select M ws)) fs below q) (asks-mask set-asks (Fit-length rest-fit ∙ sym en)) d₀ in
       record {

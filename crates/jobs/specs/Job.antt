@@ -10,6 +10,7 @@ use Rattle.cpl.specs.Fields.{leafFields, unaryFields, binaryFields, fieldsOf, j
 use Rattle.cpl.specs.Lists.{Fit}
 use Rattle.cpl.specs.Plan.{Pair, Expr, Leaf, Unary, projection, filter, sort, limit, aggregate, window, subqueryAlias, distinct, Binary, Plan, leaf, unary, Catalogue}
 use Rattle.cpl.specs.ReadPlan.{h0, h1, h2}
+use Rattle.rules.specs.Keys.{keyOf}
 use Rattle.rules.specs.Mask.{Mask}
 use Rattle.rules.specs.Rules as rules
 use Rattle.rules.specs.Rules.{leafRule, leafKept, unaryJob, plus, leftAsk, rightAsk, binaryKept}
@@ -60,7 +61,7 @@ pub record Leftover (j : Job) : Type 0 where
 pub record KeptOf (j : Job) (input out : RequiredIndices) : Type 0 where
   pub asks : (fs : List Pair) (g : Mask → Mask) (K : Mask) → RestIs fs g j (j .rest) → length K ≡ length fs → Asks input K → Asks out (g K)
 
--- ── a node with one input, over the input's fields fs ───────────────────────────────────────
+-- ── a node with one input, over the input's key and its fields fs ───────────────────────────
 
 pub record Posed (h : Unary) (fs : List Pair) (r : RequiredIndices) (R : Mask) : Type 0 where
   pub few : length (unaryFields h fs) ≤ wordsN * 64
@@ -68,31 +69,31 @@ pub record Posed (h : Unary) (fs : List Pair) (r : RequiredIndices) (R : Mask) :
   pub asks : Asks r R
 
 -- nothing is left but the one-row Empty
-pub record NothingIs (C : Catalogue) (h : Unary) (fs : List Pair) (b : Bool) (R : Mask) (j : Job) : Type 0 where
+pub record NothingIs (C : Catalogue) (h : Unary) (key : List ℕ) (fs : List Pair) (b : Bool) (R : Mask) (j : Job) : Type 0 where
   pub K : Mask
-  pub job : unaryJob C h fs b R ≡ rules.done nothingLeft K
+  pub job : unaryJob C h key fs b R ≡ rules.done nothingLeft K
   pub kept : Asks (j .kept) K
 
 -- the input is asked for Q, with the flag that the rule has
-pub record InputIs (C : Catalogue) (h : Unary) (fs : List Pair) (b : Bool) (R : Mask) (topped : Bool) (node : Plan → Plan) (j : Job) : Type 0 where
+pub record InputIs (C : Catalogue) (h : Unary) (key : List ℕ) (fs : List Pair) (b : Bool) (R : Mask) (topped : Bool) (node : Plan → Plan) (j : Job) : Type 0 where
   pub Q : Mask
   pub left : Mask → Mask
-  pub job : unaryJob C h fs b R ≡ rules.ask (flagOf (j .ask)) Q topped node left
+  pub job : unaryJob C h key fs b R ≡ rules.ask (flagOf (j .ask)) Q topped node left
   pub asks : Asks (j .ask) Q
   pub fit : Fit Q fs
   pub set : UnarySet (setOf (j .set)) h
   pub rest : RestIs fs left j (j .rest)
 
 -- the rule's job, by what is to be done
-abbrev pub OneIs : Catalogue → Unary → (fs : List Pair) (b : Bool) → Mask → Job → Todo → Type 0
-OneIs C h fs b R j todos.Leaf = ⊥
-OneIs C h fs b R j todos.Nothing = NothingIs C h fs b R j
-OneIs C h fs b R j todos.Same = InputIs C h fs b R false (λ p. p) j
-OneIs C h fs b R j (todos.One topped) = InputIs C h fs b R topped (unary (unaryPart (setOf (j .set)) h)) j
-OneIs C h fs b R j (todos.Two right) = ⊥
+abbrev pub OneIs : Catalogue → Unary → (key : List ℕ) (fs : List Pair) (b : Bool) → Mask → Job → Todo → Type 0
+OneIs C h key fs b R j todos.Leaf = ⊥
+OneIs C h key fs b R j todos.Nothing = NothingIs C h key fs b R j
+OneIs C h key fs b R j todos.Same = InputIs C h key fs b R false (λ p. p) j
+OneIs C h key fs b R j (todos.One topped) = InputIs C h key fs b R topped (unary (unaryPart (setOf (j .set)) h)) j
+OneIs C h key fs b R j (todos.Two right) = ⊥
 
-pub record OneJob (h : Unary) (fs : List Pair) (r : RequiredIndices) (j : Job) : Type 0 where
-  pub is : (C : Catalogue) (R : Mask) → Posed h fs r R → OneIs C h fs (flagOf r) R j (j .todo)
+pub record OneJob (h : Unary) (key : List ℕ) (fs : List Pair) (r : RequiredIndices) (j : Job) : Type 0 where
+  pub is : (C : Catalogue) (R : Mask) → Posed h fs r R → OneIs C h key fs (flagOf r) R j (j .todo)
 
 -- the input asked with `ask`, whose fields that are left are the node's
 pub record Through (ask : RequiredIndices) (topped : Bool) (j : Job) : Type 0 where
@@ -174,7 +175,7 @@ pub record AtOne (C : Catalogue) (a : Arrays) (count k : ℕ) (node : Node) (b :
   pub head : headOf a node ≡ h1 h
   pub input : HasInput a count k h
   pub other : NoProjection h
-  pub job : OneIs C h (fieldsOf C (planAt a (k + 1))) b R j todo
+  pub job : OneIs C h (keyOf C (planAt a (k + 1))) (fieldsOf C (planAt a (k + 1))) b R j todo
 
 pub record AtTwo (C : Catalogue) (a : Arrays) (count k : ℕ) (node : Node) (R : Mask) (right : ℕ) (j : Job) : Type 0 where
   pub h : Binary
@@ -190,6 +191,6 @@ AtNode C a count k node b R j todos.Same = AtOne C a count k node b R j todos.Sa
 AtNode C a count k node b R j (todos.One topped) = AtOne C a count k node b R j (todos.One topped)
 AtNode C a count k node b R j (todos.Two right) = AtTwo C a count k node R right j
 
-pub record JobAt (cells rows fields widths : List ℕ) (node : Node) (k : ℕ) (r : RequiredIndices) (j : Job) : Type 0 where
-  pub is : (q : Asked cells rows fields widths node k r)
+pub record JobAt (cells rows fields widths keys : List ℕ) (node : Node) (k : ℕ) (r : RequiredIndices) (j : Job) : Type 0 where
+  pub is : (q : Asked cells rows fields widths keys node k r)
       → AtNode (q .standing .C) (lent cells rows (q .nodes)) (q .standing .count) k node (flagOf r) (q .R) j (j .todo)

@@ -12,6 +12,8 @@ ghost use lib.ListN.{length};
 ghost use Rattle.cpl.specs.Plan.{Expr, Pair, aggregate, distinct, empty, filter, join, limit, scan, sort, subqueryAlias, union, window};
 ghost use Rattle.rules.specs.Mask.{Mask};
 ghost use Rattle.rules.specs.Rules.{joinExprs};
+ghost use Rattle.required_indices.specs.Request.{setOf};
+ghost use Rattle.key_sets.specs.Slots.{KeySet};
 ghost use Rattle.arena.specs.Cells.{exprAt, Wf};
 ghost use Rattle.arena.specs.Rows.{itemsAt, RowsOk};
 ghost use Rattle.tree.specs.Node.{joinIs};
@@ -43,7 +45,8 @@ pub enum Rest {
     Own,
 }
 
-/// A job: what is asked of the first and of the second input, the part of the node's own list that stays, the fields that are left.
+/// A job: what is asked of the first and of the second input, the part of the node's own list that stays (of an Aggregate: groups, then
+/// aggregates), the fields that are left.
 pub struct Job {
     pub todo: Todo,
     pub rest: Rest,
@@ -113,7 +116,7 @@ fn filter_job(
 ) -> Job
     requires { ⌜ Wf (now cells) (root + 1) ⌝ }
     requires { ⌜ Below (now fields) start width ⌝ }
-    ensures { λ j. ⌜ OneJob (filter (exprAt (now (cells .entry)) root)) (rowAt (now (fields .entry)) start width) r j ⌝ }
+    ensures { λ j. ⌜ ((key : List ℕ) → OneJob (filter (exprAt (now (cells .entry)) root)) key (rowAt (now (fields .entry)) start width) r j) ⌝ }
 {
     let ask = requests::add_expr(r, cells, root, fields, start, width);
     through(ask.with_projection_beneficial(), true)
@@ -132,7 +135,7 @@ fn sort_job(
 ) -> Job
     requires { ⌜ EachOk (KeyOk (now rows) (now cells)) (now rows) first n ⌝ }
     requires { ⌜ Below (now fields) start width ⌝ }
-    ensures { λ j. ⌜ OneJob (sort (keysAt (now (rows .entry)) (now (cells .entry)) first n)) (rowAt (now (fields .entry)) start width) r j ⌝ }
+    ensures { λ j. ⌜ ((key : List ℕ) → OneJob (sort (keysAt (now (rows .entry)) (now (cells .entry)) first n)) key (rowAt (now (fields .entry)) start width) r j) ⌝ }
 {
     let ask = requests::with_roots(r, rows, first, n, 3, cells, fields, start, width);
     through(ask.with_projection_beneficial(), true)
@@ -140,14 +143,14 @@ fn sort_job(
 
 /// A Limit's job.
 fn limit_job(r: RequiredIndices) -> Job
-    ensures { λ j. ⌜ ((s : ℕ) (n : Option ℕ) (fs : List Pair) → OneJob (limit s n) fs r j) ⌝ }
+    ensures { λ j. ⌜ ((s : ℕ) (n : Option ℕ) (key : List ℕ) (fs : List Pair) → OneJob (limit s n) key fs r j) ⌝ }
 {
     through(r, r.projection_beneficial())
 }
 
 /// A SubqueryAlias's job.
 fn alias_job(r: RequiredIndices) -> Job
-    ensures { λ j. ⌜ ((q : ℕ) (fs : List Pair) → OneJob (subqueryAlias q) fs r j) ⌝ }
+    ensures { λ j. ⌜ ((q : ℕ) (key : List ℕ) (fs : List Pair) → OneJob (subqueryAlias q) key fs r j) ⌝ }
 {
     through(r.with_projection_beneficial(), true)
 }
@@ -155,15 +158,17 @@ fn alias_job(r: RequiredIndices) -> Job
 /// A Distinct's job. The input has `width` fields.
 fn distinct_job(r: RequiredIndices, fields: &[u16], start: usize, width: usize) -> Job
     requires { ⌜ Below (now fields) start width ⌝ }
-    ensures { λ j. ⌜ OneJob distinct (rowAt (now (fields .entry)) start width) r j ⌝ }
+    ensures { λ j. ⌜ ((key : List ℕ) → OneJob distinct key (rowAt (now (fields .entry)) start width) r j) ⌝ }
 {
     through(RequiredIndices::new_for_all_exprs(width), false)
 }
 
-/// An Aggregate's job. Its `groups` group rows stand from row `first` on, its `aggregates` after them. All groups stay; the aggregates are
-/// taken at the request. The input's fields are the `width` from field `start` on.
+/// An Aggregate's job. Its `groups` group rows stand from row `first` on, its `aggregates` after them. All groups stay, unless the input's
+/// key is among them: then those that are neither asked for nor a key column go. The aggregates are taken at the request. The input's
+/// fields are the `width` from field `start` on.
 fn aggregate_job(
     r: RequiredIndices,
+    key: RequiredIndices,
     first: usize,
     groups: usize,
     aggregates: usize,
@@ -177,24 +182,25 @@ fn aggregate_job(
     requires { ⌜ EachOk (AggOk (now rows) (now cells)) (now rows) (first + groups) aggregates ⌝ }
     requires { ⌜ Below (now fields) start width ⌝ }
     requires { ⌜ ((R : Mask) × Posed (aggregate (itemsAt (now rows) (now cells) first groups) (aggsAt (now rows) (now cells) (first + groups) aggregates)) (rowAt (now fields) start width) r R) ⌝ }
-    ensures { λ j. ⌜ OneJob (aggregate (itemsAt (now (rows .entry)) (now (cells .entry)) first groups) (aggsAt (now (rows .entry)) (now (cells .entry)) (first + groups) aggregates)) (rowAt (now (fields .entry)) start width) r j ⌝ }
+    ensures { λ j. ⌜ ((ks : List ℕ) → KeySet (setOf key) ks → OneJob (aggregate (itemsAt (now (rows .entry)) (now (cells .entry)) first groups) (aggsAt (now (rows .entry)) (now (cells .entry)) (first + groups) aggregates)) ks (rowAt (now (fields .entry)) start width) r j) ⌝ }
 {
     let none = RequiredIndices::new();
     let split = r.split_off(groups);
+    let asked = split.below;
     let set = split.rest;
-    let all = RequiredIndices::new_for_all_exprs(groups);
-    let kept = all.followed_by(groups, set);
+    let own = node_keys::kept_groups(key, asked, rows, first, groups, cells, fields, start, width);
+    let kept = own.followed_by(groups, set);
     if kept.is_empty() {
         return Job {
             todo: Todo::Nothing,
             rest: Rest::Own,
             ask: none,
             second: none,
-            set,
+            set: kept,
             kept,
         };
     }
-    let by = requests::with_items(none, rows, first, groups, cells, all, fields, start, width);
+    let by = requests::with_items(none, rows, first, groups, cells, own, fields, start, width);
     let at = first + groups;
     let ask = requests::with_aggregates(by, rows, at, aggregates, cells, set, fields, start, width);
     Job {
@@ -202,7 +208,7 @@ fn aggregate_job(
         rest: Rest::Own,
         ask,
         second: none,
-        set,
+        set: kept,
         kept,
     }
 }
@@ -220,7 +226,7 @@ fn window_job(
 ) -> Job
     requires { ⌜ AllAt (WinOk (now rows) (now cells)) (winSize (now rows)) first n ⌝ }
     requires { ⌜ Below (now fields) start width ⌝ }
-    ensures { λ j. ⌜ OneJob (window (winsAt (now (rows .entry)) (now (cells .entry)) first n)) (rowAt (now (fields .entry)) start width) r j ⌝ }
+    ensures { λ j. ⌜ ((key : List ℕ) → OneJob (window (winsAt (now (rows .entry)) (now (cells .entry)) first n)) key (rowAt (now (fields .entry)) start width) r j) ⌝ }
 {
     let none = RequiredIndices::new();
     let split = r.split_off(width);
@@ -382,7 +388,8 @@ fn empty_job(r: RequiredIndices, n: usize) -> Job
     }
 }
 
-/// The job of a node that is no Projection: `node` is node `k` of an accepted plan, asked with `r`. Rust: the arms of `optimize_projections`.
+/// The job of a node that is no Projection: `node` is node `k` of an accepted plan, asked with `r`. The keys of all nodes stand in the slots of
+/// `keys`. Rust: the arms of `optimize_projections`.
 pub fn job_at(
     node: Node,
     k: usize,
@@ -391,9 +398,10 @@ pub fn job_at(
     rows: &[u16],
     fields: &[u16],
     widths: &[u64],
+    keys: &[u64],
 ) -> Job
-    requires { ⌜ Asked (now cells) (now rows) (now fields) (now widths) node k r ⌝ }
-    ensures { λ j. ⌜ JobAt (now (cells .entry)) (now (rows .entry)) (now (fields .entry)) (now (widths .entry)) node k r j ⌝ }
+    requires { ⌜ Asked (now cells) (now rows) (now fields) (now widths) (now keys) node k r ⌝ }
+    ensures { λ j. ⌜ JobAt (now (cells .entry)) (now (rows .entry)) (now (fields .entry)) (now (widths .entry)) (now (keys .entry)) node k r j ⌝ }
 {
     let i = k + 1;
     let s = lookup::first_at(widths, i);
@@ -407,7 +415,11 @@ pub fn job_at(
             first,
             groups,
             aggregates,
-        } => aggregate_job(r, first, groups, aggregates, cells, rows, fields, s, w),
+        } => {
+            let slot = key_sets::node_slot(i);
+            let key = key_sets::key_at(keys, slot);
+            aggregate_job(r, key, first, groups, aggregates, cells, rows, fields, s, w)
+        }
         Node::Window { first, n } => window_job(r, first, n, cells, rows, fields, s, w),
         Node::SubqueryAlias { qualifier: _ } => alias_job(r),
         Node::Union { right } => union_job(r, right),

@@ -29,7 +29,7 @@ unfolding numbersOf findingText
 refused-text (accepted C p) l = absurd (omega arith)
 refused-text (faulty code place) l = refl
 
-module _ {xs ys : List ℕ} {r : ℕ} {file cells rows nodes fields widths : List ℕ} {a : Reading} (x : ReadingIs file cells rows nodes fields widths a) where
+module _ {xs ys : List ℕ} {r : ℕ} {file cells rows nodes fields widths keys : List ℕ} {a : Reading} (x : ReadingIs file cells rows nodes fields widths keys a) where
   pub unlisted : 0 < a .checked .code → Wrote (refusedText (a .checked .code) (a .checked .place)) xs r ys → Wrote (listText file) xs r ys
   unfolding listText checkFile
   unlisted z w =

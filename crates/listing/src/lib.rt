@@ -137,12 +137,13 @@ pub fn list_in(
     names: &mut [u16; 8208],
     fields: &mut [u16; 262144],
     widths: &mut [u64; 512],
+    keys: &mut [u64; 2448],
     text: &mut [u8; 16384],
 ) -> usize
     ensures { λ r. ⌜ Wrote (listText (now (file .entry))) (now (text .entry)) r (now (text .exit)) ⌝ }
     ensures { λ r. ⌜ Counts r (now (text .exit)) ⌝ }
 {
-    let read = acceptance::read_and_check(file, cells, rows, nodes, names, fields, widths);
+    let read = acceptance::read_and_check(file, cells, rows, nodes, names, fields, widths, keys);
     let checked = read.checked;
     if checked.code > 0 {
         return write_refused(text, checked.code, checked.place);
@@ -162,6 +163,7 @@ pub fn list(file: &[u8], text: &mut [u8; 16384]) -> usize
     let mut names = [0u16; 8208];
     let mut fields = [0u16; 262144];
     let mut widths = [0u64; 512];
+    let mut keys = [0u64; 2448];
     list_in(
         file,
         &mut cells,
@@ -170,6 +172,7 @@ pub fn list(file: &[u8], text: &mut [u8; 16384]) -> usize
         &mut names,
         &mut fields,
         &mut widths,
+        &mut keys,
         text,
     )
 }

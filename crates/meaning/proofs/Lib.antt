@@ -1,7 +1,12 @@
 -- That narrowing keeps rows, bottom up; demand 3; samples.
 pub mod Commute
 pub mod Wide
+pub mod Same
+pub mod Pairwise
+pub mod KeyRows
+pub mod KeyedLogs
 pub mod Groups
+pub mod LoneGroups
 pub mod Joins
 pub mod Columns
 pub mod Rows

@@ -25,8 +25,10 @@ use Rattle.meaning.specs.Value.{Row, Log}
 use Rattle.meaning.specs.Operators.{projectionRows, unaryRows}
 use Rattle.meaning.specs.Joins.{binaryRows}
 use Rattle.meaning.specs.Meaning.{meaning}
+use Rattle.meaning.specs.Keyed.{KeysDiffer}
 use Rattle.meaning.proofs.Wide.{WideRows, projection-wide, unary-wide, leaf-wide, wide}
 use Rattle.meaning.proofs.Columns.{columns-rows}
+use Rattle.meaning.proofs.KeyRows.{KeyOn, plan-key}
 use Rattle.meaning.proofs.Rows.{Narrowed, JobNarrows, projection-narrows, unary-narrows, leaf-narrows}
 use Rattle.rules.proofs.Asked.{ask-fits}
 use Rattle.meaning.proofs.BinaryRows.{binary-narrows}
@@ -75,11 +77,11 @@ module _ (C : Catalogue) (D : Log) {fs : List Pair} {rs : List Row} (nd : Clear 
 
 module _ (C : Catalogue) (D : Log) where
   -- a node that is no projection
-  node-narrows : (h : Unary) {fs : List Pair} {rs : List Row} → Clear fs → WideRows fs rs → Clear (unaryFields h fs) → (go : Option (List Item) → Go) → Narrows C D fs rs (go none)
-      → (q : Option (List Item)) → Narrows C D (pendingFields (unaryFields h fs) q) (pendingRows (unaryFields h fs) (unaryRows h fs rs) q) (nodeWalk C h fs go q)
+  node-narrows : (h : Unary) {key : List ℕ} {fs : List Pair} {rs : List Row} → Clear fs → WideRows fs rs → KeyOn rs key → Clear (unaryFields h fs) → (go : Option (List Item) → Go) → Narrows C D fs rs (go none)
+      → (q : Option (List Item)) → Narrows C D (pendingFields (unaryFields h fs) q) (pendingRows (unaryFields h fs) (unaryRows h fs rs) q) (nodeWalk C h key fs go q)
   unfolding nodeWalk
-  node-narrows h {fs} {rs} nd w own go g q =
-      pend-narrows C D own (unary-wide h fs w) _ (λ b R f. run C D nd w (go none) g (unaryJob C h fs b R) (unary-narrows C D fs rs nd w h b f)) q
+  node-narrows h {key} {fs} {rs} nd w d own go g q =
+      pend-narrows C D own (unary-wide h fs w) _ (λ b R f. run C D nd w (go none) g (unaryJob C h key fs b R) (unary-narrows C D fs rs nd w d h b f)) q
 
   binary-walk : (h : Binary) {fl fr : List Pair} {ls rs : List Row} → Clear fl → Clear fr → WideRows fl ls → WideRows fr rs → T (even h fl fr) → (go₁ go₂ : Go) → Narrows C D fl ls go₁ → Narrows C D fr rs go₂
       → Narrows C D (binaryFields h fl fr) (binaryRows h fl fr ls rs) (binaryWalk C h fl fr go₁ go₂)
@@ -100,29 +102,29 @@ module _ (C : Catalogue) (D : Log) where
         let n = g ks (subst⁻¹ Clear (step-pairs s) u) b R (subst⁻¹ (Fit R) (step-pairs s) f) in
         record { keeps = n .keeps; fields = n .fields ∙ ap (select _) (step-pairs s); rows = n .rows ∙ ap (map (select _)) (step-rows u s fs rs) }
 
-    module _ (nd : Clear fs) (g : (q : Option (List Item)) → Clear (pendingFields fs q) → Narrows C D (pendingFields fs q) (pendingRows fs rs q) (go q)) where
+    module _ (nd : Clear fs) {key : List ℕ} (d : KeyOn rs key) (g : (q : Option (List Item)) → Clear (pendingFields fs q) → Narrows C D (pendingFields fs q) (pendingRows fs rs q) (go q)) where
       unary-walk : (h : Unary) → Clear (unaryFields h fs) → (q : Option (List Item)) → Clear (pendingFields (unaryFields h fs) q)
-          → Narrows C D (pendingFields (unaryFields h fs) q) (pendingRows (unaryFields h fs) (unaryRows h fs rs) q) (unaryWalk (mergeStep true m) C h fs go q)
+          → Narrows C D (pendingFields (unaryFields h fs) q) (pendingRows (unaryFields h fs) (unaryRows h fs rs) q) (unaryWalk (mergeStep true m) C h key fs go q)
       unfolding unaryWalk unaryFields unaryRows
       unary-walk (projection is) own none pq = g (some is) own
       unary-walk (projection is) own (some js) pq = merged-narrows js is pq own (λ ks k. g (some ks) k) (mergeStep true m js is) refl
-      unary-walk (filter e) own q pq = node-narrows (filter e) nd w own go (g none nd) q
-      unary-walk (sort ks) own q pq = node-narrows (sort ks) nd w own go (g none nd) q
-      unary-walk (limit s n) own q pq = node-narrows (limit s n) nd w own go (g none nd) q
-      unary-walk (aggregate gs vs) own q pq = node-narrows (aggregate gs vs) nd w own go (g none nd) q
-      unary-walk (window ws) own q pq = node-narrows (window ws) nd w own go (g none nd) q
-      unary-walk (subqueryAlias x) own q pq = node-narrows (subqueryAlias x) nd w own go (g none nd) q
-      unary-walk distinct own q pq = node-narrows distinct nd w own go (g none nd) q
+      unary-walk (filter e) own q pq = node-narrows (filter e) nd w d own go (g none nd) q
+      unary-walk (sort ks) own q pq = node-narrows (sort ks) nd w d own go (g none nd) q
+      unary-walk (limit s n) own q pq = node-narrows (limit s n) nd w d own go (g none nd) q
+      unary-walk (aggregate gs vs) own q pq = node-narrows (aggregate gs vs) nd w d own go (g none nd) q
+      unary-walk (window ws) own q pq = node-narrows (window ws) nd w d own go (g none nd) q
+      unary-walk (subqueryAlias x) own q pq = node-narrows (subqueryAlias x) nd w d own go (g none nd) q
+      unary-walk distinct own q pq = node-narrows distinct nd w d own go (g none nd) q
 
 -- ── plans ───────────────────────────────────────────────────────────────────────────────────
 
-pub preserve : (m : ℕ) (C : Catalogue) (D : Log) (p : Plan) → Accepted C p → (q : Option (List Item)) → Clear (pendingFields (fieldsOf C p) q)
+pub preserve : (m : ℕ) (C : Catalogue) (D : Log) → KeysDiffer C D → (p : Plan) → Accepted C p → (q : Option (List Item)) → Clear (pendingFields (fieldsOf C p) q)
     → Narrows C D (pendingFields (fieldsOf C p) q) (pendingRows (fieldsOf C p) (meaning C D p) q) (walk (mergeStep true m) C p q)
 unfolding walk fieldsOf meaning Accepted leafWalk
-preserve m C D (leaf h) o q pq = pend-narrows C D (o .distinct) (leaf-wide C D h) _ (λ b R f. leaf-narrows C D h f) q
-preserve m C D (unary h p) o q pq =
-    unary-walk C D m (wide C D p (o .0)) _ (distinct-fields C p (o .0)) (λ q pq. preserve m C D p (o .0) q pq) h (o .1 .distinct) q pq
-preserve m C D (binary h p₁ p₂) o q pq =
+preserve m C D keys (leaf h) o q pq = pend-narrows C D (o .distinct) (leaf-wide C D h) _ (λ b R f. leaf-narrows C D h f) q
+preserve m C D keys (unary h p) o q pq =
+    unary-walk C D m (wide C D p (o .0)) _ (distinct-fields C p (o .0)) (plan-key C D keys p) (λ q pq. preserve m C D keys p (o .0) q pq) h (o .1 .distinct) q pq
+preserve m C D keys (binary h p₁ p₂) o q pq =
     pend-narrows C D (distinct-fields C (binary h p₁ p₂) o) (wide C D (binary h p₁ p₂) o) (binaryWalk C h (fieldsOf C p₁) (fieldsOf C p₂) (walk (mergeStep true m) C p₁ none) (walk (mergeStep true m) C p₂ none))
     (binary-walk C D h (distinct-fields C p₁ (o .0)) (distinct-fields C p₂ (o .1)) (wide C D p₁ (o .0)) (wide C D p₂ (o .1)) (o .2 .as-wide) (walk (mergeStep true m) C p₁ none) (walk (mergeStep true m) C p₂ none)
-    (preserve m C D p₁ (o .0) none (distinct-fields C p₁ (o .0))) (preserve m C D p₂ (o .1) none (distinct-fields C p₂ (o .1)))) q
+    (preserve m C D keys p₁ (o .0) none (distinct-fields C p₁ (o .0))) (preserve m C D keys p₂ (o .1) none (distinct-fields C p₂ (o .1)))) q

@@ -2,6 +2,7 @@
 use mathlib.Core.Path.{_≡_, refl, sym, _∙_, ap, ap₂, subst, subst⁻¹}
 use mathlib.Core.List.{List, [], _∷_, _++_, map, append-nil}
 use mathlib.Core.Bool.{Bool, true, false}
+use Prim.Native.Nat.{ℕ}
 use lib.ListN.{length, take, drop, getD}
 use Rattle.cpl.specs.Tests.{concatMap}
 use Rattle.cpl.specs.Lists.{a[], Fit}
@@ -11,19 +12,22 @@ use Rattle.cpl.specs.Fields.{columnsOf, scanField, leafFields, requalify, unary
 use Rattle.cpl.proofs.Lists.{All-mapped, map-cong, map-map, Fit-map, fit-self, Fit-trans, take-fit}
 use Rattle.cpl.proofs.Clash.{Clear}
 use Rattle.rules.specs.Mask.{Mask, select, ones, LeM}
+use Rattle.rules.specs.Keys.{placesOf}
 use Rattle.rules.specs.Rules.{used, leafRule, leafKept, Job, done, ask, projectionJob, aggregateJob, windowJob, unaryJob}
 use Rattle.rules.proofs.Masks.{LeM-refl, LeM-trans, LeM-parts, LeM-fit, fit-ones, ones-le, Fit-select, select-map, select-ones}
-use Rattle.rules.proofs.Asked.{used-fit, plus-fit, plus-cov, plus-keeps, all-groups, aggregate-fields, window-fields}
+use Rattle.rules.proofs.Asked.{used-fit, plus-fit, plus-cov, plus-keeps, groups-fit, places-fit, groups-keep, aggregate-fields, window-fields}
 use Rattle.rules.proofs.Covers.{Cov, used-cov, used-head, used-left, used-right}
 use Rattle.rules.proofs.Known.{clear-select}
 use Rattle.meaning.specs.Value.{missing, Row, Log, yes?, sameRow}
 use Rattle.meaning.specs.Lists.{firsts}
-use Rattle.meaning.specs.Operators.{projectionRows, members, aggValue, groupKeys, groupRow, aggregateRows, windowRows, unaryRows}
+use Rattle.meaning.specs.Operators.{projectionRows, groupKeys, groupRow, aggregateRows, windowRows, unaryRows}
 use Rattle.meaning.specs.Joins.{missings}
 use Rattle.meaning.specs.Meaning.{scanRows, rowAt, emptyRows, leafRows, meaning}
 use Rattle.meaning.proofs.Commute.{filter-map, sort-map, page-map, eval-select, before-select}
 use Rattle.meaning.proofs.Wide.{WideRows, All-firsts, leaf-wide}
+use Rattle.meaning.proofs.KeyRows.{KeyOn}
 use Rattle.meaning.proofs.Groups.{aggregate-select, window-select, window-none}
+use Rattle.meaning.proofs.LoneGroups.{Drops, groups-select, kept-drops}
 use Rattle.meaning.proofs.Columns.{ones-rows, projection-select, over-child}
 
 -- a plan that has the fields fs and the rows rs, narrowed to K, which keeps R
@@ -60,39 +64,41 @@ module _ (C : Catalogue) (D : Log) (fs : List Pair) (rs : List Row) where
             },
       )
 
-  -- ── Aggregate: ws are the aggregates that are left ────────────────────────────────────────
+  -- ── Aggregate: us are the groups that are left, ws the aggregates ─────────────────────────
 
-  aggregate-rows : (gs : List Item) (vs ws : List Agg) (A : Mask) → ws ≡ select A vs → {K : Mask} → LeM (used (unaryExprs (aggregate gs ws)) fs) K
-      → unaryRows (aggregate gs ws) (select K fs) (map (select K) rs) ≡ map (select (ones gs ++ A)) (unaryRows (aggregate gs vs) fs rs)
-  unfolding unaryRows unaryExprs ones
-  aggregate-rows gs vs ws A e {K} l =
-      let es = map itemExpr gs in
-      let v = used-cov (es ++ concatMap aggExprs ws) fs l in
-      ap (λ us. aggregateRows es us (select K fs) (map (select K) rs)) e
-      ∙ (aggregate-select es vs A (used-left es (concatMap aggExprs ws) v) (subst (λ us. Cov (concatMap aggExprs us) fs K) e (used-right es (concatMap aggExprs ws) v)) rs
-      ∙ ap (λ M. map (select (M ++ A)) (aggregateRows es vs fs rs)) (map-map (λ g. true) itemExpr gs))
+  module _ (gs : List Item) (vs : List Agg) {G : Mask} (A : Mask) (f : Fit G gs) (drops : Drops fs rs gs G) where
+    aggregate-rows : (us : List Item) (ws : List Agg) → us ≡ select G gs → ws ≡ select A vs → {K : Mask} → LeM (used (unaryExprs (aggregate us ws)) fs) K
+        → unaryRows (aggregate us ws) (select K fs) (map (select K) rs) ≡ map (select (G ++ A)) (unaryRows (aggregate gs vs) fs rs)
+    unfolding unaryRows unaryExprs
+    aggregate-rows us ws d e {K} l =
+        let es = map itemExpr us in
+        let v = used-cov (es ++ concatMap aggExprs ws) fs l in
+        ap (λ us. aggregateRows es us (select K fs) (map (select K) rs)) e
+        ∙ (aggregate-select es vs A (used-left es (concatMap aggExprs ws) v) (subst (λ us. Cov (concatMap aggExprs us) fs K) e (used-right es (concatMap aggExprs ws) v)) rs
+        ∙ (ap (λ us. map (select (ones (map itemExpr us) ++ A)) (aggregateRows (map itemExpr us) vs fs rs)) d ∙ groups-select fs gs A vs f drops))
 
-  -- neither group nor aggregate: one row of no values
-  nothing-left : (vs : List Agg) (A : Mask) → [] ≡ select A vs → meaning C D (leaf (empty true [])) ≡ map (select A) (unaryRows (aggregate [] vs) fs rs)
-  unfolding meaning leafRows emptyRows missings unaryRows aggregateRows groupKeys groupRow
-  nothing-left vs A e = let f = aggValue fs (members [] fs rs []) in ap (λ r. r ∷ []) (ap (map f) e ∙ sym (select-map f A vs))
-
-  module _ (vs : List Agg) (A : Mask) where
-    some-left : (gs : List Item) (ws : List Agg) → ws ≡ select A vs → {R : Mask} → LeM R (ones gs ++ A)
-        → JobNarrows C D fs rs R (unaryFields (aggregate gs vs) fs) (unaryRows (aggregate gs vs) fs rs) (ask false (used (unaryExprs (aggregate gs ws)) fs) true (unary (aggregate gs ws)) (λ L. ones gs ++ A))
+    some-left : (us : List Item) (ws : List Agg) → us ≡ select G gs → ws ≡ select A vs → {R : Mask} → LeM R (G ++ A)
+        → JobNarrows C D fs rs R (unaryFields (aggregate gs vs) fs) (unaryRows (aggregate gs vs) fs rs) (ask false (used (unaryExprs (aggregate us ws)) fs) true (unary (aggregate us ws)) (λ L. G ++ A))
     unfolding JobNarrows unaryFields
-    some-left gs ws e l = (
-      used-fit (unaryExprs (aggregate gs ws)) fs,
+    some-left us ws d e l = (
+      used-fit (unaryExprs (aggregate us ws)) fs,
       λ K p′ n.
-          node (aggregate gs ws) n (ones gs ++ A) l (ap (λ us. map itemPair gs ++ map aggPair us) e ∙ aggregate-fields gs A vs) (aggregate-rows gs vs ws A e (n .keeps)),
+          node (aggregate us ws) n (G ++ A) l (ap₂ (λ us ws. map itemPair us ++ map aggPair ws) d e ∙ aggregate-fields f A vs) (aggregate-rows us ws d e (n .keeps)),
     )
 
-    aggregate-narrows : (gs : List Item) (ws : List Agg) → ws ≡ select A vs → {R : Mask} → LeM R (ones gs ++ A)
-        → JobNarrows C D fs rs R (unaryFields (aggregate gs vs) fs) (unaryRows (aggregate gs vs) fs rs) (aggregateJob gs ws fs (ones gs ++ A))
+    aggregate-narrows : (us : List Item) (ws : List Agg) → us ≡ select G gs → ws ≡ select A vs → {R : Mask} → LeM R (G ++ A)
+        → JobNarrows C D fs rs R (unaryFields (aggregate gs vs) fs) (unaryRows (aggregate gs vs) fs rs) (aggregateJob us ws fs (G ++ A))
     unfolding aggregateJob
-    aggregate-narrows [] [] e l = unfold JobNarrows unaryFields fieldsOf leafFields ones in record { keeps = l; fields = ap (map aggPair) e ∙ sym (select-map aggPair A vs); rows = nothing-left vs A e }
-    aggregate-narrows [] (u ∷ us) e l = some-left [] (u ∷ us) e l
-    aggregate-narrows (g ∷ gs) ws e l = some-left (g ∷ gs) ws e l
+    -- neither group nor aggregate: one row of no values
+    aggregate-narrows [] [] d e l =
+        unfold JobNarrows unaryFields fieldsOf leafFields meaning leafRows emptyRows missings in
+        record {
+          keeps = l;
+          fields = ap₂ (λ us ws. map itemPair us ++ map aggPair ws) d e ∙ aggregate-fields f A vs;
+          rows = unfold unaryRows aggregateRows groupKeys groupRow in aggregate-rows [] [] d e (LeM-refl _);
+        }
+    aggregate-narrows [] (w ∷ ws) d e l = some-left [] (w ∷ ws) d e l
+    aggregate-narrows (u ∷ us) ws d e l = some-left (u ∷ us) ws d e l
 
   -- ── Window: vs are the windows that are left ──────────────────────────────────────────────
 
@@ -125,22 +131,26 @@ module _ (C : Catalogue) (D : Log) (fs : List Pair) (rs : List Row) where
 
   -- ── every kind ────────────────────────────────────────────────────────────────────────────
 
-  pub unary-narrows : Clear fs → WideRows fs rs → (h : Unary) (b : Bool) {R : Mask} → Fit R (unaryFields h fs) → JobNarrows C D fs rs R (unaryFields h fs) (unaryRows h fs rs) (unaryJob C h fs b R)
+  pub unary-narrows : Clear fs → WideRows fs rs → {key : List ℕ} → KeyOn rs key → (h : Unary) (b : Bool) {R : Mask} → Fit R (unaryFields h fs)
+      → JobNarrows C D fs rs R (unaryFields h fs) (unaryRows h fs rs) (unaryJob C h key fs b R)
   unfolding unaryJob unaryFields unaryRows JobNarrows
-  unary-narrows nd w (projection is) b {R} f = projection-narrows nd w is R
-  unary-narrows nd w (filter e) b f = (
+  unary-narrows nd w d (projection is) b {R} f = projection-narrows nd w is R
+  unary-narrows nd w d (filter e) b f = (
     plus-fit (e ∷ []) f,
     λ K p′ n.
         node (filter e) n K (plus-keeps (e ∷ []) f (n .keeps)) refl (filter-map (select K) _ _ (λ r. ap yes? (eval-select e (used-head e [] (plus-cov (e ∷ []) f (n .keeps))) r)) rs),
   )
-  unary-narrows nd w (sort ks) b f =
+  unary-narrows nd w d (sort ks) b f =
       let es = map keyExpr ks in
       (plus-fit es f, λ K p′ n. node (sort ks) n K (plus-keeps es f (n .keeps)) refl (sort-map (select K) _ _ (before-select ks (plus-cov es f (n .keeps))) rs))
-  unary-narrows nd w (limit i j) b f = (f, λ K p′ n. node (limit i j) n K (n .keeps) refl (page-map (select K) i j rs))
-  unary-narrows nd w (aggregate gs vs) b {R} f = aggregate-narrows vs (drop (length gs) R) gs (select (drop (length gs) R) vs) refl (all-groups gs (map aggPair vs) f)
-  unary-narrows nd w (window ws) b {R} f = window-narrows w ws (select (drop (length fs) R) ws) b R f refl
-  unary-narrows nd w (subqueryAlias q) b f = (Fit-trans f (Fit-map (requalify q) fs), λ K p′ n. node (subqueryAlias q) n K (n .keeps) (sym (select-map (requalify q) K fs)) refl)
-  unary-narrows nd w distinct b f = (
+  unary-narrows nd w d (limit i j) b f = (f, λ K p′ n. node (limit i j) n K (n .keeps) refl (page-map (select K) i j rs))
+  unary-narrows nd w {key} d (aggregate gs vs) b {R} f =
+      let p = groups-fit gs (map aggPair vs) f in
+      let l = groups-keep key (placesOf fs gs) (places-fit fs p) in
+      aggregate-narrows gs vs (drop (length gs) R) (LeM-fit l p) (kept-drops fs d gs p) _ _ refl refl (LeM-parts (length gs) R l (LeM-refl _))
+  unary-narrows nd w d (window ws) b {R} f = window-narrows w ws (select (drop (length fs) R) ws) b R f refl
+  unary-narrows nd w d (subqueryAlias q) b f = (Fit-trans f (Fit-map (requalify q) fs), λ K p′ n. node (subqueryAlias q) n K (n .keeps) (sym (select-map (requalify q) K fs)) refl)
+  unary-narrows nd w d distinct b f = (
     unfold ones in Fit-map (λ x. true) fs,
     λ K p′ n.
         let e = ones-le fs (n .keeps) in

@@ -1,19 +1,22 @@
--- Rows of small plans, by computation: each operator, function, node and join type once, and three stories of the pass.
+-- Rows of small plans, by computation: each operator, function, node and join type once, three stories of the pass, and keys.
 use mathlib.Core.Path.{_≡_, refl}
-use mathlib.Core.List.{[], _∷_, map}
-use mathlib.Core.Bool.{true, false}
+use mathlib.Core.List.{List, [], _∷_, map}
+use mathlib.Core.Bool.{true, false, not}
 use mathlib.Core.Option.{none, some}
 use Prim.Native.Nat.{ℕ}
+use lib.Dec.{T}
 use lib.IntN.{pos, negsuc}
 use Rattle.cpl.specs.Limits.{version2}
 use Rattle.cpl.specs.Plan.{Pair, pair, o-not, o-missing, o-add, o-sub, o-mul, o-eq, o-lt, o-and, o-or, Expr, col, lit, miss, un, bin, bare, named, key, f-count, f-sum, f-min, f-max, rows, over, agg, win, JoinType, j-inner, j-left, j-right, j-full, j-lsemi, j-lanti, j-rsemi, j-ranti, on, scan, empty, projection, filter, sort, limit, aggregate, window, subqueryAlias, distinct, union, join, Plan, leaf, unary, binary, Catalogue, keyless}
+use Rattle.cpl.specs.Lists.{a[], _a∷_}
 use Rattle.rules.specs.Mask.{Mask}
 use Rattle.rules.specs.Merge.{mergeStep}
 use Rattle.rules.specs.Rewrite.{Walked, rewrite}
 use Rattle.meaning.specs.Value.{Val, missing, num, Log}
 use Rattle.meaning.specs.Eval.{evalAll}
-use Rattle.meaning.specs.Meaning.{meaning}
+use Rattle.meaning.specs.Meaning.{tableRows, meaning}
 use Rattle.meaning.specs.Reads.{reads}
+use Rattle.meaning.specs.Keyed.{Pairwise, p[], _p∷_, share, Unique, Keyed}
 use Rattle.meaning.specs.Computes.{meaning-computes}
 
 abbrev n : ℕ → Val
@@ -234,3 +237,59 @@ stories =
       sums-before = refl;
       sums-after = refl;
     }
+
+-- ── a key lets a group column go ────────────────────────────────────────────────────────────
+
+-- the same tables, where the first has a key
+abbrev keyed : (columns : List ℕ) → Catalogue
+keyed is = record { version = version2; tables = C .tables; keys = record { table = 0; columns = is } ∷ [] }
+
+abbrev c : Pair
+c = pair 1 3
+
+-- the sum of a, grouped by the third column and by b
+abbrev by-c : Plan
+by-c = unary (aggregate (bare c ∷ bare b ∷ []) (agg x (over f-sum (col a)) ∷ [])) S
+
+-- the number of rows, grouped by a and b
+abbrev by-a : Plan
+by-a = unary (aggregate (bare a ∷ bare b ∷ []) (agg x rows ∷ [])) S
+
+-- only the third field is requested, where the first table has this key
+abbrev third : (columns : List ℕ) → Plan → Walked
+third is p = rewrite (mergeStep true 0) (keyed is) p (false ∷ false ∷ true ∷ [])
+
+record Keys : Type 0 where
+  -- the third column is a key of the rows, and a is none
+  holds : Keyed (keyed (2 ∷ [])) D
+  broken : ¬ (Keyed (keyed (0 ∷ [])) D)
+  -- the key's column stays, b goes, and the scan no longer reads it
+  gone : third (2 ∷ []) by-c .plan ≡ unary (aggregate (bare c ∷ []) (agg x (over f-sum (col a)) ∷ [])) (leaf (scan 0 1 (some (0 ∷ 2 ∷ [])) []))
+  before : meaning (keyed (2 ∷ [])) D by-c ≡ (n 7 ∷ n 30 ∷ n 1 ∷ []) ∷ (n 8 ∷ missing ∷ n 2 ∷ []) ∷ (n 9 ∷ n 10 ∷ n 1 ∷ []) ∷ (n 6 ∷ n 5 ∷ missing ∷ []) ∷ []
+  after : meaning (keyed (2 ∷ [])) D (third (2 ∷ []) by-c .plan) ≡ (n 7 ∷ n 1 ∷ []) ∷ (n 8 ∷ n 2 ∷ []) ∷ (n 9 ∷ n 1 ∷ []) ∷ (n 6 ∷ missing ∷ []) ∷ []
+  -- the premise is needed: where a is declared as the key, b goes, and rows with it
+  broken-before : meaning (keyed (0 ∷ [])) D by-a ≡ (n 1 ∷ n 30 ∷ n 1 ∷ []) ∷ (n 2 ∷ missing ∷ n 1 ∷ []) ∷ (n 1 ∷ n 10 ∷ n 1 ∷ []) ∷ (missing ∷ n 5 ∷ n 1 ∷ []) ∷ []
+  broken-after : meaning (keyed (0 ∷ [])) D (third (0 ∷ []) by-a .plan) ≡ (n 1 ∷ n 2 ∷ []) ∷ (n 2 ∷ n 1 ∷ []) ∷ (missing ∷ n 1 ∷ []) ∷ []
+
+keys : Keys
+unfolding meaning-computes
+keys =
+    record {
+      holds = record { no-two = (tt a∷ tt a∷ tt a∷ a[]) p∷ (tt a∷ tt a∷ a[]) p∷ (tt a∷ a[]) p∷ a[] p∷ p[]; none-missing = tt a∷ tt a∷ tt a∷ tt a∷ a[] } a∷ a[];
+      broken = not-keyed;
+      gone = refl;
+      before = refl;
+      after = refl;
+      broken-before = refl;
+      broken-after = refl;
+    }
+  where
+    -- the first row and the third share a
+    not-two : Unique (0 ∷ []) (tableRows D 0) → ⊥
+    not-two u = two (u .no-two)
+      where
+        two : Pairwise (λ r s. T (not (share (0 ∷ []) r s))) (tableRows D 0) → ⊥
+        two ((h a∷ k a∷ l) p∷ ls) = k
+
+    not-keyed : Keyed (keyed (0 ∷ [])) D → ⊥
+    not-keyed (u a∷ us) = not-two u

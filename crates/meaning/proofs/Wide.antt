@@ -27,12 +27,12 @@ module _ {A : Type 0} {P : A → Type 0} where
   All-filter q a[] = a[]
   All-filter q (_a∷_ {x = x} h hs) = All-cond (q x) (h a∷ All-filter q hs) (All-filter q hs)
 
-  All-insert : (lt : A → A → Bool) (x : A) {ys : List A} → P x → All P ys → All P (insert lt x ys)
+  pub All-insert : (lt : A → A → Bool) (x : A) {ys : List A} → P x → All P ys → All P (insert lt x ys)
   unfolding insert
   All-insert lt x h a[] = h a∷ a[]
   All-insert lt x h (_a∷_ {x = y} k ks) = All-cond (lt y x) (k a∷ All-insert lt x h ks) (h a∷ k a∷ ks)
 
-  All-sort : (lt : A → A → Bool) {xs : List A} → All P xs → All P (sortBy lt xs)
+  pub All-sort : (lt : A → A → Bool) {xs : List A} → All P xs → All P (sortBy lt xs)
   unfolding sortBy
   All-sort lt a[] = a[]
   All-sort lt (_a∷_ {x = x} h hs) = All-insert lt x h (All-sort lt hs)
@@ -42,12 +42,12 @@ module _ {A : Type 0} {P : A → Type 0} where
   All-firsts eq a[] = a[]
   All-firsts eq (_a∷_ {x = x} h hs) = h a∷ All-filter (λ y. not (eq x y)) (All-firsts eq hs)
 
-  All-take : (n : ℕ) {xs : List A} → All P xs → All P (take n xs)
+  pub All-take : (n : ℕ) {xs : List A} → All P xs → All P (take n xs)
   All-take zero h = a[]
   All-take (suc n) a[] = a[]
   All-take (suc n) (h a∷ hs) = h a∷ All-take n hs
 
-  All-drop : (n : ℕ) {xs : List A} → All P xs → All P (drop n xs)
+  pub All-drop : (n : ℕ) {xs : List A} → All P xs → All P (drop n xs)
   All-drop zero h = h
   All-drop (suc n) a[] = a[]
   All-drop (suc n) (h a∷ hs) = All-drop n hs

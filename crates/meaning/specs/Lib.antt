@@ -8,6 +8,7 @@ pub mod Operators
 pub mod Joins
 pub mod Meaning
 pub mod Reads
+pub mod Keyed
 pub mod Narrowing
 pub mod Computes
 pub mod Promise

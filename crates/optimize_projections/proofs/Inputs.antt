@@ -112,34 +112,34 @@ one-end C a count r r₁ u p w i d x = rw (d .0, d .1) x
 
 -- ── what is asked of the inputs ─────────────────────────────────────────────────────────────
 
-module _ {cells rows nodes fields widths : List ℕ} {r : Results} {k : ℕ} {j : Job} {u : Used} where
+module _ {cells rows nodes fields widths keys : List ℕ} {r : Results} {k : ℕ} {j : Job} {u : Used} where
   -- what is asked of the first input, and of the second
-  abbrev one-asked : (b : BeforeInputs cells rows nodes fields widths r k j u) (t : Todo) → InputAsked (b .standing .C) (lent cells rows nodes) (b .standing .count) (k + 1) (j .ask) (b .Q)
-      → Before cells rows nodes fields widths r (k + 1) (j .ask) u
-  one-asked b t a = record { standing = b .standing; within = a .within; ready = b .ready; R = b .Q; fit = a .fit; asks = a .asks }
+  abbrev one-asked : (b : BeforeInputs cells rows nodes fields widths keys r k j u) (t : Todo) → InputAsked (b .standing .C) (lent cells rows nodes) (b .standing .count) (k + 1) (j .ask) (b .Q)
+      → Before cells rows nodes fields widths keys r (k + 1) (j .ask) u
+  one-asked b t a = record { standing = b .standing; keyed = b .keyed; within = a .within; ready = b .ready; R = b .Q; fit = a .fit; asks = a .asks }
 
-  abbrev pub same-before : j .todo ≡ todos.Same → BeforeInputs cells rows nodes fields widths r k j u → Before cells rows nodes fields widths r (k + 1) (j .ask) u
+  abbrev pub same-before : j .todo ≡ todos.Same → BeforeInputs cells rows nodes fields widths keys r k j u → Before cells rows nodes fields widths keys r (k + 1) (j .ask) u
   same-before e b = one-asked b todos.Same (subst (InputsAsked (b .standing .C) (lent cells rows nodes) (b .standing .count) k j (b .Q) (b .P)) e (b .asked))
 
-  abbrev pub one-before : (topped : Bool) → j .todo ≡ todos.One topped → BeforeInputs cells rows nodes fields widths r k j u → Before cells rows nodes fields widths r (k + 1) (j .ask) u
+  abbrev pub one-before : (topped : Bool) → j .todo ≡ todos.One topped → BeforeInputs cells rows nodes fields widths keys r k j u → Before cells rows nodes fields widths keys r (k + 1) (j .ask) u
   one-before topped e b = one-asked b (todos.One topped) (subst (InputsAsked (b .standing .C) (lent cells rows nodes) (b .standing .count) k j (b .Q) (b .P)) e (b .asked))
 
   module _ (right : ℕ) (e : j .todo ≡ todos.Two right) where
-    pub two-asked : (b : BeforeInputs cells rows nodes fields widths r k j u) → InputsAsked (b .standing .C) (lent cells rows nodes) (b .standing .count) k j (b .Q) (b .P) (todos.Two right)
+    pub two-asked : (b : BeforeInputs cells rows nodes fields widths keys r k j u) → InputsAsked (b .standing .C) (lent cells rows nodes) (b .standing .count) k j (b .Q) (b .P) (todos.Two right)
     two-asked b = subst (InputsAsked (b .standing .C) (lent cells rows nodes) (b .standing .count) k j (b .Q) (b .P)) e (b .asked)
 
-    abbrev pub first-before : BeforeInputs cells rows nodes fields widths r k j u → Before cells rows nodes fields widths r (k + 1) (j .ask) u
+    abbrev pub first-before : BeforeInputs cells rows nodes fields widths keys r k j u → Before cells rows nodes fields widths keys r (k + 1) (j .ask) u
     first-before b = one-asked b (todos.Two right) (two-asked b .0)
 
-    pub right-above : BeforeInputs cells rows nodes fields widths r k j u → k < right
+    pub right-above : BeforeInputs cells rows nodes fields widths keys r k j u → k < right
     right-above b = two-asked b .2
 
 -- ── as the walk's functions say it ──────────────────────────────────────────────────────────
 
-module _ (s : Settings) {cells rows nodes fields widths : List ℕ} where
+module _ (s : Settings) {cells rows nodes fields widths keys : List ℕ} where
   pub topped-after : {r : Results} {sr items icells : List ℕ} {k : ℕ} {ask : RequiredIndices} {u : Used} {w : Walked} {sr′ : List ℕ} (v : Walked) (topped : Bool)
-      → After s cells rows nodes fields widths r (results sr items icells) k ask u w → ToppedIs sr sr′ k ask w v topped (w .end)
-      → InputAfter s cells rows nodes fields widths r (results sr′ items icells) k ask topped u v
+      → After s cells rows nodes fields widths keys r (results sr items icells) k ask u w → ToppedIs sr sr′ k ask w v topped (w .end)
+      → InputAfter s cells rows nodes fields widths keys r (results sr′ items icells) k ask topped u v
   topped-after {r} {sr} {items} {icells} {k} {ask} {u} {w} {sr′} v topped x d = record {
     is = λ b.
         topped-walk (b .standing .C) (lent cells rows nodes) (b .standing .count) r sr items icells u
@@ -150,14 +150,14 @@ module _ (s : Settings) {cells rows nodes fields widths : List ℕ} where
   module _ {r : Results} {k : ℕ} {j : Job} {u : Used} where
     module _ (right : ℕ) (e : j .todo ≡ todos.Two right) where
       -- the first input was walked
-      module _ {r₁ : Results} {w : Walked} (x : InputAfter s cells rows nodes fields widths r r₁ (k + 1) (j .ask) true u w) where
-        pub first-end : (b : BeforeInputs cells rows nodes fields widths r k j u) (end : End) → w .end ≡ end
+      module _ {r₁ : Results} {w : Walked} (x : InputAfter s cells rows nodes fields widths keys r r₁ (k + 1) (j .ask) true u w) where
+        pub first-end : (b : BeforeInputs cells rows nodes fields widths keys r k j u) (end : End) → w .end ≡ end
             → EndIs (b .standing .C) (lent cells rows nodes) (b .standing .count) r r₁ u (inputWalk (mergeBy s) (b .standing .C) (planAt (lent cells rows nodes) (k + 1)) (flagOf (j .ask)) true (b .Q)) (w .kept) end
         first-end b end q =
             subst (EndIs (b .standing .C) (lent cells rows nodes) (b .standing .count) r r₁ u (inputWalk (mergeBy s) (b .standing .C) (planAt (lent cells rows nodes) (k + 1)) (flagOf (j .ask)) true (b .Q)) (w .kept)) q
             (x .is (first-before right e b))
 
-        pub first-too-large : w .end ≡ Large → {i : Inputs} → i .end ≡ inputs.Large → InputsAfter s cells rows nodes fields widths r r₁ k j u i
+        pub first-too-large : w .end ≡ Large → {i : Inputs} → i .end ≡ inputs.Large → InputsAfter s cells rows nodes fields widths keys r r₁ k j u i
         first-too-large q {i} d = record {
           is = λ b.
               subst (InputsIs (mergeBy s) (b .standing .C) (lent cells rows nodes) (b .standing .count) r r₁ u k j (b .Q) (b .P) i) (sym e)
@@ -167,12 +167,12 @@ module _ (s : Settings) {cells rows nodes fields widths : List ℕ} where
         }
 
         module _ (rec : ℕ) (v : Used) (q : w .end ≡ Done rec v) where
-          abbrev pub second-before : BeforeInputs cells rows nodes fields widths r k j u → Before cells rows nodes fields widths r₁ right (j .second) v
+          abbrev pub second-before : BeforeInputs cells rows nodes fields widths keys r k j u → Before cells rows nodes fields widths keys r₁ right (j .second) v
           second-before b =
-              record { standing = b .standing; within = two-asked right e b .1 .within; ready = first-end b (Done rec v) q .0 .ready; R = b .P; fit = two-asked right e b .1 .fit; asks = two-asked right e b .1 .asks }
+              record { standing = b .standing; keyed = b .keyed; within = two-asked right e b .1 .within; ready = first-end b (Done rec v) q .0 .ready; R = b .P; fit = two-asked right e b .1 .fit; asks = two-asked right e b .1 .asks }
 
-          pub two-after : {r₂ : Results} (w₂ : Walked) → InputAfter s cells rows nodes fields widths r₁ r₂ right (j .second) true v w₂ → {i : Inputs} → (i .end ≡ twoEnd rec (w₂ .end)) × (i .kept ≡ w .kept)
-              → InputsAfter s cells rows nodes fields widths r r₂ k j u i
+          pub two-after : {r₂ : Results} (w₂ : Walked) → InputAfter s cells rows nodes fields widths keys r₁ r₂ right (j .second) true v w₂ → {i : Inputs} → (i .end ≡ twoEnd rec (w₂ .end)) × (i .kept ≡ w .kept)
+              → InputsAfter s cells rows nodes fields widths keys r r₂ k j u i
           two-after {r₂} w₂ y {i} d = record {
             is = λ b.
                 let x₁ = first-end b (Done rec v) q in
@@ -183,14 +183,14 @@ module _ (s : Settings) {cells rows nodes fields widths : List ℕ} where
 
     -- one input
     module _ {r₁ : Results} {w : Walked} {i : Inputs} (d : (oneEnd (i .end) ≡ w .end) × (i .kept ≡ w .kept)) where
-      pub same-after : j .todo ≡ todos.Same → InputAfter s cells rows nodes fields widths r r₁ (k + 1) (j .ask) false u w → InputsAfter s cells rows nodes fields widths r r₁ k j u i
+      pub same-after : j .todo ≡ todos.Same → InputAfter s cells rows nodes fields widths keys r r₁ (k + 1) (j .ask) false u w → InputsAfter s cells rows nodes fields widths keys r r₁ k j u i
       same-after e x = record {
         is = λ b.
             subst (InputsIs (mergeBy s) (b .standing .C) (lent cells rows nodes) (b .standing .count) r r₁ u k j (b .Q) (b .P) i) (sym e)
             (one-end (b .standing .C) (lent cells rows nodes) (b .standing .count) r r₁ u _ w i d (x .is (same-before e b)));
       }
 
-      pub one-after : (topped : Bool) → j .todo ≡ todos.One topped → InputAfter s cells rows nodes fields widths r r₁ (k + 1) (j .ask) topped u w → InputsAfter s cells rows nodes fields widths r r₁ k j u i
+      pub one-after : (topped : Bool) → j .todo ≡ todos.One topped → InputAfter s cells rows nodes fields widths keys r r₁ (k + 1) (j .ask) topped u w → InputsAfter s cells rows nodes fields widths keys r r₁ k j u i
       one-after topped e x = record {
         is = λ b.
             subst (InputsIs (mergeBy s) (b .standing .C) (lent cells rows nodes) (b .standing .count) r r₁ u k j (b .Q) (b .P) i) (sym e)
@@ -198,8 +198,8 @@ module _ (s : Settings) {cells rows nodes fields widths : List ℕ} where
       }
 
     -- none
-    pub leaf-after : j .todo ≡ todos.Leaf → {i : Inputs} → i .end ≡ inputs.Done 0 0 u → InputsAfter s cells rows nodes fields widths r r k j u i
+    pub leaf-after : j .todo ≡ todos.Leaf → {i : Inputs} → i .end ≡ inputs.Done 0 0 u → InputsAfter s cells rows nodes fields widths keys r r k j u i
     leaf-after e {i} d = record { is = λ b. subst (InputsIs (mergeBy s) (b .standing .C) (lent cells rows nodes) (b .standing .count) r r u k j (b .Q) (b .P) i) (sym e) (d, refl) }
 
-    pub nothing-after : j .todo ≡ todos.Nothing → {i : Inputs} → i .end ≡ inputs.Done 0 0 u → InputsAfter s cells rows nodes fields widths r r k j u i
+    pub nothing-after : j .todo ≡ todos.Nothing → {i : Inputs} → i .end ≡ inputs.Done 0 0 u → InputsAfter s cells rows nodes fields widths keys r r k j u i
     nothing-after e {i} d = record { is = λ b. subst (InputsIs (mergeBy s) (b .standing .C) (lent cells rows nodes) (b .standing .count) r r u k j (b .Q) (b .P) i) (sym e) (d, refl) }

@@ -58,8 +58,8 @@ module _ {cells rows nodes fields widths : List ℕ} (z : Standing cells rows no
 
 -- ── a request of items of the list ──────────────────────────────────────────────────────────
 
-module _ {cells rows nodes fields widths arows acells : List ℕ} {r : Results} {k : ℕ} {l : Pending} {request : RequiredIndices} {u : Used}
-    (b : BeforeList cells rows nodes fields widths arows acells r k l request u) where
+module _ {cells rows nodes fields widths keys arows acells : List ℕ} {r : Results} {k : ℕ} {l : Pending} {request : RequiredIndices} {u : Used}
+    (b : BeforeList cells rows nodes fields widths keys arows acells r k l request u) where
   pub request-within : setOf request < 2 ^ (l .n)
   request-within =
       subst (λ (n : ℕ). setOf request < 2 ^ n) (Fit-length (b .fit) ∙ items-length (side (l .scratch) arows rows) (side (l .scratch) acells cells) (l .first) (l .n)) (b .asks .within)
@@ -140,9 +140,9 @@ shift v u o n n′ t t′ e f g x = ⊎-elim (λ d. inl d) (λ y. ⊎-elim (λ d
 
 -- ── the list over node k ────────────────────────────────────────────────────────────────────
 
-module _ {cells rows nodes fields widths arows acells sr items icells : List ℕ} {k : ℕ} {l : Pending} {request : RequiredIndices} {u : Used} (c : Chosen) (items₁ icells₁ : List ℕ)
+module _ {cells rows nodes fields widths keys arows acells sr items icells : List ℕ} {k : ℕ} {l : Pending} {request : RequiredIndices} {u : Used} (c : Chosen) (items₁ icells₁ : List ℕ)
     (q : Picked (keptPending l request rows cells arows acells) (rowAt fields (firstAt widths k) (widthAt widths k)) u items icells items₁ icells₁ c) where
-  module _ (b : BeforeList cells rows nodes fields widths arows acells (results sr items icells) k l request u) where
+  module _ (b : BeforeList cells rows nodes fields widths keys arows acells (results sr items icells) k l request u) where
     abbrev C : Catalogue
     C = b .standing .C
 
@@ -176,10 +176,11 @@ module _ {cells rows nodes fields widths arows acells sr items icells : List ℕ
           subst (λ (ks : List Item). SelectionIs ks u items icells items₁ icells₁ (c .used) (c .list)) kept-is
           (subst (λ (t : Bool). TakenIs (keptPending l request rows cells arows acells) u items icells items₁ icells₁ c t) fine (q .taken))
 
-      abbrev pub input-before : Before cells rows nodes fields widths (results sr items₁ icells₁) k (c .ask) (c .used)
+      abbrev pub input-before : Before cells rows nodes fields widths keys (results sr items₁ icells₁) k (c .ask) (c .used)
       input-before =
           record {
             standing = b .standing;
+            keyed = b .keyed;
             within = b .within;
             ready = taken-ready (b .ready) (select (b .R) (pendingItems l rows cells arows acells)) items₁ icells₁ (c .used) (c .list) chosen;
             R = used (map itemExpr (select (b .R) (pendingItems l rows cells arows acells))) (fieldsOf (b .standing .C) (planAt (lent cells rows nodes) k));
@@ -191,25 +192,25 @@ module _ {cells rows nodes fields widths arows acells sr items icells : List ℕ
 
   module _ (s : Settings) where
     -- the rules' plan of the list
-    abbrev listWalk : BeforeList cells rows nodes fields widths arows acells (results sr items icells) k l request u → rules.Walked
+    abbrev listWalk : BeforeList cells rows nodes fields widths keys arows acells (results sr items icells) k l request u → rules.Walked
     listWalk b =
         pend (b .standing .C) (some (pendingItems l rows cells arows acells)) (fieldsOf (b .standing .C) (planAt (lent cells rows nodes) k)) (walk (mergeBy s) (b .standing .C) (planAt (lent cells rows nodes) k) none) (flagOf request)
         (b .R)
 
     -- and of the node beneath it
-    abbrev nodeWalk : BeforeList cells rows nodes fields widths arows acells (results sr items icells) k l request u → rules.Walked
+    abbrev nodeWalk : BeforeList cells rows nodes fields widths keys arows acells (results sr items icells) k l request u → rules.Walked
     nodeWalk b =
         walk (mergeBy s) (b .standing .C) (planAt (lent cells rows nodes) k) none false
         (used (map itemExpr (select (b .R) (pendingItems l rows cells arows acells))) (fieldsOf (b .standing .C) (planAt (lent cells rows nodes) k)))
 
-    list-walk : (b : BeforeList cells rows nodes fields widths arows acells (results sr items icells) k l request u) →
+    list-walk : (b : BeforeList cells rows nodes fields widths keys arows acells (results sr items icells) k l request u) →
         listWalk b ≡ record { plan = overChild (b .standing .C) (select (b .R) (pendingItems l rows cells arows acells)) (nodeWalk b .plan); kept = b .R; overlong = nodeWalk b .overlong }
     list-walk b =
         pend-is (b .standing .C) (pendingItems l rows cells arows acells) (fieldsOf (b .standing .C) (planAt (lent cells rows nodes) k)) (walk (mergeBy s) (b .standing .C) (planAt (lent cells rows nodes) k) none)
         (flagOf request) (b .R)
 
     -- there was no room for the items
-    pub copies-large : c .large ≡ true → {w : Walked} → w .end ≡ Large → {r′ : Results} → PutAfter s cells rows nodes fields widths arows acells (results sr items icells) r′ k l request u w
+    pub copies-large : c .large ≡ true → {w : Walked} → w .end ≡ Large → {r′ : Results} → PutAfter s cells rows nodes fields widths keys arows acells (results sr items icells) r′ k l request u w
     copies-large e {w} d {r′} = record {
       is = λ b.
           let ks : List Item = select (b .R) (pendingItems l rows cells arows acells) in
@@ -221,8 +222,8 @@ module _ {cells rows nodes fields widths arows acells sr items icells : List ℕ
     }
 
     module _ (fine : c .large ≡ false) {sr₂ items₂ icells₂ : List ℕ} {w : Walked}
-        (x : After s cells rows nodes fields widths (results sr items₁ icells₁) (results sr₂ items₂ icells₂) k (c .ask) (c .used) w) where
-      node-end : (b : BeforeList cells rows nodes fields widths arows acells (results sr items icells) k l request u)
+        (x : After s cells rows nodes fields widths keys (results sr items₁ icells₁) (results sr₂ items₂ icells₂) k (c .ask) (c .used) w) where
+      node-end : (b : BeforeList cells rows nodes fields widths keys arows acells (results sr items icells) k l request u)
           → WalkIs (b .standing .C) (lent cells rows nodes) (b .standing .count) (results sr items₁ icells₁) (results sr₂ items₂ icells₂) (c .used) (nodeWalk b) w
       node-end b =
           subst (λ (f : Bool).
@@ -231,10 +232,10 @@ module _ {cells rows nodes fields widths arows acells sr items icells : List ℕ
           (used (map itemExpr (select (b .R) (pendingItems l rows cells arows acells))) (fieldsOf (b .standing .C) (planAt (lent cells rows nodes) k)))) w) (q .flag)
           (x .is (input-before b fine))
 
-      node-fit : (b : BeforeList cells rows nodes fields widths arows acells (results sr items icells) k l request u) → Fit (nodeWalk b .kept) (fieldsOf (b .standing .C) (planAt (lent cells rows nodes) k))
+      node-fit : (b : BeforeList cells rows nodes fields widths keys arows acells (results sr items icells) k l request u) → Fit (nodeWalk b .kept) (fieldsOf (b .standing .C) (planAt (lent cells rows nodes) k))
       node-fit b = node-kept (b .standing) s k (b .within) false (used-fit (map itemExpr (select (b .R) (pendingItems l rows cells arows acells))) (fieldsOf (b .standing .C) (planAt (lent cells rows nodes) k)))
 
-      pub list-fields : BeforeList cells rows nodes fields widths arows acells (results sr items icells) k l request u → FieldsFor fields (firstAt widths k) (widthAt widths k) w (w .end)
+      pub list-fields : BeforeList cells rows nodes fields widths keys arows acells (results sr items icells) k l request u → FieldsFor fields (firstAt widths k) (widthAt widths k) w (w .end)
       list-fields b = by (w .end) (node-end b)
         where
           by : (e : End) → EndIs (b .standing .C) (lent cells rows nodes) (b .standing .count) (results sr items₁ icells₁) (results sr₂ items₂ icells₂) (c .used) (nodeWalk b) (w .kept) e → FieldsFor fields (firstAt widths k) (widthAt widths k) w e
@@ -242,7 +243,7 @@ module _ {cells rows nodes fields widths arows acells sr items icells : List ℕ
           by Large y = tt
 
       -- how the kept items are put
-      list-is : (b : BeforeList cells rows nodes fields widths arows acells (results sr items icells) k l request u) (rec : ℕ) (n : Used)
+      list-is : (b : BeforeList cells rows nodes fields widths keys arows acells (results sr items icells) k l request u) (rec : ℕ) (n : Used)
           → Stands (b .standing .C) (lent cells rows nodes) (b .standing .count) (results sr items₁ icells₁) (results sr₂ items₂ icells₂) (c .used) (nodeWalk b .plan) rec n
           → (t : Selection) → SelectionIs (select (b .R) (pendingItems l rows cells arows acells)) u items icells items₁ icells₁ (c .used) t
           → ListIs (b .standing .C) (lent cells rows nodes) (b .standing .count) (results sr₂ items₂ icells₂) (n .rows) (n .cells) fields (l .top) (firstAt widths (l .top)) (widthAt widths (l .top)) k (firstAt widths k) (widthAt widths k)
@@ -265,12 +266,12 @@ module _ {cells rows nodes fields widths arows acells sr items icells : List ℕ
           }
 
       pub put-after : {sr₃ : List ℕ} (v : Walked) → ListPut sr₂ sr₃ (c .list) fields (l .top) (firstAt widths (l .top)) (widthAt widths (l .top)) request (firstAt widths k) (widthAt widths k) w v (w .end)
-          → PutAfter s cells rows nodes fields widths arows acells (results sr items icells) (results sr₃ items₂ icells₂) k l request u v
+          → PutAfter s cells rows nodes fields widths keys arows acells (results sr items icells) (results sr₃ items₂ icells₂) k l request u v
       put-after {sr₃} v d = record {
         is = λ b. subst⁻¹ (λ (p : rules.Walked). WalkIs (b .standing .C) (lent cells rows nodes) (b .standing .count) (results sr items icells) (results sr₃ items₂ icells₂) u p v) (list-walk b) (by b (w .end) (node-end b) d);
       }
         where
-          by : (b : BeforeList cells rows nodes fields widths arows acells (results sr items icells) k l request u) (e : End)
+          by : (b : BeforeList cells rows nodes fields widths keys arows acells (results sr items icells) k l request u) (e : End)
               → EndIs (b .standing .C) (lent cells rows nodes) (b .standing .count) (results sr items₁ icells₁) (results sr₂ items₂ icells₂) (c .used) (nodeWalk b) (w .kept) e
               → ListPut sr₂ sr₃ (c .list) fields (l .top) (firstAt widths (l .top)) (widthAt widths (l .top)) request (firstAt widths k) (widthAt widths k) w v e
               → WalkIs (b .standing .C) (lent cells rows nodes) (b .standing .count) (results sr items icells) (results sr₃ items₂ icells₂) u

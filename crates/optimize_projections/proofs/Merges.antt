@@ -115,11 +115,12 @@ filed k first n = record { top = k; first = first; n = n; scratch = false }
 pub fit-pairs : {R : Mask} (js : List Item) {fs : List Pair} → map itemPair js ≡ fs → Fit R fs → Fit R js
 fit-pairs {R} js e f = length-Fit R js (Fit-length f ∙ ap length (sym e) ∙ length-map js itemPair)
 
-module _ {cells rows nodes fields widths : List ℕ} (arows acells : List ℕ) {r : Results} {k : ℕ} {request : RequiredIndices} {u : Used} (first n : ℕ) (e : Projection first n ≡ nodeAt nodes k) where
-  abbrev pub file-list : Before cells rows nodes fields widths r k request u → BeforeList cells rows nodes fields widths arows acells r (k + 1) (filed k first n) request u
+module _ {cells rows nodes fields widths keys : List ℕ} (arows acells : List ℕ) {r : Results} {k : ℕ} {request : RequiredIndices} {u : Used} (first n : ℕ) (e : Projection first n ≡ nodeAt nodes k) where
+  abbrev pub file-list : Before cells rows nodes fields widths keys r k request u → BeforeList cells rows nodes fields widths keys arows acells r (k + 1) (filed k first n) request u
   file-list b =
       record {
         standing = b .standing;
+        keyed = b .keyed;
         within = lower-below (b .standing) k (b .within) first n e;
         ready = b .ready;
         list = record { rows-ok = lower-rows (b .standing) k (b .within) first n e; tags = lower-tags (b .standing) k (b .within) first n e; few = lower-few (b .standing) k (b .within) first n e };
@@ -131,14 +132,14 @@ module _ {cells rows nodes fields widths : List ℕ} (arows acells : List ℕ) {
         asks = b .asks;
       }
 
-  load-walk : (M : Merge) (b : Before cells rows nodes fields widths r k request u) →
+  load-walk : (M : Merge) (b : Before cells rows nodes fields widths keys r k request u) →
       walk M (b .standing .C) (planAt (lent cells rows nodes) k) none (flagOf request) (b .R)
       ≡ walk M (b .standing .C) (planAt (lent cells rows nodes) (k + 1)) (some (itemsAt rows cells first n)) (flagOf request) (b .R)
   unfolding walk unaryWalk
   load-walk M b = ap (λ (p : Plan). walk M (b .standing .C) p none (flagOf request) (b .R)) (lower-plan (b .standing) k (b .within) first n e)
 
-  pub load-after : {s : Settings} {r′ : Results} {w : Walked} → ListAfter s cells rows nodes fields widths arows acells r r′ (k + 1) (filed k first n) request u w
-      → After s cells rows nodes fields widths r r′ k request u w
+  pub load-after : {s : Settings} {r′ : Results} {w : Walked} → ListAfter s cells rows nodes fields widths keys arows acells r r′ (k + 1) (filed k first n) request u w
+      → After s cells rows nodes fields widths keys r r′ k request u w
   load-after {s} {r′} {w} x = record {
     is = λ b. subst (λ (v : rules.Walked). WalkIs (b .standing .C) (lent cells rows nodes) (b .standing .count) r r′ u v w) (sym (load-walk (mergeBy s) b)) (x .is (file-list b));
   }
@@ -214,15 +215,15 @@ module _ (M : Merge) (C : Catalogue) (js : List Item) (b : Bool) (R : Mask) wher
 abbrev pub mergedList : Pending → Pending
 mergedList l = record { top = l .top; first = 0; n = l .n; scratch = true }
 
-module _ (s : Settings) {cells rows nodes fields widths arows acells : List ℕ} {r : Results} {k : ℕ} {l : Pending} {request : RequiredIndices} {u : Used} where
+module _ (s : Settings) {cells rows nodes fields widths keys arows acells : List ℕ} {r : Results} {k : ℕ} {l : Pending} {request : RequiredIndices} {u : Used} where
   -- what is said of the list put over the plan as it is, is said of the pending list
-  over-after : ((b : BeforeList cells rows nodes fields widths arows acells r k l request u) →
+  over-after : ((b : BeforeList cells rows nodes fields widths keys arows acells r k l request u) →
       Over (mergeBy s) (b .standing .C) (pendingItems l rows cells arows acells) (flagOf request) (b .R) (planAt (lent cells rows nodes) k))
-      → {r′ : Results} {w : Walked} → PutAfter s cells rows nodes fields widths arows acells r r′ k l request u w → ListAfter s cells rows nodes fields widths arows acells r r′ k l request u w
+      → {r′ : Results} {w : Walked} → PutAfter s cells rows nodes fields widths keys arows acells r r′ k l request u w → ListAfter s cells rows nodes fields widths keys arows acells r r′ k l request u w
   over-after e {r′} {w} x = record { is = λ b. subst (λ (v : rules.Walked). WalkIs (b .standing .C) (lent cells rows nodes) (b .standing .count) r r′ u v w) (sym (e b)) (x .is b) }
 
-  pub other-after : {n : Node} → n ≡ nodeAt nodes k → Other n → {r′ : Results} {w : Walked} → PutAfter s cells rows nodes fields widths arows acells r r′ k l request u w
-      → ListAfter s cells rows nodes fields widths arows acells r r′ k l request u w
+  pub other-after : {n : Node} → n ≡ nodeAt nodes k → Other n → {r′ : Results} {w : Walked} → PutAfter s cells rows nodes fields widths keys arows acells r r′ k l request u w
+      → ListAfter s cells rows nodes fields widths keys arows acells r r′ k l request u w
   other-after {n} e o =
       over-after (λ b. over-other (mergeBy s) (b .standing .C) (pendingItems l rows cells arows acells) (flagOf request) (b .R) cells rows nodes (b .standing .count) k n o (taken e .shows (b .standing .C) cells rows (b .standing .count) (b .standing .tree) (b .within)))
 
@@ -230,14 +231,14 @@ module _ (s : Settings) {cells rows nodes fields widths arows acells : List ℕ}
 
   module _ (first n : ℕ) (e : Projection first n ≡ nodeAt nodes k) where
     pub stop-after : mergeStep (s .house) (s .mask) (pendingItems l rows cells arows acells) (itemsAt rows cells first n) ≡ none
-        → {r′ : Results} {w : Walked} → PutAfter s cells rows nodes fields widths arows acells r r′ k l request u w → ListAfter s cells rows nodes fields widths arows acells r r′ k l request u w
+        → {r′ : Results} {w : Walked} → PutAfter s cells rows nodes fields widths keys arows acells r r′ k l request u w → ListAfter s cells rows nodes fields widths keys arows acells r r′ k l request u w
     stop-after q =
         over-after (λ b.
         subst⁻¹ (Over (mergeBy s) (b .standing .C) (pendingItems l rows cells arows acells) (flagOf request) (b .R)) (lower-plan (b .standing) k (b .within) first n e)
         (over-stop (mergeBy s) (b .standing .C) (pendingItems l rows cells arows acells) (flagOf request) (b .R) (itemsAt rows cells first n) q (planAt (lent cells rows nodes) (k + 1))))
 
     pub over-large : merge.Over (s .house) (s .mask) (pendingItems l rows cells arows acells) (itemsAt rows cells first n) → {w : Walked} → w .end ≡ Large → {r′ : Results}
-        → ListAfter s cells rows nodes fields widths arows acells r r′ k l request u w
+        → ListAfter s cells rows nodes fields widths keys arows acells r r′ k l request u w
     over-large o {w} q {r′} = record {
       is = λ b.
           rw q
@@ -248,11 +249,12 @@ module _ (s : Settings) {cells rows nodes fields widths arows acells : List ℕ}
     -- the list ks goes on down, standing as l′ says
     module _ (l′ : Pending) (arows′ acells′ : List ℕ) (q : mergeStep (s .house) (s .mask) (pendingItems l rows cells arows acells) (itemsAt rows cells first n) ≡ some (pendingItems l′ rows cells arows′ acells′))
         (top : l′ .top ≡ l .top) (ok : ListOk l′ rows cells arows′ acells′) where
-      abbrev pub down-before : BeforeList cells rows nodes fields widths arows acells r k l request u → BeforeList cells rows nodes fields widths arows′ acells′ r (k + 1) l′ request u
+      abbrev pub down-before : BeforeList cells rows nodes fields widths keys arows acells r k l request u → BeforeList cells rows nodes fields widths keys arows′ acells′ r (k + 1) l′ request u
       down-before b =
           let i = step (s .house) (s .mask) (pendingItems l rows cells arows acells) (itemsAt rows cells first n) (pendingItems l′ rows cells arows′ acells′) q in
           record {
             standing = b .standing;
+            keyed = b .keyed;
             within = lower-below (b .standing) k (b .within) first n e;
             ready = b .ready;
             list = ok;
@@ -264,8 +266,8 @@ module _ (s : Settings) {cells rows nodes fields widths arows acells : List ℕ}
             asks = b .asks;
           }
 
-      pub down-after : {r′ : Results} {w : Walked} → ListAfter s cells rows nodes fields widths arows′ acells′ r r′ (k + 1) l′ request u w
-          → ListAfter s cells rows nodes fields widths arows acells r r′ k l request u w
+      pub down-after : {r′ : Results} {w : Walked} → ListAfter s cells rows nodes fields widths keys arows′ acells′ r r′ (k + 1) l′ request u w
+          → ListAfter s cells rows nodes fields widths keys arows acells r r′ k l request u w
       down-after {r′} {w} x = record {
         is = λ b.
             subst⁻¹ (λ (v : rules.Walked). WalkIs (b .standing .C) (lent cells rows nodes) (b .standing .count) r r′ u v w)

@@ -12,6 +12,7 @@ use Rattle.cpl.specs.Lists.{Fit}
 use Rattle.cpl.specs.Plan.{Binary, Catalogue, Leaf, Pair, Plan, Unary, binary, leaf, unary}
 use Rattle.cpl.specs.ReadPlan.{Head}
 use Rattle.cpl.proofs.Lists.{Fit-length}
+use Rattle.rules.specs.Keys.{keyOf}
 use Rattle.rules.specs.Mask.{Mask}
 use Rattle.rules.specs.Merge.{Merge}
 use Rattle.rules.specs.Rules.{binaryKept, leafKept, leafRule, leftAsk, rightAsk}
@@ -51,7 +52,7 @@ pub record Wanted (C : Catalogue) (a : Arrays) (count k : ℕ) (j : Job) (t : To
   pub asked : InputsAsked C a count k j Q P t
 
 module _ (C : Catalogue) (a : Arrays) (count k : ℕ) (node : Node) (b : Bool) (R : Mask) (j : Job) where
-  one-wanted : (x : Unary) {topped : Bool} {f : Plan → Plan} → k + 1 < count → (i : InputIs C x (fieldsOf C (planAt a (k + 1))) b R topped f j) → InputAsked C a count (k + 1) (j .ask) (i .Q)
+  one-wanted : (x : Unary) {topped : Bool} {f : Plan → Plan} → k + 1 < count → (i : InputIs C x (keyOf C (planAt a (k + 1))) (fieldsOf C (planAt a (k + 1))) b R topped f j) → InputAsked C a count (k + 1) (j .ask) (i .Q)
   one-wanted x l i = record { within = l; fit = i .fit; asks = i .asks }
 
   abbrev pub wanted : (t : Todo) → AtNode C a count k node b R j t → Wanted C a count k j t
@@ -126,7 +127,7 @@ module _ (M : Merge) (C : Catalogue) (a : Arrays) (count : ℕ) (r : Results) (s
 
   module _ (fits : (f : Bool) (Q : Mask) → Fit Q (fieldsOf C (planAt a (k + 1))) → Fit (walk M C (planAt a (k + 1)) none f Q .kept) (fieldsOf C (planAt a (k + 1)))) where
     -- the fields that are left
-    left-asks : (h : Unary) {topped : Bool} {node : Plan → Plan} (x : InputIs C h (fieldsOf C (planAt a (k + 1))) b R topped node j) → KeptOf j (i .kept) (w .kept)
+    left-asks : (h : Unary) {topped : Bool} {node : Plan → Plan} (x : InputIs C h (keyOf C (planAt a (k + 1))) (fieldsOf C (planAt a (k + 1))) b R topped node j) → KeptOf j (i .kept) (w .kept)
         → Asks (i .kept) (inputWalk M C (planAt a (k + 1)) (flagOf (j .ask)) topped (x .Q) .kept) → Asks (w .kept) (x .left (inputWalk M C (planAt a (k + 1)) (flagOf (j .ask)) topped (x .Q) .kept))
     left-asks h {topped} x d e =
         d .asks (fieldsOf C (planAt a (k + 1))) (x .left) (inputWalk M C (planAt a (k + 1)) (flagOf (j .ask)) topped (x .Q) .kept) (x .rest)
@@ -209,21 +210,21 @@ module _ (M : Merge) (C : Catalogue) (a : Arrays) (count : ℕ) (r : Results) (s
 
 -- ── as the walk's functions say it ──────────────────────────────────────────────────────────
 
-module _ {cells rows nodes fields widths : List ℕ} {r : Results} {k : ℕ} {request : RequiredIndices} {u : Used} {node : Node} (is : node ≡ nodeAt nodes k) (o : Other node) where
-  abbrev pub other-asked : Before cells rows nodes fields widths r k request u → Asked cells rows fields widths node k request
-  other-asked b = record { nodes = nodes; standing = b .standing; within = b .within; is = is; other = o; R = b .R; fit = b .fit; asks = b .asks }
+module _ {cells rows nodes fields widths keys : List ℕ} {r : Results} {k : ℕ} {request : RequiredIndices} {u : Used} {node : Node} (is : node ≡ nodeAt nodes k) (o : Other node) where
+  abbrev pub other-asked : Before cells rows nodes fields widths keys r k request u → Asked cells rows fields widths keys node k request
+  other-asked b = record { nodes = nodes; standing = b .standing; keyed = b .keyed; within = b .within; is = is; other = o; R = b .R; fit = b .fit; asks = b .asks }
 
-  module _ {j : Job} (q : JobAt cells rows fields widths node k request j) where
-    abbrev pub inputs-before : Before cells rows nodes fields widths r k request u → BeforeInputs cells rows nodes fields widths r k j u
+  module _ {j : Job} (q : JobAt cells rows fields widths keys node k request j) where
+    abbrev pub inputs-before : Before cells rows nodes fields widths keys r k request u → BeforeInputs cells rows nodes fields widths keys r k j u
     inputs-before b =
         let x = wanted (b .standing .C) (lent cells rows nodes) (b .standing .count) k node (flagOf request) (b .R) j (j .todo) (q .is (other-asked b)) in
-        record { standing = b .standing; within = b .within; ready = b .ready; Q = x .Q; P = x .P; asked = x .asked }
+        record { standing = b .standing; keyed = b .keyed; within = b .within; ready = b .ready; Q = x .Q; P = x .P; asked = x .asked }
 
-    pub inputs-left : Before cells rows nodes fields widths r k request u → LeftFor j (j .todo)
+    pub inputs-left : Before cells rows nodes fields widths keys r k request u → LeftFor j (j .todo)
     inputs-left b = left (b .standing .C) (lent cells rows nodes) (b .standing .count) k node (flagOf request) (b .R) j (j .todo) (q .is (other-asked b))
 
-    pub node-after : {s : Settings} {sr items icells : List ℕ} {i : Inputs} → InputsAfter s cells rows nodes fields widths r (results sr items icells) k j u i → {sr′ : List ℕ} (w : Walked)
-        → NodePut sr sr′ k j i w (i .end) (j .todo) → After s cells rows nodes fields widths r (results sr′ items icells) k request u w
+    pub node-after : {s : Settings} {sr items icells : List ℕ} {i : Inputs} → InputsAfter s cells rows nodes fields widths keys r (results sr items icells) k j u i → {sr′ : List ℕ} (w : Walked)
+        → NodePut sr sr′ k j i w (i .end) (j .todo) → After s cells rows nodes fields widths keys r (results sr′ items icells) k request u w
     node-after {s} {sr} {items} {icells} {i} x {sr′} w d = record {
       is = λ b.
           at-node (mergeBy s) (b .standing .C) (lent cells rows nodes) (b .standing .count) r sr items icells u k (b .within) node is (flagOf request) (b .R) j i w sr′ (b .ready)

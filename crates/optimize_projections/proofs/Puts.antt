@@ -10,6 +10,7 @@ use lib.ListN.{length}
 use Rattle.cpl.specs.Exprs.{planNodes, planTags}
 use Rattle.cpl.specs.Fields.{fieldsOf}
 use Rattle.cpl.specs.Plan.{Binary, Catalogue, Leaf, Plan, Unary, projection, filter, sort, limit, aggregate, window, subqueryAlias, distinct, leaf, unary, binary}
+use Rattle.rules.specs.Keys.{keyOf}
 use Rattle.rules.specs.Mask.{Mask}
 use Rattle.rules.specs.Merge.{Merge}
 use Rattle.rules.specs.Rules as rules
@@ -73,7 +74,7 @@ module _ (M : Merge) (C : Catalogue) where
   unfolding walk pend leafWalk
   leaf-walk h b R = refl
 
-  pub node-walk : (h : Unary) → NoProjection h → (p : Plan) (b : Bool) (R : Mask) → walk M C (unary h p) none b R ≡ runJob C (fieldsOf C p) (unaryJob C h (fieldsOf C p) b R) (walk M C p none)
+  pub node-walk : (h : Unary) → NoProjection h → (p : Plan) (b : Bool) (R : Mask) → walk M C (unary h p) none b R ≡ runJob C (fieldsOf C p) (unaryJob C h (keyOf C p) (fieldsOf C p) b R) (walk M C p none)
   unfolding walk unaryWalk nodeWalk pend
   node-walk (projection is) o p b R = absurd o
   node-walk (filter e) o p b R = refl
@@ -86,12 +87,12 @@ module _ (M : Merge) (C : Catalogue) where
 
   -- a job that asks the input
   pub ask-walk : (h : Unary) → NoProjection h → (p : Plan) (b : Bool) (R : Mask) {f : Bool} {Q : Mask} {topped : Bool} {node : Plan → Plan} {left : Mask → Mask}
-      → unaryJob C h (fieldsOf C p) b R ≡ rules.ask f Q topped node left
+      → unaryJob C h (keyOf C p) (fieldsOf C p) b R ≡ rules.ask f Q topped node left
       → walk M C (unary h p) none b R ≡ record { plan = node (inputWalk M C p f topped Q .plan); kept = left (inputWalk M C p f topped Q .kept); overlong = inputWalk M C p f topped Q .overlong }
   unfolding runJob
   ask-walk h o p b R e = node-walk h o p b R ∙ ap (λ (j : Job). runJob C (fieldsOf C p) j (walk M C p none)) e
 
-  pub done-walk : (h : Unary) → NoProjection h → (p : Plan) (b : Bool) (R : Mask) {q : Plan} {K : Mask} → unaryJob C h (fieldsOf C p) b R ≡ rules.done q K
+  pub done-walk : (h : Unary) → NoProjection h → (p : Plan) (b : Bool) (R : Mask) {q : Plan} {K : Mask} → unaryJob C h (keyOf C p) (fieldsOf C p) b R ≡ rules.done q K
       → walk M C (unary h p) none b R ≡ record { plan = q; kept = K; overlong = false }
   unfolding runJob
   done-walk h o p b R e = node-walk h o p b R ∙ ap (λ (j : Job). runJob C (fieldsOf C p) j (walk M C p none)) e

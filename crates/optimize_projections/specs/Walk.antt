@@ -22,6 +22,7 @@ use Rattle.tree.specs.Tree.{Arrays, lent, planAt}
 use Rattle.lookup.specs.Standing.{Standing}
 use Rattle.result.specs.Result.{Results, recordN, resultAt}
 use Rattle.result.specs.Records.{Grown, WfResults}
+use Rattle.jobs.specs.Asked.{AllKeys}
 use Rattle.jobs.specs.declared.Job.{Job}
 use Rattle.jobs.specs.declared.Todo.{Todo}
 use Rattle.jobs.specs.declared.Todo.the-variants as todos
@@ -82,8 +83,9 @@ WalkIs C a count r r′ u w v = EndIs C a count r r′ u w (v .kept) (v .end)
 
 -- ── a node, asked for R ─────────────────────────────────────────────────────────────────────
 
-pub record Before (cells rows nodes fields widths : List ℕ) (r : Results) (k : ℕ) (request : RequiredIndices) (u : Used) : Type 0 where
+pub record Before (cells rows nodes fields widths keys : List ℕ) (r : Results) (k : ℕ) (request : RequiredIndices) (u : Used) : Type 0 where
   pub standing : Standing cells rows nodes fields widths
+  pub keyed : AllKeys standing keys
   pub within : k < standing .count
   pub ready : Ready (standing .C) (lent cells rows nodes) (standing .count) r u
   pub R : Mask
@@ -91,8 +93,8 @@ pub record Before (cells rows nodes fields widths : List ℕ) (r : Results) (k :
   pub asks : Asks request R
 
 -- as the rules say of the plan at node k
-pub record After (s : Settings) (cells rows nodes fields widths : List ℕ) (r r′ : Results) (k : ℕ) (request : RequiredIndices) (u : Used) (w : Walked) : Type 0 where
-  pub is : (b : Before cells rows nodes fields widths r k request u)
+pub record After (s : Settings) (cells rows nodes fields widths keys : List ℕ) (r r′ : Results) (k : ℕ) (request : RequiredIndices) (u : Used) (w : Walked) : Type 0 where
+  pub is : (b : Before cells rows nodes fields widths keys r k request u)
       → WalkIs (b .standing .C) (lent cells rows nodes) (b .standing .count) r r′ u
       (walk (mergeBy s) (b .standing .C) (planAt (lent cells rows nodes) k) none (flagOf request) (b .R)) w
 
@@ -103,15 +105,16 @@ inputWalk M C p b topped R =
     let w = walk M C p none b R in
     record { plan = input C (fieldsOf C p) topped R (w .plan); kept = cond topped R (w .kept); overlong = w .overlong }
 
-pub record InputAfter (s : Settings) (cells rows nodes fields widths : List ℕ) (r r′ : Results) (k : ℕ) (request : RequiredIndices) (topped : Bool) (u : Used) (w : Walked) : Type 0 where
-  pub is : (b : Before cells rows nodes fields widths r k request u)
+pub record InputAfter (s : Settings) (cells rows nodes fields widths keys : List ℕ) (r r′ : Results) (k : ℕ) (request : RequiredIndices) (topped : Bool) (u : Used) (w : Walked) : Type 0 where
+  pub is : (b : Before cells rows nodes fields widths keys r k request u)
       → WalkIs (b .standing .C) (lent cells rows nodes) (b .standing .count) r r′ u
       (inputWalk (mergeBy s) (b .standing .C) (planAt (lent cells rows nodes) k) (flagOf request) topped (b .R)) w
 
 -- ── a node with a projection still to be put on top, asked for R ────────────────────────────
 
-pub record BeforeList (cells rows nodes fields widths arows acells : List ℕ) (r : Results) (k : ℕ) (l : Pending) (request : RequiredIndices) (u : Used) : Type 0 where
+pub record BeforeList (cells rows nodes fields widths keys arows acells : List ℕ) (r : Results) (k : ℕ) (l : Pending) (request : RequiredIndices) (u : Used) : Type 0 where
   pub standing : Standing cells rows nodes fields widths
+  pub keyed : AllKeys standing keys
   pub within : k < standing .count
   pub ready : Ready (standing .C) (lent cells rows nodes) (standing .count) r u
   pub list : ListOk l rows cells arows acells
@@ -122,14 +125,14 @@ pub record BeforeList (cells rows nodes fields widths arows acells : List ℕ) (
   pub fit : Fit R (pendingItems l rows cells arows acells)
   pub asks : Asks request R
 
-pub record ListAfter (s : Settings) (cells rows nodes fields widths arows acells : List ℕ) (r r′ : Results) (k : ℕ) (l : Pending) (request : RequiredIndices) (u : Used) (w : Walked) : Type 0 where
-  pub is : (b : BeforeList cells rows nodes fields widths arows acells r k l request u)
+pub record ListAfter (s : Settings) (cells rows nodes fields widths keys arows acells : List ℕ) (r r′ : Results) (k : ℕ) (l : Pending) (request : RequiredIndices) (u : Used) (w : Walked) : Type 0 where
+  pub is : (b : BeforeList cells rows nodes fields widths keys arows acells r k l request u)
       → WalkIs (b .standing .C) (lent cells rows nodes) (b .standing .count) r r′ u
       (walk (mergeBy s) (b .standing .C) (planAt (lent cells rows nodes) k) (some (pendingItems l rows cells arows acells)) (flagOf request) (b .R)) w
 
 -- put over node k as it is: no step of merging applies
-pub record PutAfter (s : Settings) (cells rows nodes fields widths arows acells : List ℕ) (r r′ : Results) (k : ℕ) (l : Pending) (request : RequiredIndices) (u : Used) (w : Walked) : Type 0 where
-  pub is : (b : BeforeList cells rows nodes fields widths arows acells r k l request u)
+pub record PutAfter (s : Settings) (cells rows nodes fields widths keys arows acells : List ℕ) (r r′ : Results) (k : ℕ) (l : Pending) (request : RequiredIndices) (u : Used) (w : Walked) : Type 0 where
+  pub is : (b : BeforeList cells rows nodes fields widths keys arows acells r k l request u)
       → WalkIs (b .standing .C) (lent cells rows nodes) (b .standing .count) r r′ u
       (rules.pend (b .standing .C) (some (pendingItems l rows cells arows acells)) (fieldsOf (b .standing .C) (planAt (lent cells rows nodes) k))
       (walk (mergeBy s) (b .standing .C) (planAt (lent cells rows nodes) k) none) (flagOf request) (b .R)) w
@@ -149,8 +152,9 @@ InputsAsked C a count k j Q P todos.Same = InputAsked C a count (k + 1) (j .ask)
 InputsAsked C a count k j Q P (todos.One topped) = InputAsked C a count (k + 1) (j .ask) Q
 InputsAsked C a count k j Q P (todos.Two right) = InputAsked C a count (k + 1) (j .ask) Q × InputAsked C a count right (j .second) P × (k < right)
 
-pub record BeforeInputs (cells rows nodes fields widths : List ℕ) (r : Results) (k : ℕ) (j : Job) (u : Used) : Type 0 where
+pub record BeforeInputs (cells rows nodes fields widths keys : List ℕ) (r : Results) (k : ℕ) (j : Job) (u : Used) : Type 0 where
   pub standing : Standing cells rows nodes fields widths
+  pub keyed : AllKeys standing keys
   pub within : k < standing .count
   pub ready : Ready (standing .C) (lent cells rows nodes) (standing .count) r u
   pub Q : Mask
@@ -193,6 +197,6 @@ InputsIs M C a count r r′ u k j Q P i (todos.One topped) = EndIs C a count r r
 InputsIs M C a count r r′ u k j Q P i (todos.Two right) =
     TwoIs C a count r r′ u (inputWalk M C (planAt a (k + 1)) (flagOf (j .ask)) true Q) (inputWalk M C (planAt a right) (flagOf (j .second)) true P) (i .end)
 
-pub record InputsAfter (s : Settings) (cells rows nodes fields widths : List ℕ) (r r′ : Results) (k : ℕ) (j : Job) (u : Used) (i : Inputs) : Type 0 where
-  pub is : (b : BeforeInputs cells rows nodes fields widths r k j u)
+pub record InputsAfter (s : Settings) (cells rows nodes fields widths keys : List ℕ) (r r′ : Results) (k : ℕ) (j : Job) (u : Used) (i : Inputs) : Type 0 where
+  pub is : (b : BeforeInputs cells rows nodes fields widths keys r k j u)
       → InputsIs (mergeBy s) (b .standing .C) (lent cells rows nodes) (b .standing .count) r r′ u k j (b .Q) (b .P) i (j .todo)

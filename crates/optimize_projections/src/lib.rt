@@ -2,7 +2,8 @@
 //!
 //! One function for a node, one for its inputs, calling each other downwards. A projection on its way down is a pending list (`Pending` of crate
 //! `walk_steps`): a step of merging reads it in the file's rows or in the first scratch arrays and writes the merged list into the second, and the two
-//! change places on the call. The old plan is read only; the rewritten plan grows behind what is in use of the result's arrays.
+//! change places on the call. The old plan is read only, with the keys of its nodes in the slots of `keys`; the rewritten plan grows behind what is in
+//! use of the result's arrays.
 ghost use mathlib.Core.Path.{_≡_};
 ghost use Rattle.result.specs.Records.{results};
 ghost use Rattle.walk_steps.specs.Steps.{Scratch};
@@ -92,6 +93,7 @@ pub fn optimize_projections(
     nodes: &[u64],
     fields: &[u16],
     widths: &[u64],
+    keys: &[u64],
     settings: Settings,
     k: usize,
     request: RequiredIndices,
@@ -104,10 +106,10 @@ pub fn optimize_projections(
     icells: &mut [u64],
     used: Used,
 ) -> Walked
-    requires { ⌜ Before (now cells) (now rows) (now nodes) (now fields) (now widths) (results (now records) (now items) (now icells)) k request used ⌝ }
+    requires { ⌜ Before (now cells) (now rows) (now nodes) (now fields) (now widths) (now keys) (results (now records) (now items) (now icells)) k request used ⌝ }
     requires { ⌜ Scratch (now arows) (now acells) ⌝ }
     requires { ⌜ Scratch (now brows) (now bcells) ⌝ }
-    ensures { λ w. ⌜ After settings (now (cells .entry)) (now (rows .entry)) (now (nodes .entry)) (now (fields .entry)) (now (widths .entry)) (results (now (records .entry)) (now (items .entry)) (now (icells .entry))) (results (now (records .exit)) (now (items .exit)) (now (icells .exit))) k request used w ⌝ }
+    ensures { λ w. ⌜ After settings (now (cells .entry)) (now (rows .entry)) (now (nodes .entry)) (now (fields .entry)) (now (widths .entry)) (now (keys .entry)) (results (now (records .entry)) (now (items .entry)) (now (icells .entry))) (results (now (records .exit)) (now (items .exit)) (now (icells .exit))) k request used w ⌝ }
 {
     let node = tree::node_at(nodes, k);
     let kind = jobs::kind_of(node);
@@ -125,6 +127,7 @@ pub fn optimize_projections(
                 nodes,
                 fields,
                 widths,
+                keys,
                 settings,
                 k + 1,
                 list,
@@ -140,13 +143,14 @@ pub fn optimize_projections(
             )
         }
         Kind::Other => {
-            let job = jobs::job_at(node, k, request, cells, rows, fields, widths);
+            let job = jobs::job_at(node, k, request, cells, rows, fields, widths, keys);
             let inputs = optimize_inputs(
                 cells,
                 rows,
                 nodes,
                 fields,
                 widths,
+                keys,
                 settings,
                 k,
                 job,
@@ -171,6 +175,7 @@ pub fn optimize_inputs(
     nodes: &[u64],
     fields: &[u16],
     widths: &[u64],
+    keys: &[u64],
     settings: Settings,
     k: usize,
     job: Job,
@@ -183,10 +188,10 @@ pub fn optimize_inputs(
     icells: &mut [u64],
     used: Used,
 ) -> Inputs
-    requires { ⌜ BeforeInputs (now cells) (now rows) (now nodes) (now fields) (now widths) (results (now records) (now items) (now icells)) k job used ⌝ }
+    requires { ⌜ BeforeInputs (now cells) (now rows) (now nodes) (now fields) (now widths) (now keys) (results (now records) (now items) (now icells)) k job used ⌝ }
     requires { ⌜ Scratch (now arows) (now acells) ⌝ }
     requires { ⌜ Scratch (now brows) (now bcells) ⌝ }
-    ensures { λ i. ⌜ InputsAfter settings (now (cells .entry)) (now (rows .entry)) (now (nodes .entry)) (now (fields .entry)) (now (widths .entry)) (results (now (records .entry)) (now (items .entry)) (now (icells .entry))) (results (now (records .exit)) (now (items .exit)) (now (icells .exit))) k job used i ⌝ }
+    ensures { λ i. ⌜ InputsAfter settings (now (cells .entry)) (now (rows .entry)) (now (nodes .entry)) (now (fields .entry)) (now (widths .entry)) (now (keys .entry)) (results (now (records .entry)) (now (items .entry)) (now (icells .entry))) (results (now (records .exit)) (now (items .exit)) (now (icells .exit))) k job used i ⌝ }
 {
     let todo = job.todo;
     let ask = job.ask;
@@ -199,6 +204,7 @@ pub fn optimize_inputs(
             nodes,
             fields,
             widths,
+            keys,
             settings,
             k + 1,
             ask,
@@ -218,6 +224,7 @@ pub fn optimize_inputs(
             nodes,
             fields,
             widths,
+            keys,
             settings,
             k + 1,
             ask,
@@ -238,6 +245,7 @@ pub fn optimize_inputs(
                 nodes,
                 fields,
                 widths,
+                keys,
                 settings,
                 k + 1,
                 ask,
@@ -266,6 +274,7 @@ pub fn optimize_inputs(
                 nodes,
                 fields,
                 widths,
+                keys,
                 settings,
                 right,
                 other,
@@ -291,6 +300,7 @@ pub fn optimize_input(
     nodes: &[u64],
     fields: &[u16],
     widths: &[u64],
+    keys: &[u64],
     settings: Settings,
     k: usize,
     ask: RequiredIndices,
@@ -304,10 +314,10 @@ pub fn optimize_input(
     icells: &mut [u64],
     used: Used,
 ) -> Walked
-    requires { ⌜ Before (now cells) (now rows) (now nodes) (now fields) (now widths) (results (now records) (now items) (now icells)) k ask used ⌝ }
+    requires { ⌜ Before (now cells) (now rows) (now nodes) (now fields) (now widths) (now keys) (results (now records) (now items) (now icells)) k ask used ⌝ }
     requires { ⌜ Scratch (now arows) (now acells) ⌝ }
     requires { ⌜ Scratch (now brows) (now bcells) ⌝ }
-    ensures { λ w. ⌜ InputAfter settings (now (cells .entry)) (now (rows .entry)) (now (nodes .entry)) (now (fields .entry)) (now (widths .entry)) (results (now (records .entry)) (now (items .entry)) (now (icells .entry))) (results (now (records .exit)) (now (items .exit)) (now (icells .exit))) k ask topped used w ⌝ }
+    ensures { λ w. ⌜ InputAfter settings (now (cells .entry)) (now (rows .entry)) (now (nodes .entry)) (now (fields .entry)) (now (widths .entry)) (now (keys .entry)) (results (now (records .entry)) (now (items .entry)) (now (icells .entry))) (results (now (records .exit)) (now (items .exit)) (now (icells .exit))) k ask topped used w ⌝ }
 {
     let w = optimize_projections(
         cells,
@@ -315,6 +325,7 @@ pub fn optimize_input(
         nodes,
         fields,
         widths,
+        keys,
         settings,
         k,
         ask,
@@ -338,6 +349,7 @@ pub fn merge_projections(
     nodes: &[u64],
     fields: &[u16],
     widths: &[u64],
+    keys: &[u64],
     settings: Settings,
     k: usize,
     list: Pending,
@@ -351,10 +363,10 @@ pub fn merge_projections(
     icells: &mut [u64],
     used: Used,
 ) -> Walked
-    requires { ⌜ BeforeList (now cells) (now rows) (now nodes) (now fields) (now widths) (now arows) (now acells) (results (now records) (now items) (now icells)) k list request used ⌝ }
+    requires { ⌜ BeforeList (now cells) (now rows) (now nodes) (now fields) (now widths) (now keys) (now arows) (now acells) (results (now records) (now items) (now icells)) k list request used ⌝ }
     requires { ⌜ Scratch (now arows) (now acells) ⌝ }
     requires { ⌜ Scratch (now brows) (now bcells) ⌝ }
-    ensures { λ w. ⌜ ListAfter settings (now (cells .entry)) (now (rows .entry)) (now (nodes .entry)) (now (fields .entry)) (now (widths .entry)) (now (arows .entry)) (now (acells .entry)) (results (now (records .entry)) (now (items .entry)) (now (icells .entry))) (results (now (records .exit)) (now (items .exit)) (now (icells .exit))) k list request used w ⌝ }
+    ensures { λ w. ⌜ ListAfter settings (now (cells .entry)) (now (rows .entry)) (now (nodes .entry)) (now (fields .entry)) (now (widths .entry)) (now (keys .entry)) (now (arows .entry)) (now (acells .entry)) (results (now (records .entry)) (now (items .entry)) (now (icells .entry))) (results (now (records .exit)) (now (items .exit)) (now (icells .exit))) k list request used w ⌝ }
 {
     let node = tree::node_at(nodes, k);
     let kind = jobs::kind_of(node);
@@ -365,6 +377,7 @@ pub fn merge_projections(
             nodes,
             fields,
             widths,
+            keys,
             settings,
             k,
             list,
@@ -399,6 +412,7 @@ pub fn merge_projections(
             nodes,
             fields,
             widths,
+            keys,
             settings,
             k + 1,
             list,
@@ -425,6 +439,7 @@ pub fn merge_projections(
                 nodes,
                 fields,
                 widths,
+                keys,
                 settings,
                 k + 1,
                 merged,
@@ -445,6 +460,7 @@ pub fn merge_projections(
             nodes,
             fields,
             widths,
+            keys,
             settings,
             k,
             list,
@@ -473,6 +489,7 @@ pub fn rewrite_projection_given_requirements(
     nodes: &[u64],
     fields: &[u16],
     widths: &[u64],
+    keys: &[u64],
     settings: Settings,
     k: usize,
     list: Pending,
@@ -486,10 +503,10 @@ pub fn rewrite_projection_given_requirements(
     icells: &mut [u64],
     used: Used,
 ) -> Walked
-    requires { ⌜ BeforeList (now cells) (now rows) (now nodes) (now fields) (now widths) (now arows) (now acells) (results (now records) (now items) (now icells)) k list request used ⌝ }
+    requires { ⌜ BeforeList (now cells) (now rows) (now nodes) (now fields) (now widths) (now keys) (now arows) (now acells) (results (now records) (now items) (now icells)) k list request used ⌝ }
     requires { ⌜ Scratch (now arows) (now acells) ⌝ }
     requires { ⌜ Scratch (now brows) (now bcells) ⌝ }
-    ensures { λ w. ⌜ PutAfter settings (now (cells .entry)) (now (rows .entry)) (now (nodes .entry)) (now (fields .entry)) (now (widths .entry)) (now (arows .entry)) (now (acells .entry)) (results (now (records .entry)) (now (items .entry)) (now (icells .entry))) (results (now (records .exit)) (now (items .exit)) (now (icells .exit))) k list request used w ⌝ }
+    ensures { λ w. ⌜ PutAfter settings (now (cells .entry)) (now (rows .entry)) (now (nodes .entry)) (now (fields .entry)) (now (widths .entry)) (now (keys .entry)) (now (arows .entry)) (now (acells .entry)) (results (now (records .entry)) (now (items .entry)) (now (icells .entry))) (results (now (records .exit)) (now (items .exit)) (now (icells .exit))) k list request used w ⌝ }
 {
     let start = lookup::first_at(widths, k);
     let width = lookup::width_at(widths, k);
@@ -522,6 +539,7 @@ pub fn rewrite_projection_given_requirements(
         nodes,
         fields,
         widths,
+        keys,
         settings,
         k,
         ask,

@@ -25,6 +25,7 @@ use Rattle.versions.specs.Versions.{versionOf}
 use Rattle.versions.specs.declared.Version.{Version}
 use Rattle.required_indices.specs.Request.{flagOf}
 use Rattle.tree.specs.Tree.{lent, planAt}
+use Rattle.node_keys.specs.Keys.{KeysFound}
 use Rattle.result.specs.Records.{results}
 use Rattle.result.specs.Result.{resultAt}
 use Rattle.intake.specs.Intake.{IntakeIs, Taken}
@@ -149,38 +150,39 @@ module _ {file : List ℕ} {version : Version} {start : ℕ} {cells rows nodes f
 
 -- ── from the intake to the walk ─────────────────────────────────────────────────────────────
 
-module _ {file : List ℕ} {request : ℕ → List ℕ} {cells rows nodes fields widths : List ℕ} {t : Intake} where
+module _ {file : List ℕ} {request : ℕ → List ℕ} {cells rows nodes fields widths keys : List ℕ} {t : Intake} where
   -- what the walk makes of the root
-  abbrev pub rooted : Settings → Taken file request cells rows nodes fields widths t → Walked
+  abbrev pub rooted : Settings → Taken file request cells rows nodes fields widths keys t → Walked
   rooted s q = walk (mergeBy s) (q .plan .C) (planAt (lent cells rows nodes) 0) none (flagOf (t .set)) (asked q)
 
-  as-ruled : {s : Settings} (mode mask : ℕ) → s .house ≡ eqb mode 1 → s .mask ≡ mask → (q : Taken file request cells rows nodes fields widths t)
+  as-ruled : {s : Settings} (mode mask : ℕ) → s .house ≡ eqb mode 1 → s .mask ≡ mask → (q : Taken file request cells rows nodes fields widths keys t)
       → rooted s q ≡ rewrite (mergeOf mode mask) (q .plan .C) (planAt (lent cells rows nodes) 0) (asked q)
   unfolding mergeOf
   as-ruled mode mask e f q = rw (e, f, q .flag) refl
 
   -- nothing was refused
-  by-code : (code : ℕ) → code ≤ 0 → IntakeIs file request cells rows nodes fields widths t code → Taken file request cells rows nodes fields widths t
+  by-code : (code : ℕ) → code ≤ 0 → IntakeIs file request cells rows nodes fields widths keys t code → Taken file request cells rows nodes fields widths keys t
   by-code zero z i = i
   by-code (suc c) z i = absurd (omega arith)
 
-  pub taken-in : t .code ≤ 0 → IntakeIs file request cells rows nodes fields widths t (t .code) → Taken file request cells rows nodes fields widths t
+  pub taken-in : t .code ≤ 0 → IntakeIs file request cells rows nodes fields widths keys t (t .code) → Taken file request cells rows nodes fields widths keys t
   taken-in z i = by-code (t .code) z i
 
   -- what the walk leaves is handed on
-  abbrev pub handed-on : {s : Settings} {records items icells records′ items′ icells′ : List ℕ} {w : walks.Walked} → AreBytes file
-      → (q : Taken file request cells rows nodes fields widths t)
+  abbrev pub handed-on : {s : Settings} {keys′ records items icells records′ items′ icells′ : List ℕ} {w : walks.Walked} → AreBytes file
+      → (q : Taken file request cells rows nodes fields widths keys t)
+      → 2448 ≤ length keys → KeysFound cells rows nodes fields widths (t .count) keys keys′
       → length records ≡ 3328 → length items ≡ 16896 → length icells ≡ 12288 → length records′ ≡ 3328
-      → After s cells rows nodes fields widths (results records items icells) (results records′ items′ icells′) 0 (t .set) nothingUsed w
+      → After s cells rows nodes fields widths keys′ (results records items icells) (results records′ items′ icells′) 0 (t .set) nothingUsed w
       → Rewritten (t .version) file (t .start) cells rows nodes fields widths records′ items′ icells′ (w .end)
-  handed-on {s} {records} {items} {icells} {w = w} b q lr li lc m a = record {
+  handed-on {s} {records = records} {items} {icells} {w = w} b q lk f lr li lc m a = record {
     standing = taken-stands q;
     version-is = q .plan .version-is;
     heads = taken-heads b q;
     walked = rooted s q;
     kept = w .kept;
     before = results records items icells;
-    ends = a .is (walk-starts q lr li lc);
+    ends = a .is (walk-starts q lk f lr li lc);
     room = m;
   }
 
@@ -201,22 +203,22 @@ module _ (mode mask : ℕ) (file : List ℕ) (request : ℕ → List ℕ) where
     unfolding reply verdict settingsOk
     judged-answer out = rw (le-leb mode 1 k, le-leb mask 4095 l) refl
 
-    module _ (cells rows nodes fields widths : List ℕ) (t : Intake) where
-      refused-in : (code : ℕ) → 0 < code → IntakeIs file request cells rows nodes fields widths t code
+    module _ (cells rows nodes fields widths keys : List ℕ) (t : Intake) where
+      refused-in : (code : ℕ) → 0 < code → IntakeIs file request cells rows nodes fields widths keys t code
           → judged (mergeOf mode mask) request (readFile file) ≡ refused code (t .place)
       refused-in zero z i = absurd (omega arith)
       refused-in (suc c) z i = i (mergeOf mode mask)
 
       -- refused while the file is read, at a node or for its request: "2 MARK" to "11 REQUEST"
-      pub refused-early : {r : Answer} (out : List ℕ) → 0 < t .code → IntakeIs file request cells rows nodes fields widths t (t .code)
+      pub refused-early : {r : Answer} (out : List ℕ) → 0 < t .code → IntakeIs file request cells rows nodes fields widths keys t (t .code)
           → Refuses r (t .code) (t .place) → AnswerIs (reply mode mask file request out) r out
       unfolding deliver
       refused-early {r} out z i h =
           subst⁻¹ (λ a. AnswerIs a r out) (judged-answer out ∙ ap (λ v. deliver v out) (refused-in (t .code) z i)) (refuses out h)
 
     -- what the walk left is delivered
-    module _ {cells rows nodes fields widths : List ℕ} {t : Intake} where
-      pub answered : {s : Settings} {r : Answer} {out′ : List ℕ} (out : List ℕ) (q : Taken file request cells rows nodes fields widths t)
+    module _ {cells rows nodes fields widths keys : List ℕ} {t : Intake} where
+      pub answered : {s : Settings} {r : Answer} {out′ : List ℕ} (out : List ℕ) (q : Taken file request cells rows nodes fields widths keys t)
           → s .house ≡ eqb mode 1 → s .mask ≡ mask → AnswerIs (deliver (finish (q .plan .C) (rooted s q)) out) r out′
           → AnswerIs (reply mode mask file request out) r out′
       unfolding mergeOf

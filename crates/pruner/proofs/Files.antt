@@ -42,6 +42,6 @@ module _ (file : List ℕ) (bytes : AreBytes file) (C : Catalogue) (p : Plan) {s
   heads = record { inside = stood-inside stood; bytes-are = λ p′. ap (λ xs. xs ++ planBytes (C .version) p′) first-bytes ∙ sym (head-bytes C p′) }
 
 -- of a file that was taken in
-pub taken-heads : {file : List ℕ} {request : ℕ → List ℕ} {cells rows nodes fields widths : List ℕ} {r : Intake} → AreBytes file
-    → (t : Taken file request cells rows nodes fields widths r) → Heads file (r .start) (t .plan .C)
+pub taken-heads : {file : List ℕ} {request : ℕ → List ℕ} {cells rows nodes fields widths keys : List ℕ} {r : Intake} → AreBytes file
+    → (t : Taken file request cells rows nodes fields widths keys r) → Heads file (r .start) (t .plan .C)
 taken-heads {file} b t = heads file b (t .plan .C) _ (t .plan .starts-at) (t .plan .reads)

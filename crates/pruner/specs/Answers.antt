@@ -1,18 +1,20 @@
 -- What the entries promise of their answers, and the plan as it is handed on from step to step.
 use mathlib.Core.Path.{_≡_}
-use mathlib.Core.List.{List, _++_}
+use mathlib.Core.Bool.{false}
+use mathlib.Core.List.{List, [], _++_}
 use Prim.Native.Nat.{ℕ, _*_, _≤_}
 use lib.Dec.{ltb}
 use lib.ListN.{length, take}
 use Rattle.cpl.specs.Bytes.{bytesOf, planBytes}
 use Rattle.cpl.specs.Codes.{LARGE}
-use Rattle.cpl.specs.Limits.{maxNodes, maxTags}
+use Rattle.cpl.specs.Limits.{maxNodes, maxTags, version2}
 use Rattle.cpl.specs.Plan.{Catalogue, Plan}
 use Rattle.cpl.specs.Read.{pick}
+use Rattle.cpl.specs.ReadPlan.{markBytes, starts}
 use Rattle.rules.specs.Answer as rules
 use Rattle.rules.specs.Rewrite as rewriting
 use Rattle.rules.specs.Success.{sourceOf}
-use Rattle.meaning.specs.Promise.{Promise}
+use Rattle.meaning.specs.Promise.{KeyedPromise, Promise}
 use Rattle.versions.specs.Versions.{versionOf}
 use Rattle.versions.specs.declared.Version.{Version}
 use Rattle.required_indices.specs.declared.RequiredIndices.{RequiredIndices}
@@ -24,9 +26,16 @@ use Rattle.walk_steps.specs.declared.End.{End}
 use Rattle.walk_steps.specs.declared.Used.{Used}
 use Rattle.optimize_projections.specs.Walk.{EndIs}
 
--- "Narrow": in house mode an answer of code 0 keeps the rows, of the very bytes
+-- "Narrow": the rows are kept, of the very bytes. Of any file, where the tables keep their keys; of a file that declares no key, and so of every
+-- version 1 file, whatever the tables hold.
+pub record Narrows (mask : ℕ) (file : List ℕ) (request : ℕ → List ℕ) (a : rules.Answer) : Type 0 where
+  pub keyed : KeyedPromise mask file request a
+  pub plain : keyed .plans .catalogue .keys ≡ [] → Promise mask file request a
+  pub version1 : starts (markBytes version2) file ≡ false → Promise mask file request a
+
+-- in house mode, of an answer of code 0
 abbrev pub Promised : (mode mask : ℕ) (file : List ℕ) (request : ℕ → List ℕ) (out : List ℕ) (code : ℕ) → Type 0
-Promised mode mask file request out code = mode ≡ 1 → code ≡ 0 → Promise mask file request (rules.reply mode mask file request out)
+Promised mode mask file request out code = mode ≡ 1 → code ≡ 0 → Narrows mask file request (rules.reply mode mask file request out)
 
 -- ── a rewritten plan on its way to the buffer ───────────────────────────────────────────────
 

@@ -140,6 +140,7 @@ fn prune_over(
     names: &mut [u16],
     fields: &mut [u16],
     widths: &mut [u64],
+    keys: &mut [u64],
     arows: &mut [u16],
     acells: &mut [u64],
     brows: &mut [u16],
@@ -148,7 +149,7 @@ fn prune_over(
     items: &mut [u16],
     icells: &mut [u64],
 ) -> Answer
-    requires { ⌜ Room (now file) (now cells) (now rows) (now nodes) (now names) (now fields) (now widths) ⌝ }
+    requires { ⌜ Room (now file) (now cells) (now rows) (now nodes) (now names) (now fields) (now widths) (now keys) ⌝ }
     requires { ⌜ ResultRoom (now arows) (now acells) (now brows) (now bcells) (now records) (now items) (now icells) ⌝ }
     ensures { λ r. ⌜ AnswerIs (rules.reply mode mask (now (file .entry)) (wanted all (now (request .entry))) (now (out .entry))) r (now (out .exit)) ⌝ }
     ensures { λ r. ⌜ Promised mode mask (now (file .entry)) (wanted all (now (request .entry))) (now (out .entry)) (r .code) ⌝ }
@@ -169,10 +170,12 @@ fn prune_over(
         names,
         fields,
         widths,
+        keys,
     );
     if t.code > 0 {
         return answers::refuse(t.code, t.place);
     }
+    node_keys::node_keys(cells, rows, nodes, t.count, fields, widths, keys);
     let settings = Settings {
         house: mode == 1,
         mask,
@@ -189,6 +192,7 @@ fn prune_over(
         nodes,
         fields,
         widths,
+        keys,
         settings,
         0,
         set,
@@ -233,6 +237,7 @@ pub fn prune_in(
     names: &mut [u16; 8208],
     fields: &mut [u16; 262144],
     widths: &mut [u64; 512],
+    keys: &mut [u64; 2448],
     arows: &mut [u16; 2048],
     acells: &mut [u64; 12288],
     brows: &mut [u16; 2048],
@@ -257,6 +262,7 @@ pub fn prune_in(
         names,
         fields,
         widths,
+        keys,
         arows,
         acells,
         brows,
@@ -291,6 +297,7 @@ fn prune_wide(
     let mut names = [0u16; 8208];
     let mut fields = [0u16; 262144];
     let mut widths = [0u64; 512];
+    let mut keys = [0u64; 2448];
     let mut arows = [0u16; 2048];
     let mut acells = [0u64; 12288];
     let mut brows = [0u16; 2048];
@@ -311,6 +318,7 @@ fn prune_wide(
         &mut names,
         &mut fields,
         &mut widths,
+        &mut keys,
         &mut arows,
         &mut acells,
         &mut brows,
@@ -340,6 +348,7 @@ fn prune_narrow(
     let mut names = [0u16; 8208];
     let mut fields = [0u16; 65536];
     let mut widths = [0u64; 512];
+    let mut keys = [0u64; 2448];
     let mut arows = [0u16; 2048];
     let mut acells = [0u64; 12288];
     let mut brows = [0u16; 2048];
@@ -360,6 +369,7 @@ fn prune_narrow(
         &mut names,
         &mut fields,
         &mut widths,
+        &mut keys,
         &mut arows,
         &mut acells,
         &mut brows,
@@ -373,7 +383,7 @@ fn prune_narrow(
 /// The plan file's plan, narrowed to the fields of the request (rising positions of the root's fields) and written to `out`; or a refusal.
 ///
 /// The answer and every byte of `out` are those of document 01. In house mode, where nothing is refused, the plan that is written gives the rows of
-/// the plan that was read at each field that it keeps.
+/// the plan that was read at each field that it keeps; where the file declares keys, on tables that keep them.
 pub fn prune(mode: u8, mask: u16, file: &[u8], request: &[u16], out: &mut [u8]) -> Answer
     ensures { λ r. ⌜ AnswerIs (rules.answer mode mask (now (file .entry)) (now (request .entry)) (now (out .entry))) r (now (out .exit)) ⌝ }
     ensures { λ r. ⌜ Promised mode mask (now (file .entry)) (λ width. now (request .entry)) (now (out .entry)) (r .code) ⌝ }

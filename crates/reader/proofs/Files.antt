@@ -19,7 +19,7 @@ use Rattle.versions.specs.declared.Version.{Version}
 use Rattle.reader_fields.specs.Answers.{spot}
 use Rattle.reader_fields.specs.declared.Spot.{Spot}
 use Rattle.reader.specs.Tables.{tablesAt, readTable}
-use Rattle.reader.specs.Keys.{MarkIs}
+use Rattle.reader.specs.Keys.{MarkIs, TablesPut}
 use Rattle.reader.proofs.Names.{catalogueAt}
 use Rattle.reader.specs.Plans.{TookPlan, ReadsPlan, readBody, Holds, TookBody, RightBody, RightFile}
 use Rattle.reader.specs.declared.Marked.the-variants as marked
@@ -191,9 +191,9 @@ module _ (file : List ℕ) where
           unfolding readSource
           body-is = rw (mark 0 0, tables-at)
 
-          pub file-right : n < 17 → (c c1 w w1 m m1 : List ℕ) (r : answer.Read) → RightBody (catalogueAt (versionOf version) names n ks) file start version n c c1 w w1 m m1 r →
-              RightFile file c c1 w w1 m m1 names r
-          file-right l c c1 w w1 m m1 (Done of tables at count tags made) b =
+          pub file-right : n < 17 → (keys : List ℕ) → TablesPut keys ks → (c c1 w w1 m m1 : List ℕ) (r : answer.Read) → RightBody (catalogueAt (versionOf version) names n ks) file start version n c c1 w w1 m m1 r →
+              RightFile file c c1 w w1 m m1 names keys r
+          file-right l keys put c c1 w w1 m m1 (Done of tables at count tags made) b =
               record {
                 plan = b .3 .plan;
                 C = catalogueAt (versionOf version) names n ks;
@@ -203,6 +203,7 @@ module _ (file : List ℕ) where
                 is = body-is ∙ b .3 .is;
                 starts-at = rw (b .2) tables-at;
                 few-tables = omega (arith, b .1);
+                keys-are = record { each = put .each };
                 holds = b .3 .holds;
               }
-          file-right l c c1 w w1 m m1 (Bad code place) b = body-is ∙ b
+          file-right l keys put c c1 w w1 m m1 (Bad code place) b = body-is ∙ b

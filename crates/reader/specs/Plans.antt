@@ -13,6 +13,7 @@ use Rattle.cpl.specs.ReadPlan.{readMark, readCatalogue, planTo, readEnd, readFi
 use Rattle.tree.specs.Layout.{exprNodes, planRowsIn, planCells, planRows, planTable}
 use Rattle.versions.specs.Versions.{versionOf, nodeRows}
 use Rattle.versions.specs.declared.Version.{Version}
+use Rattle.key_sets.specs.Slots.{TableKeys}
 use Rattle.reader_fields.specs.declared.Spot.{Spot}
 use Rattle.reader.specs.Tables.{tablesAt}
 use Rattle.reader.specs.declared.Planned.{Planned}
@@ -71,9 +72,9 @@ RightBody C file at v n cells cells′ rows rows′ nodes nodes′ (read.Done ve
     (version ≡ v) × (tables ≡ n) × (start ≡ at) × TookBody C cells cells′ rows rows′ nodes nodes′ (readBody C file at 0 0) (length file) count tags made
 RightBody C file at v n cells cells′ rows rows′ nodes nodes′ (read.Bad code place) = readBody C file at 0 0 ≡ bad code place
 
--- the file was read as a catalogue and a plan: the catalogue's tables stand in the names, the plan in the other three arrays, and the plan starts at the
--- offset `start`
-pub record TookFile (file cells cells′ rows rows′ nodes nodes′ names′ : List ℕ) (version : Version) (tables start count tags made : ℕ) : Type 0 where
+-- the file was read as a catalogue and a plan: the catalogue's tables stand in the names, their keys in the tables' slots, the plan in the other three arrays,
+-- and the plan starts at the offset `start`
+pub record TookFile (file cells cells′ rows rows′ nodes nodes′ names′ keys′ : List ℕ) (version : Version) (tables start count tags made : ℕ) : Type 0 where
   pub plan : Plan
   pub C : Catalogue
   pub version-is : C .version ≡ versionOf version
@@ -82,9 +83,10 @@ pub record TookFile (file cells cells′ rows rows′ nodes nodes′ names′ : 
   pub is : readFile file ≡ ok (record { catalogue = C; plan = plan }) (length file) tags count
   pub starts-at : readCatalogue (C .version) file 5 0 0 ≡ ok C start 0 0
   pub few-tables : tables ≤ 16
+  pub keys-are : TableKeys C keys′
   pub holds : Holds cells cells′ rows rows′ nodes nodes′ plan count tags made
 
-abbrev pub RightFile : (file cells cells′ rows rows′ nodes nodes′ names′ : List ℕ) → answer.Read → Type 0
-RightFile file cells cells′ rows rows′ nodes nodes′ names′ (read.Done version tables start count tags made) =
-    TookFile file cells cells′ rows rows′ nodes nodes′ names′ version tables start count tags made
-RightFile file cells cells′ rows rows′ nodes nodes′ names′ (read.Bad code place) = readFile file ≡ bad code place
+abbrev pub RightFile : (file cells cells′ rows rows′ nodes nodes′ names′ keys′ : List ℕ) → answer.Read → Type 0
+RightFile file cells cells′ rows rows′ nodes nodes′ names′ keys′ (read.Done version tables start count tags made) =
+    TookFile file cells cells′ rows rows′ nodes nodes′ names′ keys′ version tables start count tags made
+RightFile file cells cells′ rows rows′ nodes nodes′ names′ keys′ (read.Bad code place) = readFile file ≡ bad code place

@@ -13,7 +13,8 @@ ghost use Rattle.versions.specs.Versions.{versionOf, Known, nodeRows, rowsRoom}
 ghost use Rattle.reader_fields.specs.Answers.{Fields};
 ghost use Rattle.reader_heads.specs.Heads.{numbers, Widths};
 ghost use Rattle.reader.specs.Tables.{namesAt, tableAt, tablesAt, readTable, NextIs};
-ghost use Rattle.reader.specs.Keys.{Stands, Found, KeyIs, MarkIs};
+ghost use Rattle.key_sets.specs.Slots.{SlotIn, slotAt};
+ghost use Rattle.reader.specs.Keys.{Stands, Found, FreshIn, KeyIs, KeyPut, KeysPut, MarkIs, TablesPut};
 ghost use Rattle.reader.specs.Plans.{ReadsPlan, RightBody, RightFile};
 use reader_fields::Field;
 use reader_fields::Spot;
@@ -180,6 +181,7 @@ fn read_tables(
 fn read_fresh(file: &[u8], at: usize, k: usize, n: u64, taken: RequiredIndices) -> Field
     requires { ⌜ k ≤ 8 ⌝ }
     ensures { λ r. ⌜ ((xs : List ℕ) → Stands taken xs → Fields n (value k (fresh n xs) (now (file .entry)) at) r) ⌝ }
+    ensures { λ r. ⌜ FreshIn taken r ⌝ }
 {
     let found = reader_fields::read_number(file, at, k);
     let Field::Got(x, _) = found else {
@@ -194,7 +196,8 @@ fn read_fresh(file: &[u8], at: usize, k: usize, n: u64, taken: RequiredIndices) 
     found
 }
 
-// n columns of a key, of k bytes each, below `columns`, none of them taken or read before.
+// n columns of a key, of k bytes each, below `columns`, none of them taken or read before. These and those that are taken are put into the table's
+// slot.
 fn read_columns(
     file: &[u8],
     at: usize,
@@ -202,12 +205,15 @@ fn read_columns(
     k: usize,
     columns: u64,
     taken: RequiredIndices,
+    table: usize,
+    keys: &mut [u64],
 ) -> Next
-    requires { ⌜ (k ≤ 8) × (columns ≤ 512) ⌝ }
+    requires { ⌜ (k ≤ 8) × (columns ≤ 512) × SlotIn (now keys) table ⌝ }
     requires { ⌜ ((xs : List ℕ) × Stands taken xs) ⌝ }
-    ensures { λ r. ⌜ ((xs : List ℕ) → Stands taken xs → Found (timesAfter n (λ ys. value k (fresh columns ys)) xs (now (file .entry)) at) r) ⌝ }
+    ensures { λ r. ⌜ ((xs : List ℕ) → Stands taken xs → Found (timesAfter n (λ ys. value k (fresh columns ys)) xs (now (file .entry)) at) (KeyPut (now (keys .entry)) (now (keys .exit)) table xs) r) ⌝ }
 {
     if n == 0 {
+        key_sets::put_key(keys, table, taken);
         return Next::At(at);
     }
     let column = read_fresh(file, at, k, columns, taken);
@@ -215,12 +221,12 @@ fn read_columns(
         Field::Bad(code, place) => Next::Bad(code, place),
         Field::Got(x, next) => {
             let more = taken.with_index(x as usize);
-            read_columns(file, next, n - 1, k, columns, more)
+            read_columns(file, next, n - 1, k, columns, more, table, keys)
         }
     }
 }
 
-// A key of one of the tables that are not taken: the table and the offset after the key.
+// A key of one of the tables that are not taken, put into the table's slot: the table and the offset after the key.
 fn read_key(
     file: &[u8],
     at: usize,
@@ -228,17 +234,19 @@ fn read_key(
     version: Version,
     names: &[u16],
     taken: RequiredIndices,
+    keys: &mut [u64],
 ) -> Field
-    requires { ⌜ (tables ≤ 16) × (513 * tables ≤ length (now names)) × (version .wide ≤ 2) ⌝ }
+    requires { ⌜ (tables ≤ 16) × (513 * tables ≤ length (now names)) × (version .wide ≤ 2) × SlotIn (now keys) 15 ⌝ }
     requires { ⌜ ((t : ℕ) → t < tables → getD (now names) (513 * t) 0 ≤ 512) ⌝ }
     requires { ⌜ ((C : Catalogue) × (before : List TableKey) × Widths (now names) tables C × Stands taken (keyedTables before)) ⌝ }
-    ensures { λ r. ⌜ ((C : Catalogue) (before : List TableKey) → Widths (now (names .entry)) tables C → Stands taken (keyedTables before) → KeyIs tables (readTableKey (versionOf version) (C .tables) before (now (file .entry)) at) r) ⌝ }
+    ensures { λ r. ⌜ ((C : Catalogue) (before : List TableKey) → Widths (now (names .entry)) tables C → Stands taken (keyedTables before) → KeyIs tables (readTableKey (versionOf version) (C .tables) before (now (file .entry)) at) (now (keys .entry)) (now (keys .exit)) before r) ⌝ }
 {
     let table = read_fresh(file, at, 1, tables, taken);
     match table {
         Field::Bad(code, place) => Field::Bad(code, place),
         Field::Got(t, after) => {
-            let base = 513 * (t as usize);
+            let slot = t as usize;
+            let base = 513 * slot;
             let columns = names[base] as u64;
             let k = version.wide;
             let count = reader_fields::read_count(file, after, k, 1, version.columns);
@@ -246,7 +254,7 @@ fn read_key(
                 Field::Bad(code, place) => Field::Bad(code, place),
                 Field::Got(n, next) => {
                     let none = RequiredIndices::new();
-                    let list = read_columns(file, next, n, k, columns, none);
+                    let list = read_columns(file, next, n, k, columns, none, slot, keys);
                     match list {
                         Next::Bad(code, place) => Field::Bad(code, place),
                         Next::At(end) => Field::Got(t, end),
@@ -257,7 +265,7 @@ fn read_key(
     }
 }
 
-// n keys, of tables that are not taken and of which none was read before.
+// n keys, of tables that are not taken and of which none was read before, put into the tables' slots.
 fn read_keys(
     file: &[u8],
     at: usize,
@@ -266,38 +274,60 @@ fn read_keys(
     version: Version,
     names: &[u16],
     taken: RequiredIndices,
+    keys: &mut [u64],
 ) -> Next
-    requires { ⌜ (tables ≤ 16) × (513 * tables ≤ length (now names)) × (version .wide ≤ 2) ⌝ }
+    requires { ⌜ (tables ≤ 16) × (513 * tables ≤ length (now names)) × (version .wide ≤ 2) × SlotIn (now keys) 15 ⌝ }
     requires { ⌜ ((t : ℕ) → t < tables → getD (now names) (513 * t) 0 ≤ 512) ⌝ }
     requires { ⌜ ((C : Catalogue) × (before : List TableKey) × Widths (now names) tables C × Stands taken (keyedTables before)) ⌝ }
-    ensures { λ r. ⌜ ((C : Catalogue) (before : List TableKey) → Widths (now (names .entry)) tables C → Stands taken (keyedTables before) → Found (timesAfter n (readTableKey (versionOf version) (C .tables)) before (now (file .entry)) at) r) ⌝ }
+    ensures { λ r. ⌜ ((C : Catalogue) (before : List TableKey) → Widths (now (names .entry)) tables C → Stands taken (keyedTables before) → Found (timesAfter n (readTableKey (versionOf version) (C .tables)) before (now (file .entry)) at) (KeysPut (now (keys .entry)) (now (keys .exit)) before) r) ⌝ }
 {
     if n == 0 {
         return Next::At(at);
     }
-    let key = read_key(file, at, tables, version, names, taken);
+    let key = read_key(file, at, tables, version, names, taken, keys);
     match key {
         Field::Bad(code, place) => Next::Bad(code, place),
         Field::Got(t, next) => {
             let more = taken.with_index(t as usize);
-            read_keys(file, next, n - 1, tables, version, names, more)
+            read_keys(file, next, n - 1, tables, version, names, more, keys)
         }
     }
 }
 
-// The keys of the tables: a count, and as many keys.
-fn read_all_keys(file: &[u8], at: usize, tables: u64, version: Version, names: &[u16]) -> Next
-    requires { ⌜ (tables ≤ 16) × (513 * tables ≤ length (now names)) × (version .wide ≤ 2) × (version .late ≤ 2) ⌝ }
+// No table has a key: the slots of all tables are empty.
+fn clear_keys(keys: &mut [u64])
+    requires { ⌜ SlotIn (now keys) 15 ⌝ }
+    ensures { λ _. ⌜ ((t : ℕ) → t < 16 → slotAt (now (keys .exit)) t ≡ 0) ⌝ }
+{
+    let none = RequiredIndices::new();
+    let mut t = 0;
+    while t < 16 {
+        key_sets::put_key(keys, t, none);
+        t += 1;
+    }
+}
+
+// The keys of the tables: a count, and as many keys. Each is put into its table's slot; the slots of the other tables are empty.
+fn read_all_keys(
+    file: &[u8],
+    at: usize,
+    tables: u64,
+    version: Version,
+    names: &[u16],
+    keys: &mut [u64],
+) -> Next
+    requires { ⌜ (tables ≤ 16) × (513 * tables ≤ length (now names)) × (version .wide ≤ 2) × (version .late ≤ 2) × SlotIn (now keys) 15 ⌝ }
     requires { ⌜ ((t : ℕ) → t < tables → getD (now names) (513 * t) 0 ≤ 512) ⌝ }
     requires { ⌜ ((C : Catalogue) × Widths (now names) tables C) ⌝ }
-    ensures { λ r. ⌜ ((C : Catalogue) → Widths (now (names .entry)) tables C → Found (countedAfter (version .late) any (version .keys) (readTableKey (versionOf version) (C .tables)) (now (file .entry)) at) r) ⌝ }
+    ensures { λ r. ⌜ ((C : Catalogue) → Widths (now (names .entry)) tables C → Found (countedAfter (version .late) any (version .keys) (readTableKey (versionOf version) (C .tables)) (now (file .entry)) at) (TablesPut (now (keys .exit))) r) ⌝ }
 {
     let count = reader_fields::read_count(file, at, version.late, 0, version.keys);
     match count {
         Field::Bad(code, place) => Next::Bad(code, place),
         Field::Got(n, next) => {
             let none = RequiredIndices::new();
-            read_keys(file, next, n, tables, version, names, none)
+            clear_keys(keys);
+            read_keys(file, next, n, tables, version, names, none, keys)
         }
     }
 }
@@ -401,10 +431,11 @@ fn read_marked(
     rows: &mut [u16],
     nodes: &mut [u64],
     names: &mut [u16],
+    keys: &mut [u64],
 ) -> Read
-    requires { ⌜ (12288 ≤ length (now cells)) × (rowsRoom (versionOf version) ≤ length (now rows)) × (1792 ≤ length (now nodes)) × (8208 ≤ length (now names)) ⌝ }
+    requires { ⌜ (12288 ≤ length (now cells)) × (rowsRoom (versionOf version) ≤ length (now rows)) × (1792 ≤ length (now nodes)) × (8208 ≤ length (now names)) × SlotIn (now keys) 15 ⌝ }
     requires { ⌜ Known version ⌝ }
-    ensures { λ r. ⌜ (((tags n : ℕ) → readMark (now (file .entry)) 0 tags n ≡ ok (versionOf version) 5 tags n) → RightFile (now (file .entry)) (now (cells .entry)) (now (cells .exit)) (now (rows .entry)) (now (rows .exit)) (now (nodes .entry)) (now (nodes .exit)) (now (names .exit)) r) ⌝ }
+    ensures { λ r. ⌜ (((tags n : ℕ) → readMark (now (file .entry)) 0 tags n ≡ ok (versionOf version) 5 tags n) → RightFile (now (file .entry)) (now (cells .entry)) (now (cells .exit)) (now (rows .entry)) (now (rows .exit)) (now (nodes .entry)) (now (nodes .exit)) (now (names .exit)) (now (keys .exit)) r) ⌝ }
 {
     let count = reader_fields::read_count(file, 5, 1, 0, 16);
     match count {
@@ -414,8 +445,8 @@ fn read_marked(
             match tables {
                 Next::Bad(code, place) => Read::Bad(code, place),
                 Next::At(next) => {
-                    let keys = read_all_keys(file, next, n, version, names);
-                    match keys {
+                    let listed = read_all_keys(file, next, n, version, names, keys);
+                    match listed {
                         Next::Bad(code, place) => Read::Bad(code, place),
                         Next::At(start) => {
                             read_body(file, start, version, n, cells, rows, nodes, names)
@@ -429,21 +460,22 @@ fn read_marked(
 
 // A plan file. The lent arrays are long enough for every plan file of its version: cells three numbers for each of 4,096 nodes of expressions, rows four
 // for each row of 256 nodes, of 4,096 tags and of 32 that a window may ask for, nodes seven for each of 256 nodes, names 513 for each of 16 tables. The
-// keys of the tables are read and checked, and not stored.
+// tables' keys are put into the first 16 slots of `keys`.
 pub fn read_file(
     file: &[u8],
     cells: &mut [u64],
     rows: &mut [u16],
     nodes: &mut [u64],
     names: &mut [u16],
+    keys: &mut [u64],
 ) -> Read
-    requires { ⌜ (12288 ≤ length (now cells)) × (1792 ≤ length (now nodes)) × (8208 ≤ length (now names)) ⌝ }
+    requires { ⌜ (12288 ≤ length (now cells)) × (1792 ≤ length (now nodes)) × (8208 ≤ length (now names)) × SlotIn (now keys) 15 ⌝ }
     requires { ⌜ ((v : cpl.Version) → readMark (now file) 0 0 0 ≡ ok v 5 0 0 → rowsRoom v ≤ length (now rows)) ⌝ }
-    ensures { λ r. ⌜ RightFile (now (file .entry)) (now (cells .entry)) (now (cells .exit)) (now (rows .entry)) (now (rows .exit)) (now (nodes .entry)) (now (nodes .exit)) (now (names .exit)) r ⌝ }
+    ensures { λ r. ⌜ RightFile (now (file .entry)) (now (cells .entry)) (now (cells .exit)) (now (rows .entry)) (now (rows .exit)) (now (nodes .entry)) (now (nodes .exit)) (now (names .exit)) (now (keys .exit)) r ⌝ }
 {
     let mark = read_mark(file);
     match mark {
         Marked::Nothing => Read::Bad(2, 0),
-        Marked::As(version) => read_marked(file, version, cells, rows, nodes, names),
+        Marked::As(version) => read_marked(file, version, cells, rows, nodes, names, keys),
     }
 }

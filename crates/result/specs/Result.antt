@@ -2,7 +2,7 @@
 -- left, so nothing is copied but the merged projections, whose items stand in rows and cells of their own.
 use mathlib.Core.Bool.{true}
 use mathlib.Core.List.{List, [], map}
-use Prim.Native.Nat.{ℕ, zero, suc, _+_, _*_}
+use Prim.Native.Nat.{ℕ, zero, suc, _+_, _*_, _/_, _^_}
 use lib.Dec.{eqb}
 use lib.ListN.{length, getD}
 use Rattle.cpl.specs.Plan.{Pair, bare, Leaf, empty, Unary, projection, filter, sort, limit, aggregate, window, subqueryAlias, distinct, Plan, leaf, unary, binary, Catalogue}
@@ -47,7 +47,7 @@ setAt s i = storedAt s (i * recordN + 4)
 
 -- ── what a record stands for ────────────────────────────────────────────────────────────────
 
--- an old node with the part of its own list that the set has: columns of a scan, aggregates, window expressions
+-- an old node with the part of its own list that the set has: columns of a scan, groups and behind them aggregates, window expressions
 unfoldable pub leafPart : Catalogue → (set : ℕ) → Leaf → Leaf
 leafPart C s h = leafRule C h (setMask (length (leafFields C h)) s)
 
@@ -56,7 +56,7 @@ unaryPart s (projection is) = projection is
 unaryPart s (filter e) = filter e
 unaryPart s (sort ks) = sort ks
 unaryPart s (limit k n) = limit k n
-unaryPart s (aggregate gs vs) = aggregate gs (select (setMask (length vs) s) vs)
+unaryPart s (aggregate gs vs) = aggregate (select (setMask (length gs) s) gs) (select (setMask (length vs) (s / 2 ^ length gs)) vs)
 unaryPart s (window ws) = window (select (setMask (length ws) s) ws)
 unaryPart s (subqueryAlias q) = subqueryAlias q
 unaryPart s distinct = distinct

@@ -1,19 +1,22 @@
 -- What is asked of the inputs of a node, and which of its fields are left: the masks fit, contain the request and keep the columns that are used.
 use mathlib.Core.Path.{_≡_, refl, sym, _∙_, ap, ap₂}
 use mathlib.Core.List.{List, [], _∷_, _++_, map}
-use mathlib.Core.Bool.{true, false}
+use mathlib.Core.Bool.{Bool, true, false, cond}
+use mathlib.Core.Option.{Option}
+use Prim.Native.Nat.{ℕ}
 use lib.Dec.{T, eqb→eq}
-use lib.ListN.{length, drop}
-use Rattle.cpl.specs.Lists.{_z∷_, Fit}
+use lib.ListN.{length, take}
+use Rattle.cpl.specs.Lists.{z[], _z∷_, Fit}
 use Rattle.cpl.specs.Plan.{Pair, Expr, Item, Agg, Win, JoinType, j-inner, j-left, j-right, j-full, j-lsemi, j-lanti, j-rsemi, j-ranti, Binary, union, join, itemPair, aggPair, winPair}
 use Rattle.cpl.specs.Tests.{concatMap}
 use Rattle.cpl.specs.Exprs.{places}
 use Rattle.cpl.specs.Fields.{joinFields, binaryFields}
 use Rattle.cpl.specs.Accept.{even}
-use Rattle.cpl.proofs.Lists.{Fit-map, Fit-maps, Fit-trans, Fit-sym, length-Fit, take-fit, drop-fit}
-use Rattle.rules.specs.Mask.{Mask, select, ones, zeros, LeM}
+use Rattle.cpl.proofs.Lists.{Fit-map, Fit-trans, Fit-sym, length-Fit, take-fit, drop-fit}
+use Rattle.rules.specs.Mask.{Mask, select, orM, ones, zeros, LeM}
+use Rattle.rules.specs.Keys.{placesOf, hasAll, isKeyPlace, keptGroups}
 use Rattle.rules.specs.Rules.{used, plus, leftPart, rightPart, joinExprs, leftAsk, rightAsk}
-use Rattle.rules.proofs.Masks.{LeM-or, LeM-orR, LeM-refl, LeM-trans, LeM-fit, LeM-parts, LeB-true, select-map, select-ones, select-++}
+use Rattle.rules.proofs.Masks.{LeM-or, LeM-orR, LeM-trans, LeM-fit, LeM-parts, fit-ones, select-map, select-++}
 use Rattle.rules.proofs.Requests.{fit-mask}
 use Rattle.rules.proofs.Covers.{Cov, used-cov}
 
@@ -41,14 +44,28 @@ plus-keeps es {fs} f l = LeM-trans (LeM-or (both-fit es fs f)) l
 
 -- ── Aggregate and Window ────────────────────────────────────────────────────────────────────
 
-pub all-groups : (gs : List Item) (fs : List Pair) {R : Mask} → Fit R (map itemPair gs ++ fs) → LeM R (ones gs ++ drop (length gs) R)
-unfolding ones
-all-groups [] fs {R} h = LeM-refl R
-all-groups (g ∷ gs) fs (_z∷_ {x = r} _ hs) = LeB-true r z∷ all-groups gs fs hs
+-- the groups' part of a request
+pub groups-fit : (gs : List Item) (fs : List Pair) {R : Mask} → Fit R (map itemPair gs ++ fs) → Fit (take (length gs) R) gs
+groups-fit [] fs h = z[]
+groups-fit (g ∷ gs) fs (_ z∷ hs) = tt z∷ groups-fit gs fs hs
 
-pub aggregate-fields : (gs : List Item) (A : Mask) (vs : List Agg) → map itemPair gs ++ map aggPair (select A vs) ≡ select (ones gs ++ A) (map itemPair gs ++ map aggPair vs)
-unfolding ones
-aggregate-fields gs A vs = sym (select-++ (Fit-maps (λ g. true) itemPair gs) A (map aggPair vs) ∙ ap₂ _++_ (select-ones (Fit-map itemPair gs)) (select-map aggPair A vs))
+-- the groups' places are as many
+pub places-fit : (fs : List Pair) {gs : List Item} {R : Mask} → Fit R gs → Fit R (placesOf fs gs)
+unfolding placesOf
+places-fit fs {gs} f = Fit-trans f (Fit-sym (Fit-map _ gs))
+
+-- every requested group is kept, whatever the key
+pub groups-keep : (key : List ℕ) (ps : List (Option ℕ)) {R : Mask} → Fit R ps → LeM R (keptGroups key ps R)
+unfolding keptGroups
+groups-keep [] ps f = fit-ones f
+groups-keep (k ∷ ks) ps {R} f = go (hasAll (k ∷ ks) ps)
+  where
+    go : (b : Bool) → LeM R (cond b (orM R (map (isKeyPlace (k ∷ ks)) ps)) (ones ps))
+    go true = LeM-or (Fit-trans f (Fit-sym (Fit-map (isKeyPlace (k ∷ ks)) ps)))
+    go false = fit-ones f
+
+pub aggregate-fields : {gs : List Item} {G : Mask} → Fit G gs → (A : Mask) (vs : List Agg) → map itemPair (select G gs) ++ map aggPair (select A vs) ≡ select (G ++ A) (map itemPair gs ++ map aggPair vs)
+aggregate-fields {gs} {G} f A vs = sym (select-++ (Fit-trans f (Fit-sym (Fit-map itemPair gs))) A (map aggPair vs) ∙ ap₂ _++_ (select-map itemPair G gs) (select-map aggPair A vs))
 
 pub window-fields : {fs : List Pair} {K : Mask} → Fit K fs → (S : Mask) (ws : List Win) → select K fs ++ map winPair (select S ws) ≡ select (K ++ S) (fs ++ map winPair ws)
 window-fields {fs} {K} h S ws = sym (select-++ h S (map winPair ws) ∙ ap (select K fs ++_) (select-map winPair S ws))

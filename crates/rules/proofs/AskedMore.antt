@@ -1,18 +1,20 @@
 -- What a rule asks of its inputs grows with the request: one law for each kind of node. No plan need be accepted, and no merge is spoken of.
 use mathlib.Core.Path.{refl}
-use mathlib.Core.List.{List, [], _∷_}
-use mathlib.Core.Bool.{Bool}
+use mathlib.Core.List.{List, [], _∷_, map}
+use mathlib.Core.Bool.{Bool, true, false, cond}
+use mathlib.Core.Option.{Option}
 use Prim.Native.Nat.{ℕ}
 use lib.ListN.{length, take}
 use Rattle.cpl.specs.Tests.{concatMap}
 use Rattle.cpl.specs.Plan.{Pair, Item, Agg, Win, JoinType, j-inner, j-left, j-right, j-full, j-lsemi, j-lanti, j-rsemi, j-ranti, Leaf, scan, empty, Unary, projection, filter, sort, limit, aggregate, window, subqueryAlias, distinct, Binary, union, join, Plan, Catalogue, itemExpr}
 use Rattle.cpl.specs.Exprs.{aggExprs, winExprs, unaryExprs}
 use Rattle.cpl.specs.Fields.{columnsOf}
-use Rattle.rules.specs.Mask.{Mask, ones, zeros, LeM}
+use Rattle.rules.specs.Mask.{orM, Mask, ones, zeros, LeM}
+use Rattle.rules.specs.Keys.{placesOf, hasAll, isKeyPlace, keptGroups}
 use Rattle.rules.specs.Rules.{leafRule, Job, done, ask, projectionJob, aggregateJob, windowJob, unaryJob, leftPart, rightPart, leftAsk, rightAsk}
 use Rattle.rules.specs.Scans.{leafScans, numbered, leafLeft, Into, i[], _i∷_, pass, Part, narrower, Within}
 use Rattle.rules.proofs.Masks.{LeM-refl, LeM-trans}
-use Rattle.rules.proofs.Parts.{Into-++, Part-refl, Part-map, Part-concat, select-more, take-more, drop-more, used-more, plus-more, plus-same, take-plus}
+use Rattle.rules.proofs.Parts.{Into-++, Part-map, Part-concat, select-more, take-more, drop-more, orM-more, used-more, plus-more, plus-same, take-plus}
 
 -- the second job walks the input where the first does, and asks it for no less
 pub data More : Job → Job → Type 0 where
@@ -59,14 +61,27 @@ window-more (e i∷ hs) fs b b′ S S′ l = asks-more (plus-more (Part-concat w
 window-more (pass {y = w} {xs = []} {ys = ws} hs) fs b b′ {R} {R′} S S′ l = asks-more (LeM-trans (take-more (length fs) l) (take-plus (concatMap winExprs (w ∷ ws)) fs R′))
 window-more (pass {xs = v ∷ vs} hs) fs b b′ S S′ l = asks-more (plus-more (Part-concat winExprs (pass hs)) fs (take-more (length fs) l))
 
-module _ (C : Catalogue) (fs : List Pair) where
-  pub unary-more : (h : Unary) (b b′ : Bool) {R R′ : Mask} → LeM R R′ → More (unaryJob C h fs b R) (unaryJob C h fs b′ R′)
+-- keeps no fewer groups
+pub groups-more : (key : List ℕ) (ps : List (Option ℕ)) {R R′ : Mask} → LeM R R′ → LeM (keptGroups key ps R) (keptGroups key ps R′)
+unfolding keptGroups
+groups-more [] ps l = LeM-refl (ones ps)
+groups-more (k ∷ ks) ps {R} {R′} l = go (hasAll (k ∷ ks) ps)
+  where
+    own : Mask
+    own = map (isKeyPlace (k ∷ ks)) ps
+
+    go : (b : Bool) → LeM (cond b (orM R own) (ones ps)) (cond b (orM R′ own) (ones ps))
+    go true = orM-more l (LeM-refl own)
+    go false = LeM-refl (ones ps)
+
+module _ (C : Catalogue) (key : List ℕ) (fs : List Pair) where
+  pub unary-more : (h : Unary) (b b′ : Bool) {R R′ : Mask} → LeM R R′ → More (unaryJob C h key fs b R) (unaryJob C h key fs b′ R′)
   unfolding unaryJob
   unary-more (projection is) b b′ l = projection-more C is fs l
   unary-more (filter e) b b′ l = asks-more (plus-same _ fs l)
   unary-more (sort ks) b b′ l = asks-more (plus-same _ fs l)
   unary-more (limit s n) b b′ l = asks-more l
-  unary-more (aggregate gs vs) b b′ l = aggregate-more _ _ _ _ (Part-refl gs) (select-more (drop-more (length gs) l) vs) fs _ _
+  unary-more (aggregate gs vs) b b′ l = aggregate-more _ _ _ _ (select-more (groups-more key (placesOf fs gs) (take-more (length gs) l)) gs) (select-more (drop-more (length gs) l) vs) fs _ _
   unary-more (window ws) b b′ l = window-more (select-more (drop-more (length fs) l) ws) fs b b′ _ _ l
   unary-more (subqueryAlias q) b b′ l = asks-more l
   unary-more distinct b b′ l = asks-more (LeM-refl (ones fs))

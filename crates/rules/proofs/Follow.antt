@@ -13,6 +13,7 @@ use Rattle.cpl.specs.Exprs.{planNodes}
 use Rattle.cpl.specs.Fields.{columnsOf, leafFields, unaryFields, binaryFields, fieldsOf}
 use Rattle.cpl.proofs.Lists.{map-map, map-id, map-++}
 use Rattle.rules.specs.Mask.{Mask, select, count}
+use Rattle.rules.specs.Keys.{keyOf}
 use Rattle.rules.specs.Merge.{Merge}
 use Rattle.rules.specs.Rules.{topUp, sameColumns, overChild, leafRule, Job, done, ask, projectionJob, aggregateJob, windowJob, unaryJob, leftAsk, rightAsk}
 use Rattle.rules.specs.Rewrite.{Go, input, runJob, pend, counted, merged, leafWalk, nodeWalk, unaryWalk, binaryWalk, walk, rewrite}
@@ -78,8 +79,8 @@ unfolding windowJob scans
 window-plain [] fs b R S = λ p′. refl
 window-plain (w ∷ ws) fs b R S = λ p′. refl
 
-module _ (C : Catalogue) (fs : List Pair) where
-  unary-plain : (h : Unary) (b : Bool) (R : Mask) → Plain (unaryJob C h fs b R)
+module _ (C : Catalogue) (key : List ℕ) (fs : List Pair) where
+  unary-plain : (h : Unary) (b : Bool) (R : Mask) → Plain (unaryJob C h key fs b R)
   unfolding unaryJob scans
   unary-plain (projection is) b R = projection-plain C is fs R
   unary-plain (filter e) b R = λ p′. refl
@@ -122,13 +123,13 @@ binary-same C h fl fr s₁ s₂ go₁ go₂ g₁ g₂ b R =
     let Q₂ = rightAsk h fl fr R in
     map-++ (λ x. x .head) (s₁ true Q₁) (s₂ true Q₂) ∙ ap₂ _++_ (g₁ true Q₁ ∙ sym (topUp-scans C fl Q₁ (go₁ true Q₁ .plan))) (g₂ true Q₂ ∙ sym (topUp-scans C fr Q₂ (go₂ true Q₂ .plan)))
 
-module _ (M : Merge) (C : Catalogue) (fs : List Pair) (s : Option (List Item) → Left) (go : Option (List Item) → Go) (g : (q : Option (List Item)) → Same (s q) (go q)) where
+module _ (M : Merge) (C : Catalogue) (key : List ℕ) (fs : List Pair) (s : Option (List Item) → Left) (go : Option (List Item) → Go) (g : (q : Option (List Item)) → Same (s q) (go q)) where
   -- a node that is no projection
-  node-same : (h : Unary) (q : Option (List Item)) → Same (unaryScans M C none q (unaryFields h fs) (unaryJob C h fs) s) (nodeWalk C h fs go q)
+  node-same : (h : Unary) (q : Option (List Item)) → Same (unaryScans M C none q (unaryFields h fs) (unaryJob C h key fs) s) (nodeWalk C h key fs go q)
   unfolding unaryScans nodeWalk
-  node-same h q = pend-same C q (unaryFields h fs) _ _ (λ b R. job-same C fs _ (unary-plain C fs h b R) (s none) (go none) (g none))
+  node-same h q = pend-same C q (unaryFields h fs) _ _ (λ b R. job-same C fs _ (unary-plain C key fs h b R) (s none) (go none) (g none))
 
-  unary-same : (h : Unary) (q : Option (List Item)) → Same (unaryScans M C (itemsOf h) q (unaryFields h fs) (unaryJob C h fs) s) (unaryWalk M C h fs go q)
+  unary-same : (h : Unary) (q : Option (List Item)) → Same (unaryScans M C (itemsOf h) q (unaryFields h fs) (unaryJob C h key fs) s) (unaryWalk M C h key fs go q)
   unfolding itemsOf unaryWalk
   unary-same (projection is) none = unfold unaryScans in g (some is)
   unary-same (projection is) (some js) = unfold unaryScans unaryFields in merged-same (M js is) _ _ (λ ks. g (some ks)) _ _ (pend-same C (some js) (map itemPair is) (s (some is)) (go (some is)) (g (some is)))
@@ -144,7 +145,7 @@ module _ (M : Merge) (C : Catalogue) where
   pub walk-same : (p : Plan) (at : ℕ) (q : Option (List Item)) (b : Bool) (R : Mask) → heads (walkScans M C p at q b R) ≡ scans (walk M C p q b R .plan)
   unfolding walkScans walk
   walk-same (leaf h) at q = pend-same C q (leafFields C h) _ _ (leaf-same C h at)
-  walk-same (unary h p) at q = unary-same M C (fieldsOf C p) _ _ (λ q. walk-same p (suc at) q) h q
+  walk-same (unary h p) at q = unary-same M C (keyOf C p) (fieldsOf C p) _ _ (λ q. walk-same p (suc at) q) h q
   walk-same (binary h p₁ p₂) at q =
       pend-same C q (binaryFields h (fieldsOf C p₁) (fieldsOf C p₂)) _ _ (binary-same C h (fieldsOf C p₁) (fieldsOf C p₂) _ _ _ _ (walk-same p₁ (suc at) none) (walk-same p₂ (suc (at + planNodes p₁)) none))
 

@@ -15,6 +15,7 @@ use Rattle.cpl.specs.Fields.{leafFields, binaryFields, fieldsOf}
 use Rattle.cpl.proofs.Bools.{halves, both-T}
 use Rattle.rules.specs.Mask.{Mask, LeM}
 use Rattle.rules.specs.Request.{maskOf}
+use Rattle.rules.specs.Keys.{keyOf}
 use Rattle.rules.specs.Merge.{Merge}
 use Rattle.rules.specs.Rules.{Job}
 use Rattle.rules.specs.Rewrite.{rewrite}
@@ -65,7 +66,7 @@ module _ (C : Catalogue) where
     pub walk-grows : (p : Plan) (at : ℕ) (q : Option (List Item)) → Grows (walkScans M C p at q)
     unfolding walkScans
     walk-grows (leaf h) at q = pend-grows q (leafFields C h) _ (λ b b′ R R′ l. leaf-more C h at b b′ l)
-    walk-grows (unary h p) at q = unary-grows (itemsOf h) q _ _ (λ b b′ R R′ l. unary-more C (fieldsOf C p) h b b′ l) _ (λ q. walk-grows p (suc at) q)
+    walk-grows (unary h p) at q = unary-grows (itemsOf h) q _ _ (λ b b′ R R′ l. unary-more C (keyOf C p) (fieldsOf C p) h b b′ l) _ (λ q. walk-grows p (suc at) q)
     walk-grows (binary h p₁ p₂) at q =
         pend-grows q (binaryFields h (fieldsOf C p₁) (fieldsOf C p₂)) _ (binary-grows h (fieldsOf C p₁) (fieldsOf C p₂) _ _ (walk-grows p₁ (suc at) none) (walk-grows p₂ (suc (at + planNodes p₁)) none))
 

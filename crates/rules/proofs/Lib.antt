@@ -4,6 +4,8 @@ pub mod Requests
 pub mod Covers
 pub mod Asked
 pub mod Plus
+pub mod Keys
+pub mod KeySets
 pub mod Known
 pub mod Inputs
 pub mod UnaryKinds
@@ -14,6 +16,7 @@ pub mod Results
 pub mod Samples
 pub mod Samples2
 pub mod BareNames
+pub mod KeySamples
 pub mod Answers
 pub mod Successes
 pub mod Parts

@@ -4,20 +4,23 @@ use mathlib.Core.Path.{_≡_, refl, sym, _∙_, ap, ap₂, subst}
 use mathlib.Core.List.{List, [], _∷_, _++_, map}
 use mathlib.Core.Bool.{false}
 use mathlib.Core.Option.{none}
-use Prim.Native.Nat.{ℕ, suc, _+_, _<_}
+use Prim.Native.Nat.{ℕ, zero, suc, _+_, _<_, _≤_}
 use native.Mathlib.Omega.{arith}
 use native.Mathlib.Nat.{add-zero}
 use lib.ListN.{length, length-map, length-append, getD, List·getD-eq-default, List·getD-append, List·getD-map}
+use borrow.Author.Tests.{eq-eqb, ne-eqb}
 use lib.Seq.{getD-append-add}
+use Rattle.cpl.specs.Tests.{sumOf}
 use Rattle.cpl.specs.Lists.{All, a[], _a∷_}
-use Rattle.cpl.specs.Plan.{Leaf, scan, empty, Plan, leaf, unary, binary, Catalogue, namesOf}
+use Rattle.cpl.specs.Plan.{Leaf, scan, empty, Plan, leaf, unary, binary, TableKey, Catalogue, namesOf}
 use Rattle.cpl.specs.Exprs.{planNodes}
 use Rattle.cpl.proofs.Lists.{map-map, map-congA, map-++, All-++}
 use Rattle.rules.specs.Mask.{Mask}
+use Rattle.rules.specs.Keys.{declared}
 use Rattle.rules.specs.Merge.{Merge}
 use Rattle.rules.specs.Rewrite.{rewrite}
 use Rattle.rules.specs.Scans.{leafScans, Numbered, numbered, scansOf, scansUnder, Into, i[], _i∷_, pass, Narrower, narrower, Within}
-use Rattle.rules.specs.OwnTables.{retableLeaf, retable, ownTables, leafTable, nodeTable, nodes, tableAt, ownCatalogue, Traced}
+use Rattle.rules.specs.OwnTables.{retableLeaf, retable, ownTables, lacking, leafTable, nodeTable, nodes, tableAt, ownKeys, ownCatalogue, Traced}
 use Rattle.rules.proofs.Follow.{walk-same, walk-among}
 use Rattle.rules.proofs.Retable.{walk-retable, left-retable}
 
@@ -84,16 +87,16 @@ module _ (C : Catalogue) where
   length-tables p = length-map (nodes p) (nodeTable C) ∙ length-nodes p
 
   -- the old tables put back
-  put-back : (u : ℕ → ℕ) (p : Plan) (at : ℕ) → Says (length (C .tables)) u at (tables p) → retable u (ownTables p at) ≡ p
+  put-back : (u : ℕ → ℕ) (p : Plan) (at : ℕ) → Says (lacking C) u at (tables p) → retable u (ownTables p at) ≡ p
   unfolding retable ownTables retableLeaf nodes nodeTable leafTable
   put-back u (leaf (scan t q is es)) at s = ap (λ v. leaf (scan v q is es)) (says-head s)
   put-back u (leaf (empty b cs)) at s = refl
   put-back u (unary h p) at s = ap (unary h) (put-back u p (suc at) (says-tail s))
   put-back u (binary h p₁ p₂) at s =
-      let t : Says (length (C .tables)) u (suc at) (tables p₁ ++ tables p₂) = subst (Says (length (C .tables)) u (suc at)) (map-++ (nodeTable C) (nodes p₁) (nodes p₂)) (says-tail s) in
+      let t : Says (lacking C) u (suc at) (tables p₁ ++ tables p₂) = subst (Says (lacking C) u (suc at)) (map-++ (nodeTable C) (nodes p₁) (nodes p₂)) (says-tail s) in
       let e : suc at + planNodes p₁ ≡ suc (at + planNodes p₁) = omega arith in
       ap₂ (binary h) (put-back u p₁ (suc at) (says-left (tables p₁) (tables p₂) t))
-      (put-back u p₂ (suc (at + planNodes p₁)) (subst (λ n. Says (length (C .tables)) u n (tables p₂)) e (says-right (tables p₁) (tables p₂) (planNodes p₁) (length-tables p₁) t)))
+      (put-back u p₂ (suc (at + planNodes p₁)) (subst (λ n. Says (lacking C) u n (tables p₂)) e (says-right (tables p₁) (tables p₂) (planNodes p₁) (length-tables p₁) t)))
 
   own-numbers : (p : Plan) (at : ℕ) → All (λ x. leafTable C (x .head) ≡ x .number) (scansOf (ownTables p at) at)
   unfolding scansOf ownTables retableLeaf numbered leafScans leafTable
@@ -113,27 +116,49 @@ module _ (C : Catalogue) where
   numbers-left (w i∷ hs) (e a∷ es) = (within-table (w .scan-within) ∙ (e ∙ sym (w .same-node))) a∷ numbers-left hs es
   numbers-left (pass hs) (e a∷ es) = numbers-left hs es
 
-  -- the catalogue of their own has the names of the old tables
+  no-names : namesOf C (lacking C) ≡ []
+  unfolding lacking
+  no-names = List·getD-eq-default (C .tables) [] (omega arith)
+
+  none-declared : (ks : List TableKey) (t : ℕ) → sumOf (λ k. suc (k .table)) ks ≤ t → declared ks t ≡ []
+  unfolding declared sumOf
+  none-declared [] t l = refl
+  none-declared (k ∷ ks) t l = rw (ne-eqb (k .table) t (λ e. omega arith)) (none-declared ks t (omega arith))
+
+  no-key : declared (C .keys) (lacking C) ≡ []
+  unfolding lacking
+  no-key = none-declared (C .keys) (length (C .tables) + sumOf (λ k. suc (k .table)) (C .keys)) (omega arith)
+
+  -- the catalogue of their own has the names and the keys of the old tables
   own-names : (p : Plan) (t : ℕ) → namesOf C (tableAt C p t) ≡ namesOf (ownCatalogue C p) t
   unfolding tableAt ownCatalogue
-  own-names p t =
-      sym (List·getD-map (namesOf C) (tables p) t (length (C .tables))) ∙ ap (getD (map (namesOf C) (tables p)) t) (List·getD-eq-default (C .tables) [] (omega arith))
+  own-names p t = sym (List·getD-map (namesOf C) (tables p) t (lacking C)) ∙ ap (getD (map (namesOf C) (tables p)) t) no-names
+
+  own-declared : (ts : List ℕ) (at t n : ℕ) → n ≡ at + t → declared (C .keys) (getD ts t (lacking C)) ≡ declared (ownKeys C at ts) n
+  unfolding declared ownKeys
+  own-declared [] at t n e = no-key
+  own-declared (x ∷ ts) at zero n e = rw (eq-eqb at n (omega arith))
+  own-declared (x ∷ ts) at (suc t) n e = rw (ne-eqb at n (λ d. omega arith)) (own-declared ts (suc at) t n (omega arith))
+
+  own-keys : (p : Plan) (t : ℕ) → declared (C .keys) (tableAt C p t) ≡ declared (ownCatalogue C p .keys) t
+  unfolding tableAt ownCatalogue
+  own-keys p t = own-declared (tables p) 0 t t (omega arith)
 
   pub traced : (M : Merge) (p : Plan) (R : Mask) → Traced M C p R
   traced M p R =
       let u = tableAt C p in
       let D = ownCatalogue C p in
       let o = ownTables p 0 in
-      let back : retable u o ≡ p = put-back u p 0 (unfold tableAt in says-itself (length (C .tables)) (tables p)) in
+      let back : retable u o ≡ p = put-back u p 0 (unfold tableAt in says-itself (lacking C) (tables p)) in
       let xs = scansUnder M D o R in
       let own : All (λ x. leafTable C (x .head) ≡ x .number) xs = numbers-left (walk-among D M o 0 none false R) (own-numbers p 0) in
       record {
         same-plan = back;
-        same-pass = sym (ap (λ w. w .plan) (walk-retable u C D (own-names p) M o none false R)) ∙ ap (λ q. rewrite M C q R .plan) back;
+        same-pass = sym (ap (λ w. w .plan) (walk-retable u C D (own-names p) (own-keys p) M o none false R)) ∙ ap (λ q. rewrite M C q R .plan) back;
         numbers =
             ap (map (leafTable C)) (sym (walk-same M D o 0 none false R))
             ∙ (map-map (leafTable C) (λ x. x .head) xs
             ∙ (map-congA own
             ∙ (sym (map-map (λ x. x .number) _ xs)
-            ∙ ap (map (λ x. x .number)) (sym (left-retable u C D (own-names p) M o 0 none false R) ∙ ap (λ q. scansUnder M C q R) back))));
+            ∙ ap (map (λ x. x .number)) (sym (left-retable u C D (own-names p) (own-keys p) M o 0 none false R) ∙ ap (λ q. scansUnder M C q R) back))));
       }

@@ -18,6 +18,7 @@ use Rattle.cpl.proofs.Lists.{fit-self}
 use Rattle.cpl.proofs.Accepted.{Resolved, Accepted, few-fields, distinct-fields}
 use Rattle.cpl.proofs.FitFields.{unary-pairs, field-pairs, columns-below, columns-few}
 use Rattle.rules.specs.Mask.{Mask}
+use Rattle.rules.specs.Keys.{keyOf}
 use Rattle.rules.specs.Merge.{mergeStep}
 use Rattle.rules.specs.Rules.{leafRule, leafKept}
 use Rattle.rules.specs.Rewrite.{Walked, Go, pend, counted, merged, leafWalk, nodeWalk, unaryWalk, walk}
@@ -89,10 +90,10 @@ unfolding counted
 counted-result C ks r = record { kept = record { keeps = r .kept .keeps; fields = r .kept .fields }; accepted = r .accepted; fit = r .fit }
 
 -- a node that is no projection
-node-good : (C : Catalogue) → Sound (C .version) → (h : Unary) {fs : List Pair} → Fields (C .version) fs → Resolved (allPass (unaryExprs h) fs) → Fields (C .version) (unaryFields h fs) → FitUnary (C .version) h
-    → (go : Option (List Item) → Go) → Good C fs (go none) → (q : Option (List Item)) → Pending (C .version) (unaryFields h fs) q → Good C (pendingFields (unaryFields h fs) q) (nodeWalk C h fs go q)
+node-good : (C : Catalogue) → Sound (C .version) → (h : Unary) (key : List ℕ) {fs : List Pair} → Fields (C .version) fs → Resolved (allPass (unaryExprs h) fs) → Fields (C .version) (unaryFields h fs) → FitUnary (C .version) h
+    → (go : Option (List Item) → Go) → Good C fs (go none) → (q : Option (List Item)) → Pending (C .version) (unaryFields h fs) q → Good C (pendingFields (unaryFields h fs) q) (nodeWalk C h key fs go q)
 unfolding nodeWalk
-node-good C laws h below k own fit go g q pq = pend-good C q pq _ (unary-good C laws below (go none) g h k own fit)
+node-good C laws h key below k own fit go g q pq = pend-good C q pq _ (unary-good C laws key below (go none) g h k own fit)
 
 module _ (house : Bool) (m : ℕ) (C : Catalogue) where
   -- the list goes on down where the step made one, and stops over the lower list where it did not
@@ -105,20 +106,20 @@ module _ (house : Bool) (m : ℕ) (C : Catalogue) where
       let s = step house m js is ks e in
       counted-result C ks (subst (λ fs′. Result C fs′ R (go (some ks) b R)) (step-pairs s) (g ks (merged-items u l s) b R (subst⁻¹ (Fit R) (step-pairs s) f)))
 
-  unary-walk : Sound (C .version) → (h : Unary) {fs : List Pair} → Fields (C .version) fs → Resolved (allPass (unaryExprs h) fs) → Fields (C .version) (unaryFields h fs) → FitUnary (C .version) h
+  unary-walk : Sound (C .version) → (h : Unary) (key : List ℕ) {fs : List Pair} → Fields (C .version) fs → Resolved (allPass (unaryExprs h) fs) → Fields (C .version) (unaryFields h fs) → FitUnary (C .version) h
       → (go : Option (List Item) → Go) → ((q : Option (List Item)) → Pending (C .version) fs q → Good C (pendingFields fs q) (go q))
-      → (q : Option (List Item)) → Pending (C .version) (unaryFields h fs) q → Good C (pendingFields (unaryFields h fs) q) (unaryWalk (mergeStep house m) C h fs go q)
+      → (q : Option (List Item)) → Pending (C .version) (unaryFields h fs) q → Good C (pendingFields (unaryFields h fs) q) (unaryWalk (mergeStep house m) C h key fs go q)
   unfolding unaryWalk unaryFields unaryExprs FitUnary
-  unary-walk laws (projection is) below k own fit go g none pq = g (some is) (record { resolved = k; own = own; fit = fit })
-  unary-walk laws (projection is) below k own fit go g (some js) pq =
+  unary-walk laws (projection is) key below k own fit go g none pq = g (some is) (record { resolved = k; own = own; fit = fit })
+  unary-walk laws (projection is) key below k own fit go g (some js) pq =
       merged-good js is pq (record { resolved = k; own = own; fit = fit }) go (λ ks i. g (some ks) i) (mergeStep house m js is) refl
-  unary-walk laws (filter e) below k own fit go g q pq = node-good C laws (filter e) below k own fit go (g none tt) q pq
-  unary-walk laws (sort ks) below k own fit go g q pq = node-good C laws (sort ks) below k own fit go (g none tt) q pq
-  unary-walk laws (limit s n) below k own fit go g q pq = node-good C laws (limit s n) below k own fit go (g none tt) q pq
-  unary-walk laws (aggregate gs vs) below k own fit go g q pq = node-good C laws (aggregate gs vs) below k own fit go (g none tt) q pq
-  unary-walk laws (window ws) below k own fit go g q pq = node-good C laws (window ws) below k own fit go (g none tt) q pq
-  unary-walk laws (subqueryAlias x) below k own fit go g q pq = node-good C laws (subqueryAlias x) below k own fit go (g none tt) q pq
-  unary-walk laws distinct below k own fit go g q pq = node-good C laws distinct below k own fit go (g none tt) q pq
+  unary-walk laws (filter e) key below k own fit go g q pq = node-good C laws (filter e) key below k own fit go (g none tt) q pq
+  unary-walk laws (sort ks) key below k own fit go g q pq = node-good C laws (sort ks) key below k own fit go (g none tt) q pq
+  unary-walk laws (limit s n) key below k own fit go g q pq = node-good C laws (limit s n) key below k own fit go (g none tt) q pq
+  unary-walk laws (aggregate gs vs) key below k own fit go g q pq = node-good C laws (aggregate gs vs) key below k own fit go (g none tt) q pq
+  unary-walk laws (window ws) key below k own fit go g q pq = node-good C laws (window ws) key below k own fit go (g none tt) q pq
+  unary-walk laws (subqueryAlias x) key below k own fit go g q pq = node-good C laws (subqueryAlias x) key below k own fit go (g none tt) q pq
+  unary-walk laws distinct key below k own fit go g q pq = node-good C laws distinct key below k own fit go (g none tt) q pq
 
   -- ── plans ─────────────────────────────────────────────────────────────────────────────────
 
@@ -126,7 +127,7 @@ module _ (house : Bool) (m : ℕ) (C : Catalogue) where
   unfolding walk fieldsOf Accepted FitPlan
   walk-good k (leaf h) o fit q pq = pend-good C q pq _ (leaf-good C k h o fit)
   walk-good k (unary h p) o fit q pq =
-      unary-walk (sound (k .version-is)) h (plan-fields C k p (o .0) (fit .1)) (o .1 .resolved) (record { few = o .1 .few; distinct = o .1 .distinct; pairs = unary-pairs (C .version) h (fit .0) (fieldsOf C p) (field-pairs C k p (fit .1)) }) (fit .0) _
+      unary-walk (sound (k .version-is)) h (keyOf C p) (plan-fields C k p (o .0) (fit .1)) (o .1 .resolved) (record { few = o .1 .few; distinct = o .1 .distinct; pairs = unary-pairs (C .version) h (fit .0) (fieldsOf C p) (field-pairs C k p (fit .1)) }) (fit .0) _
       (λ q pq. walk-good k p (o .0) (fit .1) q pq) q pq
   walk-good k (binary h p₁ p₂) o fit q pq =
       pend-good C q pq _

@@ -12,13 +12,15 @@ use Rattle.cpl.specs.Fields.{columnsOf, scanField, leafFields, unaryFields, bin
 use Rattle.cpl.proofs.Bools.{cond-ap}
 use Rattle.cpl.proofs.Lists.{map-++}
 use Rattle.rules.specs.Mask.{Mask, select, count}
+use Rattle.rules.specs.Keys.{carried, declared, leafKey, unaryKey, keyOf}
 use Rattle.rules.specs.Merge.{Merge}
 use Rattle.rules.specs.Rules.{topUp, sameColumns, overChild, leafRule, leafKept, Job, done, ask, projectionJob, aggregateJob, windowJob, unaryJob, leftAsk, rightAsk, binaryKept}
 use Rattle.rules.specs.Rewrite.{Walked, Go, input, runJob, pend, counted, merged, leafWalk, nodeWalk, unaryWalk, binaryWalk, walk}
 use Rattle.rules.specs.Scans.{leafScans, Numbered, numbered, Left, jobScans, pendScans, mergedScans, leafLeft, itemsOf, unaryScans, binaryScans, walkScans}
 use Rattle.rules.specs.OwnTables.{retableLeaf, retable}
 
-module _ (u : ℕ → ℕ) (C D : Catalogue) (names : (t : ℕ) → namesOf C (u t) ≡ namesOf D t) where
+module _ (u : ℕ → ℕ) (C D : Catalogue) (names : (t : ℕ) → namesOf C (u t) ≡ namesOf D t)
+    (declares : (t : ℕ) → declared (C .keys) (u t) ≡ declared (D .keys) t) where
   abbrev walked : Walked → Walked
   walked w = record { plan = retable u (w .plan); kept = w .kept; overlong = w .overlong }
 
@@ -37,6 +39,13 @@ module _ (u : ℕ → ℕ) (C D : Catalogue) (names : (t : ℕ) → namesOf C (u
   fields (leaf h) = leaf-fields h
   fields (unary h p) = ap (unaryFields h) (fields p)
   fields (binary h p₁ p₂) = ap₂ (binaryFields h) (fields p₁) (fields p₂)
+
+  key-same : (p : Plan) → keyOf C (retable u p) ≡ keyOf D p
+  unfolding keyOf retable retableLeaf leafKey
+  key-same (leaf (scan t q is es)) = ap₂ (λ k ns. carried k (map some (columnsOf ns is))) (declares t) (names t)
+  key-same (leaf (empty b cs)) = refl
+  key-same (unary h p) = ap₂ (unaryKey h) (fields p) (key-same p)
+  key-same (binary h p₁ p₂) = refl
 
   -- ── rules ─────────────────────────────────────────────────────────────────────────────────
 
@@ -85,8 +94,8 @@ module _ (u : ℕ → ℕ) (C D : Catalogue) (names : (t : ℕ) → namesOf C (u
   window-like [] fs b R S = both-ask (λ p′. refl)
   window-like (w ∷ ws) fs b R S = both-ask (λ p′. refl)
 
-  module _ (fs : List Pair) where
-    unary-like : (h : Unary) (b : Bool) (R : Mask) → Like (unaryJob C h fs b R) (unaryJob D h fs b R)
+  module _ (key : List ℕ) (fs : List Pair) where
+    unary-like : (h : Unary) (b : Bool) (R : Mask) → Like (unaryJob C h key fs b R) (unaryJob D h key fs b R)
     unfolding unaryJob retable
     unary-like (projection is) b R = projection-like is fs R
     unary-like (filter e) b R = both-ask (λ p′. refl)
@@ -134,12 +143,12 @@ module _ (u : ℕ → ℕ) (C D : Catalogue) (names : (t : ℕ) → namesOf C (u
       ap₂ (λ v₁ v₂. record { plan = binary h (topUp C fl Q₁ (v₁ .plan)) (topUp C fr Q₂ (v₂ .plan)); kept = binaryKept h fl fr R; overlong = v₁ .overlong || v₂ .overlong }) (g₁ true Q₁) (g₂ true Q₂)
       ∙ ap₂ (λ p₁ p₂. record { plan = binary h p₁ p₂; kept = binaryKept h fl fr R; overlong = w₁ .overlong || w₂ .overlong }) (top-up fl Q₁ (w₁ .plan)) (top-up fr Q₂ (w₂ .plan))
 
-  module _ (M : Merge) (fs : List Pair) (go go′ : Option (List Item) → Go) (g : (q : Option (List Item)) → SameGo (go q) (go′ q)) where
-    node-go : (h : Unary) (q : Option (List Item)) → SameGo (nodeWalk C h fs go q) (nodeWalk D h fs go′ q)
+  module _ (M : Merge) (key : List ℕ) (fs : List Pair) (go go′ : Option (List Item) → Go) (g : (q : Option (List Item)) → SameGo (go q) (go′ q)) where
+    node-go : (h : Unary) (q : Option (List Item)) → SameGo (nodeWalk C h key fs go q) (nodeWalk D h key fs go′ q)
     unfolding nodeWalk
-    node-go h q = pend-go q (unaryFields h fs) _ _ (λ b R. run-same fs (unary-like fs h b R) (go none) (go′ none) (g none))
+    node-go h q = pend-go q (unaryFields h fs) _ _ (λ b R. run-same fs (unary-like key fs h b R) (go none) (go′ none) (g none))
 
-    unary-go : (h : Unary) (q : Option (List Item)) → SameGo (unaryWalk M C h fs go q) (unaryWalk M D h fs go′ q)
+    unary-go : (h : Unary) (q : Option (List Item)) → SameGo (unaryWalk M C h key fs go q) (unaryWalk M D h key fs go′ q)
     unfolding unaryWalk
     unary-go (projection is) none = g (some is)
     unary-go (projection is) (some js) = merged-go (M js is) _ _ _ _ (λ ks. g (some ks)) (pend-go (some js) (map itemPair is) (go (some is)) (go′ (some is)) (g (some is)))
@@ -155,7 +164,7 @@ module _ (u : ℕ → ℕ) (C D : Catalogue) (names : (t : ℕ) → namesOf C (u
     pub walk-retable : (p : Plan) (q : Option (List Item)) → SameGo (walk M C (retable u p) q) (walk M D p q)
     unfolding walk retable
     walk-retable (leaf h) q = λ b R. ap (λ fs. pend C q fs (leafWalk C (retableLeaf u h)) b R) (leaf-fields h) ∙ pend-go q (leafFields D h) _ _ (leaf-go h) b R
-    walk-retable (unary h p) q = λ b R. ap (λ fs. unaryWalk M C h fs (λ q b R. walk M C (retable u p) q b R) q b R) (fields p) ∙ unary-go M (fieldsOf D p) _ _ (λ q. walk-retable p q) h q b R
+    walk-retable (unary h p) q = λ b R. ap₂ (λ key fs. unaryWalk M C h key fs (λ q b R. walk M C (retable u p) q b R) q b R) (key-same p) (fields p) ∙ unary-go M (keyOf D p) (fieldsOf D p) _ _ (λ q. walk-retable p q) h q b R
     walk-retable (binary h p₁ p₂) q = λ b R.
         ap₂ (λ fl fr. pend C q (binaryFields h fl fr) (binaryWalk C h fl fr (λ b R. walk M C (retable u p₁) none b R) (λ b R. walk M C (retable u p₂) none b R)) b R) (fields p₁) (fields p₂)
         ∙ pend-go q (binaryFields h (fieldsOf D p₁) (fieldsOf D p₂)) _ _ (binary-go h (fieldsOf D p₁) (fieldsOf D p₂) _ _ _ _ (walk-retable p₁ none) (walk-retable p₂ none)) b R
@@ -211,8 +220,8 @@ module _ (u : ℕ → ℕ) (C D : Catalogue) (names : (t : ℕ) → namesOf C (u
     unfolding walkScans retable
     left-retable (leaf h) at q = λ b R. ap (λ fs. pendScans C q fs (leafLeft C (retableLeaf u h) at) b R) (leaf-fields h) ∙ pend-left q (leafFields D h) _ _ (leaf-left h at) b R
     left-retable (unary h p) at q = λ b R.
-        ap (λ fs. unaryScans M C (itemsOf h) q (unaryFields h fs) (unaryJob C h fs) (λ q b R. walkScans M C (retable u p) (suc at) q b R) b R) (fields p)
-        ∙ unary-left (itemsOf h) q _ _ _ (unary-like (fieldsOf D p) h) _ _ (λ q. left-retable p (suc at) q) b R
+        ap₂ (λ key fs. unaryScans M C (itemsOf h) q (unaryFields h fs) (unaryJob C h key fs) (λ q b R. walkScans M C (retable u p) (suc at) q b R) b R) (key-same p) (fields p)
+        ∙ unary-left (itemsOf h) q _ _ _ (unary-like (keyOf D p) (fieldsOf D p) h) _ _ (λ q. left-retable p (suc at) q) b R
     left-retable (binary h p₁ p₂) at q = λ b R.
         ap₂ (λ fl fr. pendScans C q (binaryFields h fl fr) (binaryScans h fl fr (λ b R. walkScans M C (retable u p₁) (suc at) none b R) (λ b R. walkScans M C (retable u p₂) (suc (at + planNodes (retable u p₁))) none b R)) b R) (fields p₁) (fields p₂)
         ∙ (ap (λ n. pendScans C q (binaryFields h (fieldsOf D p₁) (fieldsOf D p₂)) (binaryScans h (fieldsOf D p₁) (fieldsOf D p₂) (λ b R. walkScans M C (retable u p₁) (suc at) none b R) (λ b R. walkScans M C (retable u p₂) (suc (at + n)) none b R)) b R) (nodes-same p₁)

@@ -20,10 +20,11 @@ use Rattle.cpl.proofs.Versions.{Sound}
 use Rattle.cpl.proofs.Clash.{n[]}
 use Rattle.cpl.proofs.Accepted.{Resolved, Sees, each-sees, all-see, Accepted}
 use Rattle.rules.specs.Mask.{Mask, select, ones, LeM}
+use Rattle.rules.specs.Keys.{placesOf}
 use Rattle.rules.specs.Rules.{used, plus, sameColumns, overChild, ask, projectionJob, aggregateJob, windowJob, unaryJob}
 use Rattle.rules.specs.Rewrite.{Walked, Go, input, runJob}
 use Rattle.rules.proofs.Masks.{LeM-refl, LeM-trans, LeM-fit, LeM-parts, fit-ones, select-map, select-short, All-select}
-use Rattle.rules.proofs.Asked.{used-fit, plus-fit, plus-cov, plus-keeps, all-groups, aggregate-fields, window-fields}
+use Rattle.rules.proofs.Asked.{used-fit, plus-fit, plus-cov, plus-keeps, groups-fit, places-fit, groups-keep, aggregate-fields, window-fields}
 use Rattle.rules.proofs.Covers.{used-cov}
 use Rattle.rules.proofs.Known.{resolved-select, bare-fields, clear-select}
 use Rattle.rules.proofs.Inputs.{Fields, Result, Good, Input, topped, as-it-is}
@@ -120,45 +121,42 @@ module _ (C : Catalogue) (is : List Item) {fs : List Pair} (resolved-items : Res
 
 -- ── Aggregate ───────────────────────────────────────────────────────────────────────────────
 
+-- G: the groups that are kept, A: the aggregates
 module _ (C : Catalogue) (laws : Sound (C .version)) {fs : List Pair} (below : Fields (C .version) fs) (gs : List Item) (vs : List Agg) (resolved-exprs : Resolved (allPass (unaryExprs (aggregate gs vs)) fs))
-    (own : Fields (C .version) (unaryFields (aggregate gs vs) fs)) (fit : FitUnary (C .version) (aggregate gs vs)) (go : Go) (g : Good C fs go) (R : Mask) (f : Fit R (unaryFields (aggregate gs vs) fs)) where
-  abbrev A : Mask
-  A = drop (length gs) R
-
-  kept-resolved : Resolved (allPass (unaryExprs (aggregate gs (select A vs))) fs)
+    (own : Fields (C .version) (unaryFields (aggregate gs vs) fs)) (fit : FitUnary (C .version) (aggregate gs vs)) (go : Go) (g : Good C fs go) {R G : Mask} (A : Mask) (f : Fit G gs) (keeps : LeM R (G ++ A)) where
+  kept-resolved : Resolved (allPass (unaryExprs (aggregate (select G gs) (select A vs))) fs)
   unfolding unaryExprs
   kept-resolved =
       let h = each-sees (map itemExpr gs ++ concatMap aggExprs vs) fs resolved-exprs in
-      all-see fs (All-++ (All-left (map itemExpr gs) (concatMap aggExprs vs) h) (concat-select aggExprs A vs (All-right (map itemExpr gs) (concatMap aggExprs vs) h)))
+      let k = All-left (map itemExpr gs) (concatMap aggExprs vs) h in
+      all-see fs (All-++ (subst (All (Sees fs)) (select-map itemExpr G gs) (All-select G k)) (concat-select aggExprs A vs (All-right (map itemExpr gs) (concatMap aggExprs vs) h)))
 
   -- some group or aggregate is left
-  some-left : (ws : List Agg) → ws ≡ select A vs → 0 < length gs + length ws
-      → let Q = used (unaryExprs (aggregate gs ws)) fs in
-      Result C (unaryFields (aggregate gs vs) fs) R (runJob C fs (ask false Q true (unary (aggregate gs ws)) (λ L. ones gs ++ A)) go)
+  some-left : (us : List Item) (ws : List Agg) → us ≡ select G gs → ws ≡ select A vs → 0 < length us + length ws
+      → let Q = used (unaryExprs (aggregate us ws)) fs in
+      Result C (unaryFields (aggregate gs vs) fs) R (runJob C fs (ask false Q true (unary (aggregate us ws)) (λ L. G ++ A)) go)
   unfolding runJob input unaryFields FitUnary
-  some-left ws e m =
-      let h = aggregate gs ws in
+  some-left us ws d e m =
+      let h = aggregate us ws in
       let Q = used (unaryExprs h) fs in
       let r = g false Q (used-fit (unaryExprs h) fs) in
-      node C (aggregate gs vs) h own (ones gs ++ A) (topped C laws below (used-fit (unaryExprs h) fs) r) (ap (λ us. map itemPair gs ++ map aggPair us) e ∙ aggregate-fields gs A vs) _
-      (all-groups gs (map aggPair vs) f) (used-resolved (unaryExprs h) fs (LeM-refl Q) (subst⁻¹ (λ us. Resolved (allPass (unaryExprs (aggregate gs us)) fs)) e kept-resolved))
-      (m, fit .1, subst⁻¹ (FitList FitAgg (C .version .maxItems)) e (fit-select FitAgg _ A vs (fit .2)))
+      node C (aggregate gs vs) h own (G ++ A) (topped C laws below (used-fit (unaryExprs h) fs) r) (ap₂ (λ us ws. map itemPair us ++ map aggPair ws) d e ∙ aggregate-fields f A vs) _ keeps
+      (used-resolved (unaryExprs h) fs (LeM-refl Q) (rw (d, e) kept-resolved))
+      (m, subst⁻¹ (FitList FitItem (C .version .maxItems)) d (fit-select FitItem _ G gs (fit .1)), subst⁻¹ (FitList FitAgg (C .version .maxItems)) e (fit-select FitAgg _ A vs (fit .2)))
 
-  pub aggregate-good : Result C (unaryFields (aggregate gs vs) fs) R (runJob C fs (aggregateJob gs (select A vs) fs (ones gs ++ A)) go)
+  pub aggregate-good : Result C (unaryFields (aggregate gs vs) fs) R (runJob C fs (aggregateJob (select G gs) (select A vs) fs (G ++ A)) go)
   unfolding aggregateJob runJob unaryFields fieldsOf leafFields leafExprs allB Accepted FitPlan FitLeaf FitList
-  aggregate-good = cases gs (select A vs) refl refl
+  aggregate-good = cases (select G gs) (select A vs) refl refl
     where
-      cases : (gs′ : List Item) (ws : List Agg) → gs′ ≡ gs → ws ≡ select A vs → Result C (unaryFields (aggregate gs vs) fs) R (runJob C fs (aggregateJob gs′ ws fs (ones gs ++ A)) go)
-      cases [] [] eg e =
+      cases : (us : List Item) (ws : List Agg) → us ≡ select G gs → ws ≡ select A vs → Result C (unaryFields (aggregate gs vs) fs) R (runJob C fs (aggregateJob us ws fs (G ++ A)) go)
+      cases [] [] d e =
           record {
-            kept = record { keeps = all-groups gs (map aggPair vs) f; fields = ap₂ (λ g w. map itemPair g ++ map aggPair w) eg e ∙ aggregate-fields gs A vs };
+            kept = record { keeps = keeps; fields = ap₂ (λ us ws. map itemPair us ++ map aggPair ws) d e ∙ aggregate-fields f A vs };
             accepted = record { resolved = record { all-found = tt; all-definite = tt }; as-wide = tt; few = omega arith; distinct = n[] };
             fit = (omega arith, a[]);
           }
-      cases [] (w ∷ ws) eg e = subst⁻¹ (λ g. Result C (unaryFields (aggregate gs vs) fs) R (runJob C fs (ask false (used (unaryExprs (aggregate g (w ∷ ws))) fs) true (unary (aggregate g (w ∷ ws))) (λ L. ones gs ++ A)) go)) eg (some-left (w ∷ ws) e (omega arith))
-      cases (x ∷ xs) ws eg e =
-          let m : 0 < length gs + length ws = subst (λ g. 0 < length g + length ws) eg (omega arith) in
-          subst⁻¹ (λ g. Result C (unaryFields (aggregate gs vs) fs) R (runJob C fs (ask false (used (unaryExprs (aggregate g ws)) fs) true (unary (aggregate g ws)) (λ L. ones gs ++ A)) go)) eg (some-left ws e m)
+      cases [] (w ∷ ws) d e = some-left [] (w ∷ ws) d e (omega arith)
+      cases (u ∷ us) ws d e = some-left (u ∷ us) ws d e (omega arith)
 
 -- ── Window ──────────────────────────────────────────────────────────────────────────────────
 
@@ -205,9 +203,9 @@ module _ (C : Catalogue) (laws : Sound (C .version)) {fs : List Pair} (below : F
 
 -- ── every kind ──────────────────────────────────────────────────────────────────────────────
 
-module _ (C : Catalogue) (laws : Sound (C .version)) {fs : List Pair} (below : Fields (C .version) fs) (go : Go) (g : Good C fs go) where
+module _ (C : Catalogue) (laws : Sound (C .version)) (key : List ℕ) {fs : List Pair} (below : Fields (C .version) fs) (go : Go) (g : Good C fs go) where
   pub unary-good : (h : Unary) → Resolved (allPass (unaryExprs h) fs) → Fields (C .version) (unaryFields h fs) → FitUnary (C .version) h → (b : Bool) (R : Mask) → Fit R (unaryFields h fs)
-      → Result C (unaryFields h fs) R (runJob C fs (unaryJob C h fs b R) go)
+      → Result C (unaryFields h fs) R (runJob C fs (unaryJob C h key fs b R) go)
   unfolding unaryJob runJob input unaryFields unaryExprs allB
   unary-good (projection is) k own fit b R f = projection-good C is k own (unfold FitUnary in fit) go g R f
   unary-good (filter e) k own fit b R f =
@@ -219,7 +217,10 @@ module _ (C : Catalogue) (laws : Sound (C .version)) {fs : List Pair} (below : F
       node C (sort ks) (sort ks) own _ (topped C laws below q (g true _ q)) refl _ (plus-keeps es f (LeM-refl _)) (plus-resolved es f k) fit
   unary-good (limit s n) k own fit true R f = node C (limit s n) (limit s n) own R (topped C laws below f (g true R f)) refl _ (LeM-refl R) (record { all-found = tt; all-definite = tt }) fit
   unary-good (limit s n) k own fit false R f = let r = g false R f in node C (limit s n) (limit s n) own _ (as-it-is C r) refl _ (r .kept .keeps) (record { all-found = tt; all-definite = tt }) fit
-  unary-good (aggregate gs vs) k own fit b R f = aggregate-good C laws below gs vs k own fit go g R f
+  unary-good (aggregate gs vs) k own fit b R f =
+      let p = groups-fit gs (map aggPair vs) f in
+      let l = groups-keep key (placesOf fs gs) (places-fit fs p) in
+      aggregate-good C laws below gs vs k own fit go g (drop (length gs) R) (LeM-fit l p) (LeM-parts (length gs) R l (LeM-refl _))
   unary-good (window ws) k own fit b R f = window-good C laws below ws k own fit go g b R f
   unary-good (subqueryAlias q) k own fit b R f =
       let i = Fit-trans f (Fit-map (requalify q) fs) in

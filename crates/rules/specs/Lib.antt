@@ -1,5 +1,6 @@
 -- Requests, rules and answers, bottom up.
 pub mod Mask
+pub mod Keys
 pub mod Request
 pub mod Merge
 pub mod Rules

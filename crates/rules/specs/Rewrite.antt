@@ -2,6 +2,7 @@
 use mathlib.Core.List.{List, map}
 use mathlib.Core.Bool.{Bool, true, false, cond, _||_}
 use mathlib.Core.Option.{Option, none, some}
+use Prim.Native.Nat.{ℕ}
 use lib.Dec.{ltb}
 use Rattle.cpl.specs.Tests.{sumOf}
 use Rattle.cpl.specs.Limits.{maxTags}
@@ -9,6 +10,7 @@ use Rattle.cpl.specs.Plan.{Pair, Item, Leaf, Unary, projection, filter, sort, l
 use Rattle.cpl.specs.Exprs.{itemTags}
 use Rattle.cpl.specs.Fields.{leafFields, unaryFields, binaryFields, fieldsOf}
 use Rattle.rules.specs.Mask.{Mask}
+use Rattle.rules.specs.Keys.{keyOf}
 use Rattle.rules.specs.Merge.{Merge}
 use Rattle.rules.specs.Rules.{topUp, leafRule, leafKept, Job, done, ask, projectionJob, unaryJob, leftAsk, rightAsk, binaryKept}
 
@@ -55,20 +57,20 @@ merged (some ks) on-down stop = λ b R. counted ks (on-down ks b R)
 unfoldable pub leafWalk : Catalogue → Leaf → Go
 leafWalk C h b R = record { plan = leaf (leafRule C h R); kept = leafKept h R; overlong = false }
 
--- a node that is no projection
-unfoldable pub nodeWalk : Catalogue → Unary → (fields : List Pair) → (Option (List Item) → Go) → Option (List Item) → Go
-nodeWalk C h fs go q = pend C q (unaryFields h fs) (λ b R. runJob C fs (unaryJob C h fs b R) (go none))
+-- a node that is no projection, over an input with this key and these fields
+unfoldable pub nodeWalk : Catalogue → Unary → (key : List ℕ) (fields : List Pair) → (Option (List Item) → Go) → Option (List Item) → Go
+nodeWalk C h key fs go q = pend C q (unaryFields h fs) (λ b R. runJob C fs (unaryJob C h key fs b R) (go none))
 
-unfoldable pub unaryWalk : Merge → Catalogue → Unary → (fields : List Pair) → (Option (List Item) → Go) → Option (List Item) → Go
-unaryWalk M C (projection is) fs go none = go (some is)
-unaryWalk M C (projection is) fs go (some js) = merged (M js is) (λ ks. go (some ks)) (pend C (some js) (map itemPair is) (go (some is)))
-unaryWalk M C (filter e) fs go q = nodeWalk C (filter e) fs go q
-unaryWalk M C (sort ks) fs go q = nodeWalk C (sort ks) fs go q
-unaryWalk M C (limit s n) fs go q = nodeWalk C (limit s n) fs go q
-unaryWalk M C (aggregate gs vs) fs go q = nodeWalk C (aggregate gs vs) fs go q
-unaryWalk M C (window ws) fs go q = nodeWalk C (window ws) fs go q
-unaryWalk M C (subqueryAlias x) fs go q = nodeWalk C (subqueryAlias x) fs go q
-unaryWalk M C distinct fs go q = nodeWalk C distinct fs go q
+unfoldable pub unaryWalk : Merge → Catalogue → Unary → (key : List ℕ) (fields : List Pair) → (Option (List Item) → Go) → Option (List Item) → Go
+unaryWalk M C (projection is) key fs go none = go (some is)
+unaryWalk M C (projection is) key fs go (some js) = merged (M js is) (λ ks. go (some ks)) (pend C (some js) (map itemPair is) (go (some is)))
+unaryWalk M C (filter e) key fs go q = nodeWalk C (filter e) key fs go q
+unaryWalk M C (sort ks) key fs go q = nodeWalk C (sort ks) key fs go q
+unaryWalk M C (limit s n) key fs go q = nodeWalk C (limit s n) key fs go q
+unaryWalk M C (aggregate gs vs) key fs go q = nodeWalk C (aggregate gs vs) key fs go q
+unaryWalk M C (window ws) key fs go q = nodeWalk C (window ws) key fs go q
+unaryWalk M C (subqueryAlias x) key fs go q = nodeWalk C (subqueryAlias x) key fs go q
+unaryWalk M C distinct key fs go q = nodeWalk C distinct key fs go q
 
 unfoldable pub binaryWalk : Catalogue → Binary → (fl fr : List Pair) → Go → Go → Go
 binaryWalk C h fl fr go₁ go₂ b R =
@@ -83,7 +85,7 @@ binaryWalk C h fl fr go₁ go₂ b R =
 -- `q`: a projection still to be put on top of the plan
 unfoldable pub walk : Merge → Catalogue → Plan → (q : Option (List Item)) → Go
 walk M C (leaf h) q = pend C q (leafFields C h) (leafWalk C h)
-walk M C (unary h p) q = unaryWalk M C h (fieldsOf C p) (λ q b R. walk M C p q b R) q
+walk M C (unary h p) q = unaryWalk M C h (keyOf C p) (fieldsOf C p) (λ q b R. walk M C p q b R) q
 walk M C (binary h p₁ p₂) q =
     let fl = fieldsOf C p₁ in
     let fr = fieldsOf C p₂ in

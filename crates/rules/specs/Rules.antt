@@ -3,6 +3,7 @@
 use mathlib.Core.List.{List, [], _∷_, _++_, map}
 use mathlib.Core.Bool.{Bool, true, false, cond, _&&_}
 use mathlib.Core.Option.{Option, some}
+use Prim.Native.Nat.{ℕ}
 use lib.Dec.{ltb}
 use lib.ListN.{length, take, drop}
 use Rattle.cpl.specs.Plan.{Pair, eqP, Expr, Item, bare, named, Agg, Win, JoinType, j-inner, j-left, j-right, j-full, j-lsemi, j-lanti, j-rsemi, j-ranti, On, Leaf, scan, empty, Unary, projection, filter, sort, limit, aggregate, window, subqueryAlias, distinct, Binary, union, join, Plan, leaf, unary, Catalogue, namesOf, itemExpr, keyExpr, onLeft, onRight}
@@ -10,6 +11,7 @@ use Rattle.cpl.specs.Tests.{concatMap}
 use Rattle.cpl.specs.Exprs.{places, unaryExprs, condExprs}
 use Rattle.cpl.specs.Fields.{columnsOf, fieldsOf, joinFields}
 use Rattle.rules.specs.Mask.{Mask, select, orM, ones, zeros, count}
+use Rattle.rules.specs.Keys.{placesOf, keptGroups}
 use Rattle.rules.specs.Request.{maskOf}
 
 -- ── parts of the rules ──────────────────────────────────────────────────────────────────────
@@ -62,8 +64,8 @@ pub data Job : Type 0 where
 unfoldable pub projectionJob : Catalogue → List Item → (fields : List Pair) → Mask → Job
 projectionJob C is fs R = let js = select R is in ask false (used (map itemExpr js) fs) false (overChild C js) (λ K. R)
 
--- "None of either left: one-row Empty with no fields."
-unfoldable pub aggregateJob : (groups : List Item) (kept : List Agg) (fields : List Pair) → Mask → Job
+-- "None of either left: one-row Empty with no fields." `gs` and `vs` are the groups and aggregates that are kept.
+unfoldable pub aggregateJob : (groups : List Item) (aggregates : List Agg) (fields : List Pair) → Mask → Job
 aggregateJob [] [] fs K = done (leaf (empty true [])) K
 aggregateJob [] (v ∷ vs) fs K = ask false (used (unaryExprs (aggregate [] (v ∷ vs))) fs) true (unary (aggregate [] (v ∷ vs))) (λ L. K)
 aggregateJob (g ∷ gs) vs fs K = ask false (used (unaryExprs (aggregate (g ∷ gs) vs)) fs) true (unary (aggregate (g ∷ gs) vs)) (λ L. K)
@@ -73,20 +75,24 @@ unfoldable pub windowJob : (kept : List Win) (fields : List Pair) (beneficial : 
 windowJob [] fs b R S = ask b R false (λ p′. p′) (λ K. K ++ S)
 windowJob (w ∷ ws) fs b R S = ask b (plus (unaryExprs (window (w ∷ ws))) fs R) true (unary (window (w ∷ ws))) (λ K. K ++ S)
 
-unfoldable pub unaryJob : Catalogue → Unary → (fields : List Pair) (beneficial : Bool) → Mask → Job
-unaryJob C (projection is) fs b R = projectionJob C is fs R
+-- `key`: the input's key, if it has one
+unfoldable pub unaryJob : Catalogue → Unary → (key : List ℕ) (fields : List Pair) (beneficial : Bool) → Mask → Job
+unaryJob C (projection is) key fs b R = projectionJob C is fs R
 -- "Filter, Sort, Union, SubqueryAlias: the request and the node's columns, top-up."
-unaryJob C (filter e) fs b R = ask true (plus (e ∷ []) fs R) true (unary (filter e)) (λ K. K)
-unaryJob C (sort ks) fs b R = ask true (plus (map keyExpr ks) fs R) true (unary (sort ks)) (λ K. K)
-unaryJob C (subqueryAlias q) fs b R = ask true R true (unary (subqueryAlias q)) (λ K. K)
+unaryJob C (filter e) key fs b R = ask true (plus (e ∷ []) fs R) true (unary (filter e)) (λ K. K)
+unaryJob C (sort ks) key fs b R = ask true (plus (map keyExpr ks) fs R) true (unary (sort ks)) (λ K. K)
+unaryJob C (subqueryAlias q) key fs b R = ask true R true (unary (subqueryAlias q)) (λ K. K)
 -- "Limit: the request; top-up only if that request comes from one of those four or a Join with only Limits and Windows between."
-unaryJob C (limit s n) fs b R = ask b R b (unary (limit s n)) (λ K. K)
--- "Aggregate. All groups stay; aggregates are taken at the request. Top-up."
-unaryJob C (aggregate gs vs) fs b R = let A = drop (length gs) R in aggregateJob gs (select A vs) fs (ones gs ++ A)
+unaryJob C (limit s n) key fs b R = ask b R b (unary (limit s n)) (λ K. K)
+-- "Aggregate. All groups stay; aggregates are taken at the request. Top-up." With a key: those that `keptGroups` says.
+unaryJob C (aggregate gs vs) key fs b R =
+    let G = keptGroups key (placesOf fs gs) (take (length gs) R) in
+    let A = drop (length gs) R in
+    aggregateJob (select G gs) (select A vs) fs (G ++ A)
 -- "Window. Ask for the pass-through part and the columns of kept window expressions; top-up."
-unaryJob C (window ws) fs b R = let S = drop (length fs) R in windowJob (select S ws) fs b (take (length fs) R) S
+unaryJob C (window ws) key fs b R = let S = drop (length fs) R in windowJob (select S ws) fs b (take (length fs) R) S
 -- "Distinct: all, no top-up."
-unaryJob C distinct fs b R = ask false (ones fs) false (unary distinct) (λ K. K)
+unaryJob C distinct key fs b R = ask false (ones fs) false (unary distinct) (λ K. K)
 
 -- ── nodes with two inputs: "Split at the left's count; semi and anti give the request to their own side; add each side's columns used. Top-up." ──
 

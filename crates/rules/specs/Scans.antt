@@ -10,6 +10,7 @@ use Rattle.cpl.specs.Plan.{Pair, Expr, Item, Leaf, scan, empty, Unary, projecti
 use Rattle.cpl.specs.Exprs.{planNodes}
 use Rattle.cpl.specs.Fields.{columnsOf, leafFields, unaryFields, binaryFields, fieldsOf}
 use Rattle.rules.specs.Mask.{Mask}
+use Rattle.rules.specs.Keys.{keyOf}
 use Rattle.rules.specs.Merge.{Merge}
 use Rattle.rules.specs.Rules.{leafRule, Job, done, ask, projectionJob, unaryJob, leftAsk, rightAsk}
 
@@ -91,7 +92,7 @@ binaryScans h fl fr go₁ go₂ b R =
 -- walk, with the number of the plan's root
 unfoldable pub walkScans : Merge → Catalogue → Plan → (at : ℕ) → (q : Option (List Item)) → Left
 walkScans M C (leaf h) at q = pendScans C q (leafFields C h) (leafLeft C h at)
-walkScans M C (unary h p) at q = unaryScans M C (itemsOf h) q (unaryFields h (fieldsOf C p)) (unaryJob C h (fieldsOf C p)) (λ q b R. walkScans M C p (suc at) q b R)
+walkScans M C (unary h p) at q = unaryScans M C (itemsOf h) q (unaryFields h (fieldsOf C p)) (unaryJob C h (keyOf C p) (fieldsOf C p)) (λ q b R. walkScans M C p (suc at) q b R)
 walkScans M C (binary h p₁ p₂) at q =
     let fl = fieldsOf C p₁ in
     let fr = fieldsOf C p₂ in

@@ -51,7 +51,7 @@ pub extern "C" fn simmerroof_prune_all(
 
 /// `simmerroof_prune` in lent arrays. The number at the end of the name goes with their lengths: a program that was compiled for others does not link.
 #[no_mangle]
-pub extern "C" fn simmerroof_prune_in2(
+pub extern "C" fn simmerroof_prune_in3(
     mode: u8,
     mask: u16,
     file: &[u8],
@@ -63,6 +63,7 @@ pub extern "C" fn simmerroof_prune_in2(
     names: &mut [u16; 8208],
     fields: &mut [u16; 262144],
     widths: &mut [u64; 512],
+    keys: &mut [u64; 2448],
     arows: &mut [u16; 2048],
     acells: &mut [u64; 12288],
     brows: &mut [u16; 2048],
@@ -88,6 +89,7 @@ pub extern "C" fn simmerroof_prune_in2(
         names,
         fields,
         widths,
+        keys,
         arows,
         acells,
         brows,
@@ -101,7 +103,7 @@ pub extern "C" fn simmerroof_prune_in2(
 
 /// `simmerroof_prune_all` in lent arrays, with the same number.
 #[no_mangle]
-pub extern "C" fn simmerroof_prune_all_in2(
+pub extern "C" fn simmerroof_prune_all_in3(
     mode: u8,
     mask: u16,
     file: &[u8],
@@ -112,6 +114,7 @@ pub extern "C" fn simmerroof_prune_all_in2(
     names: &mut [u16; 8208],
     fields: &mut [u16; 262144],
     widths: &mut [u64; 512],
+    keys: &mut [u64; 2448],
     arows: &mut [u16; 2048],
     acells: &mut [u64; 12288],
     brows: &mut [u16; 2048],
@@ -138,6 +141,7 @@ pub extern "C" fn simmerroof_prune_all_in2(
         names,
         fields,
         widths,
+        keys,
         arows,
         acells,
         brows,

@@ -19,7 +19,7 @@ use Rattle.meaning.specs.Operators.{unaryRows}
 use Rattle.meaning.specs.Meaning.{tableRows, rowAt, passes, scanRows, leafRows, meaning}
 use Rattle.meaning.specs.Reads.{filterColumns, leafReads, reads, Agree}
 use Rattle.meaning.specs.Narrowing.{Narrowing}
-use Rattle.meaning.proofs.Demand3.{housePass, demand3, demand3-logs}
+use Rattle.meaning.proofs.Demand3.{housePass, demand3-plain, demand3-plain-logs}
 use Rattle.version1.specs.Language.{Leaf as Leaf1, scan as scan1, empty as empty1, Plan as Plan1, leaf as leaf1, unary as unary1, binary as binary1, Catalogue as Catalogue1, fieldsOf as fieldsOf1, check as check1}
 use Rattle.version1.specs.Rewriting.{Walked as Walked1, rewrite as rewrite1}
 use Rattle.version1.specs.Rows.{leafRows as leafRows1, meaning as meaning1, leafReads as leafReads1, reads as reads1, Agree as Agree1, Narrowing as Narrowing1}
@@ -76,7 +76,7 @@ module _ (mask : ℕ) (C : Catalogue1) (p : Plan1) (ok : check1 C p 0 ≡ none) 
   accepted = check-same C p 0 ∙ ok
 
   narrows : Narrowing (upCatalogue C) (up p) (maskOf (length (fieldsOf1 C p)) is) (up (w .plan)) (w .kept)
-  narrows = rw (pass-same, fields-same C p) at (demand3 mask (upCatalogue C) (up p) accepted is)
+  narrows = rw (pass-same, fields-same C p) at (demand3-plain mask (upCatalogue C) (up p) accepted is refl)
 
   pub demand3-before : Narrowing1 C p (maskOf (length (fieldsOf1 C p)) is) (w .plan) (w .kept)
   demand3-before =
@@ -89,5 +89,5 @@ module _ (mask : ℕ) (C : Catalogue1) (p : Plan1) (ok : check1 C p 0 ≡ none) 
   pub demand3-logs-before : (D E : Log) → Agree1 C (w .plan) D E → map (select (w .kept)) (meaning1 C D p) ≡ map (select (w .kept)) (meaning1 C E p)
   demand3-logs-before D E a =
       let agree : Agree (upCatalogue C) (up (w .plan)) D E = record { counts = a .counts; columns = λ t i k. a .columns t i (subst T (reads-same C (w .plan) t i) k) } in
-      let logs = rw (pass-same) at (demand3-logs mask (upCatalogue C) (up p) accepted is D E (rw (pass-same) agree)) in
+      let logs = rw (pass-same) at (demand3-plain-logs mask (upCatalogue C) (up p) accepted is refl D E (rw (pass-same) agree)) in
       ap (map (select (w .kept))) (sym (rows-same C D p)) ∙ (logs ∙ ap (map (select (w .kept))) (rows-same C E p))

@@ -4,6 +4,7 @@ use mathlib.Core.Bool.{Bool, true, false, cond}
 use mathlib.Core.List.{List, [], _∷_, _++_, append-nil}
 use mathlib.Core.Option.{none, some}
 use Prim.Native.Nat.{ℕ, zero, suc, _+_, _*_, _/_, _%_, _^_, _<_}
+use native.Mathlib.Nat.{div-one}
 use native.Mathlib.Omega.{arith}
 use borrow.Author.Tests.{eqb-true}
 use lib.Dec.{eqb}
@@ -12,6 +13,7 @@ use Rattle.cpl.specs.Bytes.{aggBytes, binaryBytes, bytes, columnsBytes, condByt
 use Rattle.cpl.specs.Codes.{bit, joinNumber}
 use Rattle.cpl.specs.Exprs.{aggTags, binaryTags, condExprs, exprTags, itemTags, keyTags, leafTags, onTags, unaryTags, winTags}
 use Rattle.cpl.specs.Limits.{noFetch}
+use Rattle.cpl.specs.Plan.{Item}
 use Rattle.cpl.specs.Read.{pick}
 use Rattle.cpl.specs.ReadPlan.{fetchOf}
 use Rattle.cpl.specs.Tests.{iota, sumOf}
@@ -30,7 +32,8 @@ use Rattle.result.specs.Result.{unaryPart}
 use Rattle.writer_parts.specs.Lists.{chosenSum, takes}
 use Rattle.versions.specs.Versions.{versionOf}
 use Rattle.versions.specs.declared.Version.{Version}
-use Rattle.writer_parts.proofs.Lists.{all-row-tags, counted-all-rows, counted-set, counted-set-rows, list-length, set-row-tags, set-tags}
+use Rattle.writer_parts.specs.declared.Part.the-variants as parts
+use Rattle.writer_parts.proofs.Lists.{all-row-tags, counted-all-rows, counted-low-rows, counted-set, counted-set-rows, list-length, low-row-tags, set-tags}
 use Rattle.writer.specs.Shapes as Shapes
 use Rattle.writer.specs.Shapes.{keptBytes, keptTags, segBytes, segTags, shapeBytes, shapeOf, shapeTags, which}
 use Rattle.writer.proofs.Segments.{join-small}
@@ -40,18 +43,21 @@ unfolding itemsAt listAt
 items-list s c f zero = refl
 items-list s c f (suc n) = let e : suc f ≡ f + 1 = omega arith in ap (itemAt s c f ∷_) (items-list s c (suc f) n ∙ ap (λ (x : ℕ). listAt (itemAt s c) one x n) e)
 
+pub items-length : (s c : List ℕ) (f n : ℕ) → length (itemsAt s c f n) ≡ n
+items-length s c f n = ap length (items-list s c f n) ∙ list-length (itemAt s c) one f n
+
 pub iota-list : (f n : ℕ) → iota f n ≡ listAt (λ i. i) one f n
 unfolding iota listAt
 iota-list f zero = refl
 iota-list f (suc n) = let e : suc f ≡ f + 1 = omega arith in ap (f ∷_) (iota-list (suc f) n ∙ ap (λ (x : ℕ). listAt (λ i. i) one x n) e)
 
--- a set is within the list that it takes from
+-- a set is within the list that it takes from, where its ones are counted as they are
 abbrev pub NodeSet : (width set : ℕ) → Node → Type 0
 NodeSet w s (Projection f n) = Unit {0}
 NodeSet w s (Filter r) = Unit {0}
 NodeSet w s (Sort f n) = Unit {0}
 NodeSet w s (Limit k n) = Unit {0}
-NodeSet w s (Aggregate f g v) = s < 2 ^ v
+NodeSet w s (Aggregate f g v) = Unit {0}
 NodeSet w s (Window f n) = s < 2 ^ n
 NodeSet w s (SubqueryAlias q) = Unit {0}
 NodeSet w s (Union r) = Unit {0}
@@ -140,12 +146,16 @@ module _ (v : Version) (a : Arrays) (r : RequiredIndices) where
     shape-bytes (Sort f n) h z = ap (3 ∷_) (append-nil _ ∙ sym (counted-all-rows 1 (which true r) keyBytes keyTags (keyAt (a .rows) (a .cells)) f n refl))
     shape-bytes (Limit s n) h z = ap₂ _++_ (after-tag 4 4 s (omega arith)) (append-nil _ ∙ ap (bytes 4) (sym (fetch-number n)))
     shape-bytes (Aggregate f g m) h z =
+        let e = items-list (a .rows) (a .cells) f g in
+        let o = items-length (a .rows) (a .cells) f g in
         let l = list-length (aggAt (a .rows) (a .cells)) one (f + g) m in
         ap (5 ∷_)
         (ap₂ _++_
-        (sym (ap (countedBytes (v .wide) itemBytes) (items-list (a .rows) (a .cells) f g) ∙ counted-all-rows (v .wide) (which true r) itemBytes itemTags (itemAt (a .rows) (a .cells)) f g refl))
-        (sym (ap (λ (x : ℕ). countedBytes (v .wide) aggBytes (select (setMask x (setOf r)) (aggsAt (a .rows) (a .cells) (f + g) m))) l
-        ∙ counted-set-rows (v .wide) (which false r) aggBytes aggTags (aggAt (a .rows) (a .cells)) (f + g) m refl h)))
+        (sym (ap₂ (λ (x : ℕ) (is : List Item). countedBytes (v .wide) itemBytes (select (setMask x (setOf r)) is)) o e
+        ∙ counted-low-rows (itemAt (a .rows) (a .cells)) f g (setOf r) (v .wide) itemBytes
+        ∙ ap (λ (x : ℕ). Shapes.chosenList (v .wide) parts.Item (a .rows) (a .cells) f g (x % 2 ^ g)) (sym (div-one (setOf r)))))
+        (sym (ap₂ (λ (x y : ℕ). countedBytes (v .wide) aggBytes (select (setMask x (setOf r / 2 ^ y)) (aggsAt (a .rows) (a .cells) (f + g) m))) l o
+        ∙ counted-low-rows (aggAt (a .rows) (a .cells)) (f + g) m (setOf r / 2 ^ g) (v .wide) aggBytes)))
     shape-bytes (Window f n) h z =
         let l = list-length (winAt (a .rows) (a .cells)) (winSize (a .rows)) f n in
         ap (6 ∷_)
@@ -202,11 +212,15 @@ module _ (v : Version) (a : Arrays) (r : RequiredIndices) (w : ℕ) where
   shape-tags (Sort f n) = none-after _ ∙ sym (all-row-tags (which true r) keyBytes keyTags (keyAt (a .rows) (a .cells)) f n refl)
   shape-tags (Limit s n) = refl
   shape-tags (Aggregate f g m) =
+      let e = items-list (a .rows) (a .cells) f g in
+      let o = items-length (a .rows) (a .cells) f g in
       let l = list-length (aggAt (a .rows) (a .cells)) one (f + g) m in
       ap₂ _+_
-      (sym (ap (sumOf itemTags) (items-list (a .rows) (a .cells) f g) ∙ all-row-tags (which true r) itemBytes itemTags (itemAt (a .rows) (a .cells)) f g refl))
-      (sym (ap (λ (x : ℕ). sumOf aggTags (select (setMask x (setOf r)) (aggsAt (a .rows) (a .cells) (f + g) m))) l
-      ∙ set-row-tags (which false r) aggBytes aggTags (aggAt (a .rows) (a .cells)) (f + g) m refl))
+      (sym (ap₂ (λ (x : ℕ) (is : List Item). sumOf itemTags (select (setMask x (setOf r)) is)) o e
+      ∙ low-row-tags (itemAt (a .rows) (a .cells)) f g (setOf r) itemTags
+      ∙ ap (λ (x : ℕ). Shapes.chosenTags parts.Item (a .rows) (a .cells) f g (x % 2 ^ g)) (sym (div-one (setOf r)))))
+      (sym (ap₂ (λ (x y : ℕ). sumOf aggTags (select (setMask x (setOf r / 2 ^ y)) (aggsAt (a .rows) (a .cells) (f + g) m))) l o
+      ∙ low-row-tags (aggAt (a .rows) (a .cells)) (f + g) m (setOf r / 2 ^ g) aggTags))
   shape-tags (Window f n) =
       let l = list-length (winAt (a .rows) (a .cells)) (winSize (a .rows)) f n in
       none-after _

@@ -3,7 +3,7 @@ use mathlib.Core.Path.{_≡_, refl, sym, ap, subst, _∙_}
 use mathlib.Core.Bool.{Bool, true, false}
 use mathlib.Core.List.{List}
 use mathlib.Core.Option.{Option, none, some}
-use Prim.Native.Nat.{ℕ, _+_, _^_, _<_}
+use Prim.Native.Nat.{ℕ, _^_, _<_}
 use lib.ListN.{length, length-map}
 use Rattle.cpl.specs.Bytes.{leafBytes}
 use Rattle.cpl.specs.Fields.{columnsOf, leafFields, scanField}
@@ -16,7 +16,7 @@ use Rattle.cpl.specs.Tests.{iota}
 use Rattle.rules.specs.Mask.{select}
 use Rattle.rules.specs.Rules.{leafRule}
 use Rattle.required_indices.specs.Set.{setMask}
-use Rattle.tree.specs.Rows.{aggAt, listAt, numberAt, one, winAt, winSize}
+use Rattle.tree.specs.Rows.{listAt, numberAt, one, winAt, winSize}
 use Rattle.tree.specs.Tree.{Arrays, headOf, if?}
 use Rattle.tree.specs.declared.Node.{Node}
 use Rattle.tree.specs.declared.Node.the-variants.{Projection, Filter, Sort, Limit, Aggregate, Window, SubqueryAlias, Union, Distinct, Join, Scan, Empty}
@@ -78,7 +78,7 @@ module _ (C : Catalogue) (w s : ℕ) where
     node-set (Filter x) e h = tt
     node-set (Sort f n) e h = tt
     node-set (Limit k n) e h = tt
-    node-set (Aggregate f g v) e h = subst (λ (x : ℕ). s < 2 ^ x) (list-length (aggAt (a .rows) (a .cells)) one (f + g) v) h
+    node-set (Aggregate f g v) e h = tt
     node-set (Window f n) e h = subst (λ (x : ℕ). s < 2 ^ x) (list-length (winAt (a .rows) (a .cells)) (winSize (a .rows)) f n) h
     node-set (SubqueryAlias q) e h = tt
     node-set (Union x) e h = tt

@@ -1,16 +1,22 @@
 -- A head from its number and its two segments: how long it is, and how it came about. Assumes nothing.
-use mathlib.Core.Path.{_≡_, refl, sym, _∙_}
+use mathlib.Core.Path.{_≡_, refl, sym, ap, _∙_}
+use mathlib.Core.Bool.{false}
 use mathlib.Core.List.{List, _∷_, _++_, append-assoc}
 use Prim.Native.Nat.{ℕ, _+_, _-_, _<_}
 use native.Mathlib.Omega.{arith}
 use lib.ListN.{length, take, drop, length-append}
 use Rattle.cpl.specs.Bytes.{bytes}
 use Rattle.cpl.specs.Codes.{joinNumber}
+use Rattle.required_indices.specs.Request.{setOf}
+use Rattle.required_indices.specs.declared.RequiredIndices.{RequiredIndices}
 use Rattle.tree.specs.Node.{joinIs}
 use Rattle.tree.specs.declared.JoinType.{JoinType}
 use Rattle.tree.specs.declared.JoinType.the-variants.{Inner, Left, Right, Full, LeftSemi, LeftAnti, RightSemi, RightAnti}
+use Rattle.writer_parts.specs.Lists.{countedList, listTags}
 use Rattle.writer_parts.specs.Wrote.{Laid, Wrote}
+use Rattle.writer_parts.specs.declared.Part.{Part}
 use Rattle.writer_parts.proofs.Over.{length-bytes, part, so, start, then}
+use Rattle.writer.specs.Shapes.{chosenList, chosenTags, which}
 
 module _ (k x : ℕ) (v w : List ℕ) where
   pub three-length : length (bytes k x ++ (v ++ w)) ≡ k + (length v + length w)
@@ -26,6 +32,14 @@ pub after-mark : {xs o v ys : List ℕ} {a m : ℕ} → Laid 0 (bytes 1 1) 1 xs 
     Wrote (1 ∷ v) xs (a + m) (take a o ++ (ys ++ drop (length o - a) (drop a o)))
 unfolding bytes
 after-mark l w = so (part (then start l) w) refl refl
+
+-- a list at a set of its own
+module _ (k : ℕ) (p : Part) (s c : List ℕ) (f n : ℕ) (own : RequiredIndices) {x : ℕ} (e : setOf own ≡ x) where
+  pub own-list : countedList k p s c f n (which false own) ≡ chosenList k p s c f n x
+  own-list = ap (chosenList k p s c f n) e
+
+  pub own-tags : listTags p s c f n (which false own) ≡ chosenTags p s c f n x
+  own-tags = ap (chosenTags p s c f n) e
 
 -- a join's type is a number below eight
 pub join-small : (t : JoinType) → joinNumber (joinIs t) < 8

@@ -3,7 +3,7 @@ use mathlib.Core.Path.{_≡_, refl, ap}
 use mathlib.Core.Bool.{Bool, true, false}
 use mathlib.Core.List.{List, [], _∷_, _++_}
 use mathlib.Core.Option.{Option, none, some}
-use Prim.Native.Nat.{ℕ, _+_, _*_, _<_, _≤_}
+use Prim.Native.Nat.{ℕ, _+_, _*_, _/_, _^_, _<_, _≤_}
 use native.Mathlib.Omega.{arith}
 use lib.ListN.{length, length-append}
 use Rattle.cpl.specs.Bytes.{aggBytes, binaryBytes, bytes, callBytes, callNumber, columnsBytes, condBytes, countedBytes, exprBytes, fetchNumber, itemBytes, keyBytes, leafBytes, onBytes, pairBytes, unaryBytes, winBytes}
@@ -195,7 +195,7 @@ module _ (v : Version) (t : Small v) where
     part-few (filter e) f = tt
     part-few (sort ks) f = tt
     part-few (limit k n) f = tt
-    part-few (aggregate gs vs) f = (omega (arith, t .items-small, f .1 .0), omega (arith, t .items-small, f .2 .0, fewer (setMask (length vs) s) vs))
+    part-few (aggregate gs vs) f = (omega (arith, t .items-small, f .1 .0, fewer (setMask (length gs) s) gs), omega (arith, t .items-small, f .2 .0, fewer (setMask (length vs) (s / 2 ^ length gs)) vs))
     part-few (window ws) f = omega (arith, t .items-small, f .1 .0, fewer (setMask (length ws) s) ws)
     part-few (subqueryAlias q) f = tt
     part-few distinct f = tt
@@ -235,7 +235,7 @@ module _ (w s : ℕ) where
   part-tags (filter e) = omega arith
   part-tags (sort ks) = omega arith
   part-tags (limit k n) = omega arith
-  part-tags (aggregate gs vs) = omega (arith, fewer-tags aggTags (setMask (length vs) s) vs)
+  part-tags (aggregate gs vs) = omega (arith, fewer-tags itemTags (setMask (length gs) s) gs, fewer-tags aggTags (setMask (length vs) (s / 2 ^ length gs)) vs)
   part-tags (window ws) = omega (arith, fewer-tags winTags (setMask (length ws) s) ws)
   part-tags (subqueryAlias q) = omega arith
   part-tags distinct = omega arith

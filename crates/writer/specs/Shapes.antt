@@ -2,7 +2,8 @@
 use mathlib.Core.Bool.{Bool, true, false}
 use mathlib.Core.List.{List, [], _∷_, _++_}
 use mathlib.Core.Option.{Option, none, some}
-use Prim.Native.Nat.{ℕ, _+_, _*_, _%_, _^_, _<_}
+use Prim.Native.Nat.{ℕ, _+_, _*_, _/_, _%_, _^_, _<_}
+use lib.Count.{ones}
 use lib.ListN.{length}
 use Rattle.cpl.specs.Bytes.{binaryBytes, bytes, exprBytes, leafBytes, unaryBytes}
 use Rattle.cpl.specs.Codes.{bit, joinNumber}
@@ -13,7 +14,8 @@ use Rattle.cpl.specs.ReadPlan.{Head, h0, h1, h2}
 use Rattle.cpl.specs.Tests.{iota}
 use Rattle.rules.specs.Mask.{select}
 use Rattle.arena.specs.Cells.{exprAt, Wf}
-use Rattle.required_indices.specs.Set.{setMask}
+use Rattle.required_indices.specs.Set.{has, setMask}
+use Rattle.required_indices.specs.Request.{setOf}
 use Rattle.required_indices.specs.declared.RequiredIndices.{RequiredIndices}
 use Rattle.tree.specs.Node.{joinIs}
 use Rattle.tree.specs.declared.JoinNode.{JoinNode}
@@ -22,17 +24,30 @@ use Rattle.tree.specs.declared.Node.{Node}
 use Rattle.tree.specs.declared.Node.the-variants.{Projection, Filter, Sort, Limit, Aggregate, Window, SubqueryAlias, Union, Distinct, Join, Scan, Empty}
 use Rattle.result.specs.Result.{unaryPart}
 use Rattle.versions.specs.declared.Version.{Version}
-use Rattle.writer_parts.specs.Lists.{PartsOk, WinsOk, countedList, listTags, takenCount, winsBytes, winsTags}
+use Rattle.writer_parts.specs.Lists.{PartsOk, WinsOk, chosen, chosenSum, countedList, listTags, takenCount, winsBytes, winsTags}
+use Rattle.writer_parts.specs.Parts.{partBytes, partTags}
+use Rattle.writer_parts.specs.declared.Part.{Part}
 use Rattle.writer_parts.specs.declared.Part.the-variants as parts
 use Rattle.writer_parts.specs.declared.Part.the-variants.{Agg, Column, Index, Item, Key, On, Pair}
 use Rattle.writer_parts.specs.declared.Which.{Which}
 use Rattle.writer.specs.declared.Segment.{Segment}
-use Rattle.writer.specs.declared.Segment.the-variants.{Absent, Expr, Nothing, Present, Wins, Word}
+use Rattle.writer.specs.declared.Segment.the-variants.{Absent, Chosen, Expr, Nothing, Present, Wins, Word}
 use Rattle.writer.specs.declared.Segment.the-variants
 use Rattle.writer.specs.declared.Shape.{Shape}
 
 abbrev pub which : Bool → RequiredIndices → Which
 which b r = record { all = b; set = r }
+
+-- the n indices of a set from `from` on, counted from there
+abbrev pub partOf : (set from n : ℕ) → ℕ
+partOf s from n = s / 2 ^ from % 2 ^ n
+
+-- a count of k bytes, and those of n rows that a set has
+abbrev pub chosenList : (k : ℕ) → Part → (rows cells : List ℕ) (first n set : ℕ) → List ℕ
+chosenList k p s c f n set = bytes k (ones set) ++ chosen (λ i. partBytes p s c (f + i)) (has set) 0 n
+
+abbrev pub chosenTags : Part → (rows cells : List ℕ) (first n set : ℕ) → ℕ
+chosenTags p s c f n set = chosenSum (λ i. partTags p s c (f + i)) (has set) 0 n
 
 abbrev pub segBytes : Segment → (rows cells : List ℕ) → RequiredIndices → List ℕ
 segBytes Nothing s c r = []
@@ -42,6 +57,7 @@ segBytes (Expr x) s c r = exprBytes (exprAt c x)
 segBytes (Present x) s c r = 1 ∷ exprBytes (exprAt c x)
 segBytes Absent s c r = 0 ∷ []
 segBytes (Word x) s c r = bytes 4 x
+segBytes (Chosen k p from f n) s c r = chosenList k p s c f n (partOf (setOf r) from n)
 
 abbrev pub segTags : Segment → (rows cells : List ℕ) → RequiredIndices → ℕ
 segTags Nothing s c r = 0
@@ -51,6 +67,7 @@ segTags (Expr x) s c r = exprTags (exprAt c x)
 segTags (Present x) s c r = exprTags (exprAt c x)
 segTags Absent s c r = 0
 segTags (Word x) s c r = 0
+segTags (Chosen k p from f n) s c r = chosenTags p s c f n (partOf (setOf r) from n)
 
 -- its rows lie in the array
 abbrev pub SegOk : Segment → (rows cells : List ℕ) → RequiredIndices → Type 0
@@ -61,6 +78,7 @@ SegOk (Expr x) s c r = Wf c (x + 1)
 SegOk (Present x) s c r = Wf c (x + 1)
 SegOk Absent s c r = Unit {0}
 SegOk (Word x) s c r = Unit {0}
+SegOk (Chosen k p from f n) s c r = PartsOk p s c f n
 
 abbrev pub shapeBytes : Shape → (rows cells : List ℕ) → RequiredIndices → List ℕ
 shapeBytes h s c r = bytes (h .k) (h .x) ++ (segBytes (h .first) s c r ++ segBytes (h .second) s c r)
@@ -123,7 +141,7 @@ shapeOf v (Projection f n) w = headShape 1 1 (the-variants.List (v .wide) Item f
 shapeOf v (Filter r) w = headShape 1 2 (Expr r) Nothing
 shapeOf v (Sort f n) w = headShape 1 3 (the-variants.List 1 Key f n true) Nothing
 shapeOf v (Limit s n) w = headShape 5 (s * 256 + 4) (Word n) Nothing
-shapeOf v (Aggregate f g m) w = headShape 1 5 (the-variants.List (v .wide) Item f g true) (the-variants.List (v .wide) Agg (f + g) m false)
+shapeOf v (Aggregate f g m) w = headShape 1 5 (Chosen (v .wide) Item 0 f g) (Chosen (v .wide) Agg g (f + g) m)
 shapeOf v (Window f n) w = headShape 1 6 (Wins (v .wide) f n) Nothing
 shapeOf v (SubqueryAlias q) w = headShape 3 (q * 256 + 7) Nothing Nothing
 shapeOf v (Union r) w = headShape 1 8 Nothing Nothing

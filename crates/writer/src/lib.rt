@@ -17,16 +17,17 @@ ghost use lib.ListN.{length, take};
 ghost use Rattle.cpl.specs.Bytes.{planBytes};
 ghost use Rattle.cpl.specs.Codes.{joinNumber};
 ghost use Rattle.cpl.specs.Exprs.{planTags};
+ghost use Rattle.required_indices.specs.Request.{flagOf, Holds, setOf};
 ghost use Rattle.result.specs.Records.{recordAt};
 ghost use Rattle.result.specs.Result.{recordN};
 ghost use Rattle.tree.specs.Node.{joinIs};
 ghost use Rattle.versions.specs.Versions.{versionOf};
 ghost use Rattle.writer_parts.specs.Wrote.{Countable, Counts, Wrote};
 ghost use Rattle.writer.specs.Plans.{headTags, inputsOf, nodeInputs, oneInput, planHead, planOf, recordShape, Shaped, Taken, twoInputs, Writes};
-ghost use Rattle.writer.specs.Shapes.{emptyShape, headShape, joinShape, scanShape, segBytes, SegOk, segTags, shapeBytes, shapeOf, ShapeOk, shapeTags, Sums};
+ghost use Rattle.writer.specs.Shapes.{emptyShape, headShape, joinShape, partOf, scanShape, segBytes, SegOk, segTags, shapeBytes, shapeOf, ShapeOk, shapeTags, Sums};
 
 /// A part of a node's head that is no number of a known width: a list behind its count of `count` bytes, all of it or at the set; windows at
-/// the set; an expression; a condition that is there, or not; a number of four bytes.
+/// the set; an expression; a condition that is there, or not; a number of four bytes; a list at that part of the set that begins at `from`.
 pub enum Segment {
     Nothing,
     List {
@@ -45,6 +46,13 @@ pub enum Segment {
     Present(usize),
     Absent,
     Word(u64),
+    Chosen {
+        count: usize,
+        part: Part,
+        from: usize,
+        first: usize,
+        n: usize,
+    },
 }
 
 /// A node's head: the k lowest bytes of x, and two segments.
@@ -186,13 +194,19 @@ pub fn shape_of(node: Node, width: usize, version: Version) -> Shape
             Shape {
                 k: 1,
                 x: 5,
-                first: all_of(version.wide, Part::Item, first, groups),
-                second: Segment::List {
+                first: Segment::Chosen {
+                    count: version.wide,
+                    part: Part::Item,
+                    from: 0,
+                    first,
+                    n: groups,
+                },
+                second: Segment::Chosen {
                     count: version.wide,
                     part: Part::Agg,
+                    from: groups,
                     first: behind,
                     n: aggregates,
-                    all: false,
                 },
             }
         }
@@ -227,6 +241,16 @@ fn all_of(count: usize, part: Part, first: usize, n: usize) -> Segment
         n,
         all: true,
     }
+}
+
+// The n indices of a set from `from` on, counted from there.
+fn part_of(set: RequiredIndices, from: usize, n: usize) -> RequiredIndices
+    ensures { λ r. ⌜ Holds r (partOf (setOf set) from n) (flagOf set) ⌝ }
+{
+    let split = set.split_off(from);
+    let rest = split.rest;
+    let own = rest.split_off(n);
+    own.below
 }
 
 /// A segment of a head.
@@ -279,6 +303,19 @@ pub fn write_segment(
         }
         Segment::Absent => writer_parts::put_at(out, 0, 1, 0),
         Segment::Word(x) => writer_parts::put_at(out, 0, 4, x),
+        Segment::Chosen {
+            count,
+            part,
+            from,
+            first,
+            n,
+        } => {
+            let own = Which {
+                all: false,
+                set: part_of(set, from, n),
+            };
+            writer_parts::write_counted(count, part, rows, cells, first, n, own, out)
+        }
     }
 }
 
@@ -308,6 +345,19 @@ pub fn segment_size(segment: Segment, rows: &[u16], cells: &[u64], set: Required
         Segment::Present(root) => writer_parts::both(one, writer_parts::expr_size(cells, root)),
         Segment::Absent => one,
         Segment::Word(_) => Size { bytes: 4, tags: 0 },
+        Segment::Chosen {
+            count,
+            part,
+            from,
+            first,
+            n,
+        } => {
+            let own = Which {
+                all: false,
+                set: part_of(set, from, n),
+            };
+            writer_parts::counted_size(count, part, rows, cells, first, n, own)
+        }
     }
 }
 

@@ -3,20 +3,21 @@
 use mathlib.Core.Path.{_≡_, refl, sym, ap, ap₂, _∙_}
 use mathlib.Core.Bool.{Bool, true, false, cond}
 use mathlib.Core.List.{List, [], _∷_, _++_, append-assoc, append-nil}
-use Prim.Native.Nat.{ℕ, zero, suc, _+_, _-_, _/_, _^_, _<_, _≤_}
-use native.Mathlib.Nat.{div-one}
+use Prim.Native.Nat.{ℕ, zero, suc, _+_, _-_, _/_, _%_, _^_, _<_, _≤_}
+use native.Mathlib.Nat.{div-one, mod-lt}
 use native.Mathlib.Omega.{arith}
 use lib.Count.{ones}
 use lib.ListN.{length, take, drop, length-append}
+use lib.Pow.{pow-pos}
 use Rattle.cpl.specs.Bytes.{bytes, countedBytes}
 use Rattle.cpl.specs.Tests.{concatMap, sumOf}
 use Rattle.cpl.proofs.Lists.{length-Fit}
-use Rattle.rules.specs.Mask.{select}
+use Rattle.rules.specs.Mask.{Mask, select}
 use Rattle.rules.proofs.Masks.{length-select}
 use Rattle.required_indices.specs.Set.{has, odd, setMask}
 use Rattle.required_indices.specs.Request.{setOf}
-use Rattle.required_indices.proofs.Masks.{mask-count, mask-length}
-use Rattle.required_indices.proofs.Members.{has-add}
+use Rattle.required_indices.proofs.Masks.{mask-count, mask-ext, mask-length}
+use Rattle.required_indices.proofs.Members.{has-add, has-mod}
 use Rattle.tree.specs.Rows.{EachOk, listAt, one}
 use Rattle.writer_parts.specs.Wrote.{Counts, Laid, Wrote}
 use Rattle.writer_parts.specs.Lists.{PartsOk, chosen, chosenSum, rowFrom, takenCount, takes}
@@ -264,6 +265,24 @@ module _ (k : ℕ) (w : Which) {A : Type 0} (f : A → List ℕ) (g : A → ℕ)
   pub counted-set-rows : w .all ≡ false → setOf (w .set) < 2 ^ n →
       countedBytes k f (select (setMask n (setOf (w .set))) (listAt read one first n)) ≡ bytes k (takenCount w n) ++ chosen (λ i. f (read (first + i))) (takes w) 0 n
   counted-set-rows e h = counted-set k w f g read one first n e h ∙ ap (λ (x : List ℕ). bytes k (takenCount w n) ++ x) (by-row w f g read first n)
+
+-- the things that the first n indices of a set take: no bound on the set is needed
+module _ {A : Type 0} (read : ℕ → A) (first n s : ℕ) where
+  low-mask : setMask n s ≡ setMask n (s % 2 ^ n)
+  low-mask = sym (mask-ext n (s % 2 ^ n) s (λ i l. has-mod s n i l))
+
+  pub low-row-tags : (g : A → ℕ) → sumOf g (select (setMask n s) (listAt read one first n)) ≡ chosenSum (λ i. g (read (first + i))) (has (s % 2 ^ n)) 0 n
+  low-row-tags g =
+      ap (λ (M : Mask). sumOf g (select M (listAt read one first n))) low-mask ∙ set-summed read one g first n (s % 2 ^ n)
+      ∙ sum-same (λ j. ap (λ (x : ℕ). g (read x)) (row-one first j)) (λ j. refl) 0 n
+
+  pub counted-low-rows : (k : ℕ) (f : A → List ℕ) →
+      countedBytes k f (select (setMask n s) (listAt read one first n)) ≡ bytes k (ones (s % 2 ^ n)) ++ chosen (λ i. f (read (first + i))) (has (s % 2 ^ n)) 0 n
+  unfolding countedBytes
+  counted-low-rows k f =
+      ap (λ (M : Mask). countedBytes k f (select M (listAt read one first n))) low-mask
+      ∙ ap₂ (λ (x : ℕ) (y : List ℕ). bytes k x ++ y) (set-count n (s % 2 ^ n) (listAt read one first n) (list-length read one first n) (mod-lt s (pow-pos n)))
+      (set-listed read one f first n (s % 2 ^ n) ∙ chosen-same (λ j. ap (λ (x : ℕ). f (read x)) (row-one first j)) (λ j. refl) 0 n)
 
 -- rows of which each is so
 pub each-ok : {p : Part} {s cells : List ℕ} {first n : ℕ} → EachOk (PartOk p s cells) s first n → length s < 2 ^ 64 → PartsOk p s cells first n

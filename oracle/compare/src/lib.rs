@@ -1,14 +1,7 @@
-//! The library's answer to a case, by both of its forms, and what a comparison with the texts shows.
-mod command;
-mod shrink;
-
-pub use command::{ended, numbers};
-pub use shrink::shrink;
-
+//! The library's answer to a case, by both of its forms, as the model gives its own.
 use generator::Case;
-use simmerroof::{Kind, Mode, Pruner, Refusal};
-
-pub type Answer = Result<Vec<u8>, Refusal>;
+use model::{Answer, Fault};
+use simmerroof::{Mode, Pruner};
 
 pub struct Library {
     slip: bool,
@@ -54,36 +47,9 @@ impl Library {
             self.plain[80] ^= 1;
         }
         let answer = plain.map(|n| self.plain[..n].to_vec());
+        let answer = answer.map_err(|f| Fault { code: f.kind.code() as u64, place: f.place as u64 });
         self.plain[..n].fill(UNTOUCHED);
         self.lent[..n].fill(UNTOUCHED);
         answer
-    }
-}
-
-#[derive(Debug, Clone, Copy, PartialEq, Eq)]
-pub enum Verdict {
-    Equal,
-    /// docs/DIFFERENCES.md, "A stale schema over an Empty leaf"
-    Stale,
-    /// document 01's limits, which the texts do not have
-    Limit,
-    Unexplained,
-}
-
-pub fn verdict(case: &Case, texts: &Result<Vec<u8>, String>, library: &Answer) -> Verdict {
-    let request = case.request.as_deref();
-    let large = |f: model::Fault| f.code == 12;
-    match (texts, library) {
-        (Ok(t), Ok(l)) if t == l => Verdict::Equal,
-        (Ok(t), Ok(l)) => {
-            let here = model::answer(0, case.mask, &case.file, request, usize::MAX);
-            let known = model::answer_stale(case.mask, &case.file, request);
-            if Ok(t) == known.as_ref() && Ok(l) == here.as_ref() { Verdict::Stale } else { Verdict::Unexplained }
-        }
-        (_, Err(Refusal { kind: Kind::Large, .. })) => {
-            let here = model::answer(0, case.mask, &case.file, request, usize::MAX);
-            if here.is_err_and(large) { Verdict::Limit } else { Verdict::Unexplained }
-        }
-        _ => Verdict::Unexplained,
     }
 }

@@ -17,15 +17,15 @@ pub struct Mix {
     pub wide: bool,
     /// how many of a hundred files are of version 2
     pub second: usize,
-    /// tables of version 2 may have keys
-    pub keys: bool,
+    /// how many of a hundred tables of version 2 have a key, and how many of the plans over keys have an Aggregate at or near the root
+    pub keys: usize,
     pub most_nodes: usize,
     /// of version 2 four times as many
     pub most_bytes: usize,
 }
 
 /// Of a hundred cases some 20 are chains of projections, one of them doubling its list; 25 have Empties among their leaves;
-/// 8 have broad tables, of version 2 20; half refer to fields by their names alone too; half ask for all fields. Where no file of version 2 is
+/// 8 have broad tables, of version 2 20; half refer to fields by their names alone too; half ask for all fields, with keys 15. Where no file of version 2 is
 /// wanted nothing is drawn for it, so that a seed gives the cases that it gave.
 pub fn case(r: &mut Random, mix: Mix) -> Case {
     loop {
@@ -36,8 +36,10 @@ pub fn case(r: &mut Random, mix: Mix) -> Case {
         let shape = r.below(100);
         let depth = *r.pick(&[1, 2, 3, 4, 5, 6, 7, 9, 12, 16]);
         let alone = r.percent(50);
-        let mut maker = Maker { r, catalogue, empties, alone, wide: mix.wide };
+        let keyed = !catalogue.keys.is_empty();
+        let mut maker = Maker { r, catalogue, empties, alone, keyed, wide: mix.wide };
         let (plan, _) = match shape {
+            _ if keyed && maker.r.percent(mix.keys) => maker.grouped(depth),
             0 => maker.doubling(),
             1..20 => maker.chain(),
             _ => maker.plan(depth, false),
@@ -58,7 +60,8 @@ pub fn case(r: &mut Random, mix: Mix) -> Case {
             4 => 4095,
             _ => r.below(4096) as u16,
         };
-        let request = r.percent(50).then(|| r.subset(fields.len()).into_iter().map(|i| i as u16).collect());
+        let some = r.percent(if keyed { 85 } else { 50 });
+        let request = some.then(|| r.subset(fields.len()).into_iter().map(|i| i as u16).collect());
         return Case { mask, request, file: bytes };
     }
 }

@@ -12,6 +12,8 @@ pub struct Maker<'a> {
     pub empties: usize,
     /// also references by their name alone
     pub alone: bool,
+    /// there are keys: groups and projections are often made of them
+    pub keyed: bool,
     pub wide: bool,
 }
 
@@ -31,11 +33,16 @@ pub fn catalogue(r: &mut Random, broad: bool, second: bool, mix: Mix) -> Catalog
         tables[t].extend(twice);
     }
     let mut keys: Vec<TableKey> = vec![];
-    for (t, names) in tables.iter().enumerate() {
-        if mix.keys && !names.is_empty() && r.percent(40) {
+    for (t, names) in tables.iter_mut().enumerate() {
+        if mix.keys > 0 && !names.is_empty() && r.percent(mix.keys) {
+            if r.percent(60) {
+                // enough columns for groups beside the key
+                let more: Vec<u16> = (1..=8).filter(|n| !names.contains(n)).collect();
+                names.extend(more.into_iter().take(5usize.saturating_sub(names.len())));
+            }
             let mut columns: Vec<u16> = r.subset(names.len()).into_iter().map(|i| i as u16).collect();
             r.shuffle(&mut columns);
-            columns.truncate(if columns.len() > 20 { columns.len() } else { r.between(1, 3) });
+            columns.truncate(if columns.len() > 20 { columns.len() } else { *r.pick(&[1, 1, 1, 2, 2, 3]) });
             keys.push(TableKey { table: t as u8, columns: if columns.is_empty() { vec![0] } else { columns } });
         }
     }
@@ -84,6 +91,31 @@ const KINDS: [&str; 17] = [
     "alias",
     "union",
     "distinct",
+    "join",
+    "join",
+];
+
+/// What is put over a scan with a key.
+const PASSED: [&str; 21] = [
+    "projection",
+    "projection",
+    "projection",
+    "projection",
+    "filter",
+    "filter",
+    "filter",
+    "sort",
+    "sort",
+    "limit",
+    "limit",
+    "alias",
+    "alias",
+    "alias",
+    "window",
+    "distinct",
+    "union",
+    "join",
+    "join",
     "join",
     "join",
 ];
@@ -159,6 +191,7 @@ impl Maker<'_> {
             return self.projection(child, fields);
         }
         let seen = self.references(&fields);
+        let made_of = if kind == "aggregate" { self.key_items(&child, &fields, 85) } else { None };
         let r = &mut *self.r;
         match kind {
             "filter" => (Plan::Filter(expr(r, &seen, 2), Box::new(child)), fields),
@@ -169,7 +202,7 @@ impl Maker<'_> {
             }
             "aggregate" => {
                 let n = r.between(0, 2);
-                let groups = items(r, &seen, n);
+                let groups = made_of.unwrap_or_else(|| items(r, &seen, n));
                 let mut shown: Vec<Pair> = groups.iter().map(|i| i.pair).collect();
                 let mut measures = vec![];
                 for _ in 0..r.between(groups.is_empty() as usize, 3) {
@@ -208,7 +241,7 @@ impl Maker<'_> {
     fn projection(&mut self, child: Plan, fields: Vec<Pair>) -> Made {
         let again = match &child {
             Plan::Projection(list, _) if self.r.percent(20) && uses_only(list, &fields) => Some(list.clone()),
-            _ => None,
+            _ => self.key_items(&child, &fields, 75),
         };
         let few = *self.r.pick(&[0, 1, 1, 2, 2, 3, 4]);
         let n = if fields.len() > 20 && self.r.percent(60) { self.r.between(10, fields.len()) } else { few };
@@ -218,6 +251,108 @@ impl Maker<'_> {
         });
         let shown = list.iter().map(|i| i.pair).collect();
         (Plan::Projection(list, Box::new(child)), shown)
+    }
+
+    /// So many times of a hundred, where there are keys: a list with the columns of one that document 02 or the Rust sees here, at times not all of them,
+    /// and up to four other items, mostly bare columns.
+    fn key_items(&mut self, child: &Plan, fields: &[Pair], percent: usize) -> Option<Vec<Item>> {
+        if !self.keyed || !self.r.percent(percent) {
+            return None;
+        }
+        let mut keys = determining(child, &self.catalogue, Ways::NONE);
+        if keys.is_empty() || self.r.percent(20) {
+            keys = determining(child, &self.catalogue, Ways::ALL);
+        }
+        let mut key = if keys.is_empty() { vec![] } else { self.r.pick(&keys).clone() };
+        if self.r.percent(7) {
+            key.pop();
+        }
+        let seen = self.references(fields);
+        let mut list: Vec<Item> = vec![];
+        for at in key {
+            let written: Vec<Pair> = seen.iter().copied().filter(|p| find(*p, fields) == Some(at)).collect();
+            let pair = if self.r.percent(90) { fields[at] } else { *self.r.pick(&written) };
+            self.add(&mut list, Expr::Column(pair), 93);
+        }
+        for _ in 0..self.r.between(1, 4) {
+            if fields.is_empty() || self.r.percent(5) {
+                let e = expr(self.r, &seen, 1);
+                self.add(&mut list, e, 0);
+            } else {
+                let pair = if self.r.percent(90) { *self.r.pick(fields) } else { *self.r.pick(&seen) };
+                self.add(&mut list, Expr::Column(pair), 95);
+            }
+        }
+        self.r.shuffle(&mut list);
+        Some(list)
+    }
+
+    /// One more item, if its pair clashes with none: a bare column so many times of a hundred, else an alias, new or of a column that is referred to.
+    fn add(&mut self, list: &mut Vec<Item>, e: Expr, bare: usize) {
+        let used: Vec<Pair> = list.iter().map(|i| i.pair).collect();
+        let item = match e {
+            Expr::Column(p) if self.r.percent(bare) => Item::column(p),
+            Expr::Column(p) if self.r.percent(30) => Item::alias(p, Expr::Column(p)),
+            e => Item::alias(fresh(self.r, &used), e),
+        };
+        if !clashes(&used, item.pair) {
+            list.push(item);
+        }
+    }
+
+    /// An Aggregate, mostly over nodes that a key may pass, with up to two nodes above it.
+    pub fn grouped(&mut self, depth: usize) -> Made {
+        let input = if self.r.percent(90) { self.keyed_input() } else { self.plan(depth.min(7) - 1, true) };
+        let mut made = self.unary("aggregate", input, false);
+        for _ in 0..self.r.between(0, 2) {
+            let kind = *self.r.pick(&["projection", "projection", "filter", "sort", "limit", "alias", "distinct"]);
+            made = self.unary(kind, made, false);
+        }
+        made
+    }
+
+    /// A scan of a table with a key, all of which it reads.
+    fn keyed_leaf(&mut self) -> Made {
+        let TableKey { table, columns: key } = self.r.pick(&self.catalogue.keys).clone();
+        let names = self.catalogue.tables[table as usize].clone();
+        let twice = |list: &[u16]| clash(&list.iter().map(|i| (1, names[*i as usize])).collect::<Vec<_>>());
+        let all: Vec<u16> = (0..names.len() as u16).collect();
+        let columns = if self.r.percent(50) && !twice(&all) {
+            None
+        } else {
+            let mut list = key;
+            for i in self.r.subset(names.len()).into_iter().map(|i| i as u16) {
+                if !list.iter().any(|j| names[*j as usize] == names[i as usize]) {
+                    list.push(i);
+                }
+            }
+            if twice(&list) {
+                return self.leaf();
+            }
+            self.r.shuffle(&mut list);
+            Some(list)
+        };
+        let qualifier = self.r.between(1, 3) as u16;
+        let filters = self.filters(table, qualifier);
+        let plan = Plan::Scan { table, qualifier, columns, filters };
+        let fields = fields(&plan, &self.catalogue);
+        (plan, fields)
+    }
+
+    /// Up to six nodes over a scan with a key, which passes most of them in document 02 or in the Rust, and no Union.
+    fn keyed_input(&mut self) -> Made {
+        let mut made = self.keyed_leaf();
+        for _ in 0..*self.r.pick(&[0, 0, 1, 1, 2, 2, 3, 4, 6]) {
+            made = match *self.r.pick(&PASSED) {
+                "join" => {
+                    let other = if self.r.percent(60) { self.keyed_leaf() } else { self.plan(2, true) };
+                    if self.r.percent(50) { self.joined(made, other) } else { self.joined(other, made) }
+                }
+                "union" => self.united(made, 3, true),
+                kind => self.unary(kind, made, true),
+            };
+        }
+        made
     }
 
     /// Projections over a leaf, some of them equal to the one beneath.
@@ -241,7 +376,12 @@ impl Maker<'_> {
     }
 
     fn union(&mut self, depth: usize, under: bool) -> Made {
-        let (first, fields) = self.plan(depth - 1, under);
+        let first = self.plan(depth - 1, under);
+        self.united(first, depth, under)
+    }
+
+    /// With itself, or with another plan brought to the same pairs.
+    fn united(&mut self, (first, fields): Made, depth: usize, under: bool) -> Made {
         let second = if self.r.percent(30) {
             first.clone()
         } else {
@@ -270,8 +410,13 @@ impl Maker<'_> {
     fn join(&mut self, depth: usize, under: bool) -> Made {
         let less = |r: &mut Random| depth.saturating_sub(1 + if depth > 3 { r.below(3) } else { 0 });
         let (d, e) = (less(self.r), less(self.r));
-        let (left, lf) = self.plan(d, under);
-        let (mut right, mut rf) = self.plan(e, under);
+        let left = self.plan(d, under);
+        let right = self.plan(e, under);
+        self.joined(left, right)
+    }
+
+    /// The right side renamed where names clash; the left side alone where they still do.
+    fn joined(&mut self, (left, lf): Made, (mut right, mut rf): Made) -> Made {
         if clash(&[&lf[..], &rf].concat()) {
             let q = self.r.between(4, 11) as u16;
             right = Plan::SubqueryAlias(q, Box::new(right));

@@ -125,7 +125,7 @@ pub fn random_of(n: usize, count: usize, seed: u64) -> Vec<Vec<u8>> {
             continue;
         }
         let catalogue = Catalogue::first(tables);
-        let mut maker = Maker { r: &mut r, catalogue, empties: 0, alone: false, wide: false };
+        let mut maker = Maker { r: &mut r, catalogue, empties: 0, keyed: false, alone: false, wide: false };
         let (plan, _) = maker.plan(9, false);
         let catalogue = maker.catalogue;
         if nodes_in(&plan) == n && accept(&plan, &catalogue).is_ok() {

@@ -4,6 +4,7 @@ use crate::plan::File;
 use crate::read::Fault;
 use crate::read_nodes::read;
 use crate::rewrite::{Setting, rewrite};
+use crate::ways::Ways;
 use crate::write::{nodes_in, tags_in, write};
 
 /// The result's bytes, or a code and a place.
@@ -11,15 +12,15 @@ pub type Answer = Result<Vec<u8>, Fault>;
 
 /// `request`: `None` asks for all fields. `room`: the length of the output buffer.
 pub fn answer(mode: u8, mask: u16, file: &[u8], request: Option<&[u16]>, room: usize) -> Answer {
-    run(mode, mask, file, request, room, false)
+    run(mode, mask, file, request, room, Ways::NONE, true)
 }
 
-/// What the Rust is known to give where it differs from document 01; crate mode.
-pub fn answer_stale(mask: u16, file: &[u8], request: Option<&[u16]>) -> Answer {
-    run(0, mask, file, request, usize::MAX, true)
+/// Crate mode with the Rust's ways and without limits: with all ways what the texts give.
+pub fn answer_with(ways: Ways, mask: u16, file: &[u8], request: Option<&[u16]>) -> Answer {
+    run(0, mask, file, request, usize::MAX, ways, false)
 }
 
-fn run(mode: u8, mask: u16, file: &[u8], request: Option<&[u16]>, room: usize, stale: bool) -> Answer {
+fn run(mode: u8, mask: u16, file: &[u8], request: Option<&[u16]>, room: usize, ways: Ways, limits: bool) -> Answer {
     let refuse = |code, place: usize| Err(Fault { code, place: place as u64 });
     if mode > 1 || mask > 4095 {
         return refuse(1, 0);
@@ -36,11 +37,11 @@ fn run(mode: u8, mask: u16, file: &[u8], request: Option<&[u16]>, room: usize, s
             r.iter().map(|i| *i as usize).collect()
         }
     };
-    let set = Setting { catalogue: &catalogue, mask, house: mode == 1, stale };
+    let set = Setting { catalogue: &catalogue, mask, house: mode == 1, limits, ways };
     let Ok(plan) = rewrite(&plan, &request, &set) else {
         return refuse(12, 0);
     };
-    if nodes_in(&plan) > 256 || tags_in(&plan) > 4096 {
+    if limits && (nodes_in(&plan) > 256 || tags_in(&plan) > 4096) {
         return refuse(12, 0);
     }
     let bytes = write(&File { catalogue, plan });

@@ -1,17 +1,21 @@
-//! The walk. With `stale` it follows the Rust's flag instead of document 01 (docs/DIFFERENCES.md, "A stale schema over
-//! an Empty leaf"): a SubqueryAlias, Union or Join shows its old fields unless an input was reported changed, and an
-//! Aggregate that lost aggregates, or a Window that went, over an unchanged input is not reported.
+//! The walk. With ways it follows the Rust instead of the documents (ways.rs). `Stale` is its flag: a SubqueryAlias, Union or Join shows its old fields
+//! unless an input was reported changed, and an Aggregate that lost groups or aggregates, or a Window that went, over an unchanged input is not
+//! reported.
 use crate::accept::{fields, find};
 use crate::exprs::{call_exprs, columns_of, own_exprs};
 use crate::merge::{Large, merge};
 use crate::plan::*;
+use crate::ways::{Way, Ways};
+use crate::{dependencies, keys};
 use std::collections::HashSet;
 
 pub struct Setting<'a> {
     pub catalogue: &'a Catalogue,
     pub mask: u16,
     pub house: bool,
-    pub stale: bool,
+    /// document 01's limits hold
+    pub limits: bool,
+    pub ways: Ways,
 }
 
 /// A rewritten node: the plan, the fields that it shows, and the Rust's flag.
@@ -55,7 +59,7 @@ impl Setting<'_> {
     }
     /// A node that keeps its own field list in the Rust: `shown` is what it would show worked out anew.
     fn keeps_list(&self, old: &Plan, plan: Plan, shown: Vec<Pair>, changed: bool) -> Done {
-        let shown = if self.stale && !changed { self.fields(old) } else { shown };
+        let shown = if self.ways.has(Way::Stale) && !changed { self.fields(old) } else { shown };
         Done { plan, shown, changed }
     }
 
@@ -113,7 +117,7 @@ impl Setting<'_> {
         self.topped(child, &union(request, &self.fields(child), &columns), true)
     }
     fn projection(&self, items: &[Item], child: &Plan, request: &[usize]) -> Walk<Done> {
-        let (items, child) = merge(items, child, self.mask, self.house)?;
+        let (items, child) = merge(items, child, self)?;
         let items = at(&items, request, 0);
         let columns = columns_of(items.iter().map(|i| &i.expr));
         let c = self.node(child, &union(&[], &self.fields(child), &columns), false)?;
@@ -125,6 +129,11 @@ impl Setting<'_> {
     }
     fn aggregate(&self, groups: &[Item], measures: &[Measure], child: &Plan, request: &[usize]) -> Walk<Done> {
         let measures = at(measures, request, groups.len());
+        let kept = match self.ways {
+            Ways::NONE => keys::kept_groups(groups, child, request, self.catalogue),
+            ways => dependencies::kept_groups(groups, child, request, self.catalogue, ways),
+        };
+        let groups = at(groups, &kept, 0);
         if groups.is_empty() && measures.is_empty() {
             let plan = Plan::Empty { one_row: true, fields: vec![] };
             return Ok(Done { plan, shown: vec![], changed: true });
@@ -133,7 +142,7 @@ impl Setting<'_> {
         let columns = columns_of(groups.iter().map(|i| &i.expr).chain(arguments));
         let c = self.topped(child, &union(&[], &self.fields(child), &columns), false)?;
         let shown = groups.iter().map(|i| i.pair).chain(measures.iter().map(|m| m.pair)).collect();
-        let plan = Plan::Aggregate(groups.to_vec(), measures, Box::new(c.plan));
+        let plan = Plan::Aggregate(groups, measures, Box::new(c.plan));
         Ok(Done { plan, shown, changed: c.changed })
     }
     fn window(&self, calls: &[Call], child: &Plan, request: &[usize], flag: bool) -> Walk<Done> {

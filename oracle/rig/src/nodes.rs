@@ -8,7 +8,7 @@ use datafusion_expr::*;
 use std::sync::Arc;
 
 pub struct File {
-    /// the bytes before the plan: mark, version and tables
+    /// the bytes before the plan: mark, version, tables and keys
     pub head: Vec<u8>,
     pub version: Version,
     pub plan: LogicalPlan,
@@ -195,6 +195,31 @@ impl Reader<'_> {
     }
 }
 
+impl Reader<'_> {
+    fn table_keys(&mut self, tables: &mut [TableSource]) -> Answer<()> {
+        for _ in 0..self.count(16)? {
+            let t = self.u8()? as usize;
+            if tables.get(t).is_none_or(|t| t.key.is_some()) {
+                return self.bad("a key's table");
+            }
+            let n = self.wide_count(self.version.columns)?;
+            if n == 0 {
+                return self.bad("empty key");
+            }
+            let mut key = Vec::with_capacity(n);
+            for _ in 0..n {
+                let c = self.wide()?;
+                if c >= tables[t].names.len() || key.contains(&c) {
+                    return self.bad("a key's column");
+                }
+                key.push(c);
+            }
+            tables[t].key = Some(key);
+        }
+        Ok(())
+    }
+}
+
 fn limit(v: u32) -> Option<Box<Expr>> {
     Some(Box::new(Expr::Literal(ScalarValue::Int64(Some(v as i64)), None)))
 }
@@ -206,6 +231,7 @@ pub fn read(src: &[u8]) -> Answer<File> {
         _ => return Err("mark".into()),
     };
     let mut r = Reader { src, at: 5, version, tables: vec![], qualifiers: vec![], nodes: 0, tags: 0 };
+    let mut tables = vec![];
     for number in 0..r.count(16)? as u8 {
         let n = r.wide_count(version.columns)?;
         let mut names = Vec::with_capacity(n);
@@ -215,11 +241,12 @@ pub fn read(src: &[u8]) -> Answer<File> {
                 c => names.push(name(c)),
             }
         }
-        r.tables.push(Arc::new(TableSource { number, names }));
+        tables.push(TableSource { number, names, key: None });
     }
-    if version.late && r.u8()? != 0 {
-        return r.bad("keys, which the stand-ins do not have");
+    if version.late {
+        r.table_keys(&mut tables)?;
     }
+    r.tables = tables.into_iter().map(Arc::new).collect();
     let head = src[..r.at].to_vec();
     let plan = r.node()?;
     if r.at < src.len() {

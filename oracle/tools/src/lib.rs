@@ -1,4 +1,13 @@
-//! The texts' answer to a case.
+//! The texts' answer to a case, and what the commands that compare have in common.
+mod command;
+mod differ;
+mod shrink;
+mod verdict;
+
+pub use command::{ended, numbers};
+pub use differ::{Words, differ};
+pub use verdict::{Verdict, verdict};
+
 use generator::Case;
 use std::panic::catch_unwind;
 

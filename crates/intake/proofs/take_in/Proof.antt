@@ -30,21 +30,21 @@ same-length-5 c = search needs
 same-length-6 : tie.Need-same-length-6
 same-length-6 c = search needs
 
+same-length-7 : tie.Need-same-length-7
+same-length-7 c = search needs
+
 returns : tie.Need-returns
 returns c =
-    let read-and-check = c .before .before .before .before .before .before .before .before .before .before .before .before .before .before .before .before .read-and-check in
+    let read-and-check = c .before .before .before .before .before .before .before .before .before .before .before .before .before .before .before .before .before .before .read-and-check in
     let if1 = c .before .if1 in
     let refuse = c .refuse in
     refused-file (read-and-check .ensures) _ _ (if1 .taken) (refuse .ensures)
 
 ask-requires : tie.Need-ask-requires
 ask-requires c κs =
-    let read-and-check = c .before .before .before .before .before .before .before .before .before .before .before .before .before .before .before .read-and-check in
+    let read-and-check = c .before .before .before .before .before .before .before .before .before .before .before .before .before .before .before .before .before .read-and-check in
     let if1 = c .if1 in
     few-asked (read-and-check .ensures) (if1 .left)
-
-same-length-7 : tie.Need-same-length-7
-same-length-7 c = search needs
 
 same-length-8 : tie.Need-same-length-8
 same-length-8 c = search needs
@@ -61,13 +61,19 @@ same-length-11 c = search needs
 same-length-12 : tie.Need-same-length-12
 same-length-12 c = search needs
 
+same-length-13 : tie.Need-same-length-13
+same-length-13 c = search needs
+
+same-length-14 : tie.Need-same-length-14
+same-length-14 c = search needs
+
 returns-2 : tie.Need-returns-2
 returns-2 c =
-    let read-and-check = c .before .before .before .before .before .before .before .before .before .before .before .before .before .before .before .before .read-and-check in
-    let args = c .before .before .before .before .before .before .before .before .before .before .before .before .before .before .before .before .before .before .before .before .before .before .before .before .before .before .before .before .before .before .before .args in
+    let read-and-check = c .before .before .before .before .before .before .before .before .before .before .before .before .before .before .before .before .before .before .read-and-check in
+    let args = c .before .before .before .before .before .before .before .before .before .before .before .before .before .before .before .before .before .before .before .before .before .before .before .before .before .before .before .before .before .before .before .before .before .before .before .args in
     let if1 = c .before .if1 in
     let ask = c .ask in
     requested-file (read-and-check .ensures) (wanted (args .all) (args .request .now)) _ (if1 .left) (ask .ensures)
 
 pub take-in-spec : {M : Type 1} → statement M
-take-in-spec = tie.close (tie.spec read-and-check-requires refuse-requires same-length same-length-2 same-length-3 same-length-4 same-length-5 same-length-6 returns ask-requires same-length-7 same-length-8 same-length-9 same-length-10 same-length-11 same-length-12 returns-2)
+take-in-spec = tie.close (tie.spec read-and-check-requires refuse-requires same-length same-length-2 same-length-3 same-length-4 same-length-5 same-length-6 same-length-7 returns ask-requires same-length-8 same-length-9 same-length-10 same-length-11 same-length-12 same-length-13 same-length-14 returns-2)

@@ -14,7 +14,7 @@ returns : tie.Need-returns
 returns c =
     let with-projection-beneficial = c .before .with-projection-beneficial in
     let through = c .through in
-    λ q fs. alias-one q (with-projection-beneficial .ensures) (through .ensures)
+    λ q key fs. alias-one q (with-projection-beneficial .ensures) (through .ensures)
 
 pub alias-job-spec : {M : Type 1} → statement M
 alias-job-spec = tie.close (tie.spec with-projection-beneficial-requires through-requires returns)

@@ -15,7 +15,7 @@ returns c =
     let args = c .before .before .before .args in
     let new-for-all-exprs = c .before .new-for-all-exprs in
     let through = c .through in
-    distinct-one (args .width) (row-long (args .fields .now) (args .start) (args .width)) (new-for-all-exprs .ensures) (through .ensures)
+    λ key. distinct-one (args .width) (row-long (args .fields .now) (args .start) (args .width)) (new-for-all-exprs .ensures) (through .ensures)
 
 pub distinct-job-spec : {M : Type 1} → statement M
 distinct-job-spec = tie.close (tie.spec new-for-all-exprs-requires through-requires returns)

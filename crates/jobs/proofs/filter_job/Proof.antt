@@ -18,7 +18,7 @@ returns c =
     let add-expr = c .before .before .add-expr in
     let with-projection-beneficial = c .before .with-projection-beneficial in
     let through = c .through in
-    filter-one (add-expr .ensures) (with-projection-beneficial .ensures) (through .ensures)
+    λ key. filter-one (add-expr .ensures) (with-projection-beneficial .ensures) (through .ensures)
 
 pub filter-job-spec : {M : Type 1} → statement M
 filter-job-spec = tie.close (tie.spec add-expr-requires with-projection-beneficial-requires through-requires returns)

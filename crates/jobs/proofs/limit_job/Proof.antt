@@ -14,7 +14,7 @@ returns : tie.Need-returns
 returns c =
     let projection-beneficial = c .before .projection-beneficial in
     let through = c .through in
-    λ s n fs. limit-one s n (projection-beneficial .ensures) (through .ensures)
+    λ s n key fs. limit-one s n (projection-beneficial .ensures) (through .ensures)
 
 pub limit-job-spec : {M : Type 1} → statement M
 limit-job-spec = tie.close (tie.spec projection-beneficial-requires through-requires returns)

@@ -22,7 +22,7 @@ returns c =
     let with-roots = c .before .before .with-roots in
     let with-projection-beneficial = c .before .with-projection-beneficial in
     let through = c .through in
-    sort-one _ _ (keys-roots (args .rows .now) (args .cells .now) (args .first) (args .n)) (with-roots .ensures) (with-projection-beneficial .ensures) (through .ensures)
+    λ key. sort-one _ _ (keys-roots (args .rows .now) (args .cells .now) (args .first) (args .n)) (with-roots .ensures) (with-projection-beneficial .ensures) (through .ensures)
 
 pub sort-job-spec : {M : Type 1} → statement M
 sort-job-spec = tie.close (tie.spec with-roots-requires with-projection-beneficial-requires through-requires returns)

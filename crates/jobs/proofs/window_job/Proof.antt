@@ -22,9 +22,9 @@ returns c =
     let split-off = c .before .before .before .before .split-off in
     let is-empty = c .before .is-empty in
     let if1 = c .if1 in
-    record {
+    λ key. record {
       is = λ C R p.
-          same-is (winsAt (args .rows .now) (args .cells .now) (args .first) (args .n)) (row-long (args .fields .now) (args .start) (args .width)) (split-off .ensures .0) (split-off .ensures .1) p C _
+          same-is (winsAt (args .rows .now) (args .cells .now) (args .first) (args .n)) (row-long (args .fields .now) (args .start) (args .width)) (split-off .ensures .0) (split-off .ensures .1) p C key _
           (sym (is-empty .ensures) ∙ if1 .taken);
     }
 
@@ -38,9 +38,9 @@ returns-2 c =
     let is-empty = c .before .before .is-empty in
     let if1 = c .before .if1 in
     let with-windows = c .with-windows in
-    record {
+    λ key. record {
       is = λ C R p.
-          window-is (winsAt (args .rows .now) (args .cells .now) (args .first) (args .n)) (row-long (args .fields .now) (args .start) (args .width)) (split-off .ensures .0) (split-off .ensures .1) p C _
+          window-is (winsAt (args .rows .now) (args .cells .now) (args .first) (args .n)) (row-long (args .fields .now) (args .start) (args .width)) (split-off .ensures .0) (split-off .ensures .1) p C key _
           (wins-long (args .rows .now) (args .cells .now) (args .first) (args .n)) (sym (is-empty .ensures) ∙ if1 .left) (with-windows .ensures);
     }
 

@@ -12,13 +12,14 @@ use Rattle.listing.proofs.list_in.Tie as tie
 
 read-and-check-requires : tie.Need-read-and-check-requires
 read-and-check-requires c κs =
-    let cells = c .before .before .before .before .before .read-and-check-arg in
-    let rows = c .before .before .before .before .read-and-check-arg2 in
-    let nodes = c .before .before .before .read-and-check-arg3 in
-    let names = c .before .before .read-and-check-arg4 in
-    let fields = c .before .read-and-check-arg5 in
-    let widths = c .read-and-check-arg6 in
-    wide-room _ (cells .given .0 .1) (nodes .given .0 .1) (names .given .0 .1) (widths .given .0 .1) (rows .given .0 .1) (fields .given .0 .1)
+    let cells = c .before .before .before .before .before .before .read-and-check-arg in
+    let rows = c .before .before .before .before .before .read-and-check-arg2 in
+    let nodes = c .before .before .before .before .read-and-check-arg3 in
+    let names = c .before .before .before .read-and-check-arg4 in
+    let fields = c .before .before .read-and-check-arg5 in
+    let widths = c .before .read-and-check-arg6 in
+    let keys = c .read-and-check-arg7 in
+    wide-room _ (cells .given .0 .1) (nodes .given .0 .1) (names .given .0 .1) (widths .given .0 .1) (keys .given .0 .1) (rows .given .0 .1) (fields .given .0 .1)
 
 write-refused-requires : tie.Need-write-refused-requires
 write-refused-requires c κs = search needs
@@ -33,7 +34,7 @@ returns c =
 write-listing-requires : tie.Need-write-listing-requires
 write-listing-requires c κs =
     let read-and-check = c .before .before .before .before .before .before .before .before .read-and-check in
-    let read-and-check-arg6 = c .before .before .before .before .before .before .before .before .before .read-and-check-arg6 in
+    let read-and-check-arg6 = c .before .before .before .before .before .before .before .before .before .before .read-and-check-arg6 in
     let if1 = c .before .before .before .before .before .if1 in
     let write-listing-arg = c .before .before .before .before .write-listing-arg in
     let p = plan-in (read-and-check .ensures) (if1 .left) in (

@@ -47,107 +47,107 @@ use Rattle.optimize_projections.proofs.+merge_projections+optimize_inpu
   close,
 }
 
-abbrev μ-merge-projections : Measures 12 merge-projections-kinds.ps ℕ
-μ-merge-projections κs a = 4 * (256 - a .1 .1 .1 .1 .1 .1 .0) + 3
+abbrev μ-merge-projections : Measures 13 merge-projections-kinds.ps ℕ
+μ-merge-projections κs a = 4 * (256 - a .1 .1 .1 .1 .1 .1 .1 .0) + 3
 
-abbrev μ-optimize-input : Measures 12 optimize-input-kinds.ps ℕ
-μ-optimize-input κs a = 4 * (256 - a .1 .1 .1 .1 .1 .1 .0) + 2
+abbrev μ-optimize-input : Measures 13 optimize-input-kinds.ps ℕ
+μ-optimize-input κs a = 4 * (256 - a .1 .1 .1 .1 .1 .1 .1 .0) + 2
 
-abbrev μ-optimize-inputs : Measures 12 optimize-inputs-kinds.ps ℕ
-μ-optimize-inputs κs a = 4 * (256 - a .1 .1 .1 .1 .1 .1 .0) + 0
+abbrev μ-optimize-inputs : Measures 13 optimize-inputs-kinds.ps ℕ
+μ-optimize-inputs κs a = 4 * (256 - a .1 .1 .1 .1 .1 .1 .1 .0) + 0
 
-abbrev μ-optimize-projections : Measures 12 optimize-projections-kinds.ps ℕ
-μ-optimize-projections κs a = 4 * (256 - a .1 .1 .1 .1 .1 .1 .0) + 1
+abbrev μ-optimize-projections : Measures 13 optimize-projections-kinds.ps ℕ
+μ-optimize-projections κs a = 4 * (256 - a .1 .1 .1 .1 .1 .1 .1 .0) + 1
 
 abbrev μ-rewrite-projection-given-requirements :
-    Measures 12 rewrite-projection-given-requirements-kinds.ps ℕ
-μ-rewrite-projection-given-requirements κs a = 4 * (256 - a .1 .1 .1 .1 .1 .1 .0) + 2
+    Measures 13 rewrite-projection-given-requirements-kinds.ps ℕ
+μ-rewrite-projection-given-requirements κs a = 4 * (256 - a .1 .1 .1 .1 .1 .1 .1 .0) + 2
 
-abbrev merge-projections-at : ℕ → In 12 merge-projections-kinds.ps
+abbrev merge-projections-at : ℕ → In 13 merge-projections-kinds.ps
 merge-projections-at t =
     and
-    12
+    13
     merge-projections-kinds.ps
-    (is 12 merge-projections-kinds.ps μ-merge-projections t)
+    (is 13 merge-projections-kinds.ps μ-merge-projections t)
     merge-projections.Pre
 
-abbrev merge-projections-below : ℕ → In 12 merge-projections-kinds.ps
+abbrev merge-projections-below : ℕ → In 13 merge-projections-kinds.ps
 merge-projections-below t =
     and
-    12
+    13
     merge-projections-kinds.ps
-    (falls 12 merge-projections-kinds.ps _<_ μ-merge-projections t)
+    (falls 13 merge-projections-kinds.ps _<_ μ-merge-projections t)
     merge-projections.Pre
 
-abbrev optimize-input-at : ℕ → In 12 optimize-input-kinds.ps
+abbrev optimize-input-at : ℕ → In 13 optimize-input-kinds.ps
 optimize-input-at t =
     and
-    12
+    13
     optimize-input-kinds.ps
-    (is 12 optimize-input-kinds.ps μ-optimize-input t)
+    (is 13 optimize-input-kinds.ps μ-optimize-input t)
     optimize-input.Pre
 
-abbrev optimize-input-below : ℕ → In 12 optimize-input-kinds.ps
+abbrev optimize-input-below : ℕ → In 13 optimize-input-kinds.ps
 optimize-input-below t =
     and
-    12
+    13
     optimize-input-kinds.ps
-    (falls 12 optimize-input-kinds.ps _<_ μ-optimize-input t)
+    (falls 13 optimize-input-kinds.ps _<_ μ-optimize-input t)
     optimize-input.Pre
 
-abbrev optimize-inputs-at : ℕ → In 12 optimize-inputs-kinds.ps
+abbrev optimize-inputs-at : ℕ → In 13 optimize-inputs-kinds.ps
 optimize-inputs-at t =
     and
-    12
+    13
     optimize-inputs-kinds.ps
-    (is 12 optimize-inputs-kinds.ps μ-optimize-inputs t)
+    (is 13 optimize-inputs-kinds.ps μ-optimize-inputs t)
     optimize-inputs.Pre
 
-abbrev optimize-inputs-below : ℕ → In 12 optimize-inputs-kinds.ps
+abbrev optimize-inputs-below : ℕ → In 13 optimize-inputs-kinds.ps
 optimize-inputs-below t =
     and
-    12
+    13
     optimize-inputs-kinds.ps
-    (falls 12 optimize-inputs-kinds.ps _<_ μ-optimize-inputs t)
+    (falls 13 optimize-inputs-kinds.ps _<_ μ-optimize-inputs t)
     optimize-inputs.Pre
 
-abbrev optimize-projections-at : ℕ → In 12 optimize-projections-kinds.ps
+abbrev optimize-projections-at : ℕ → In 13 optimize-projections-kinds.ps
 optimize-projections-at t =
     and
-    12
+    13
     optimize-projections-kinds.ps
-    (is 12 optimize-projections-kinds.ps μ-optimize-projections t)
+    (is 13 optimize-projections-kinds.ps μ-optimize-projections t)
     optimize-projections.Pre
 
-abbrev optimize-projections-below : ℕ → In 12 optimize-projections-kinds.ps
+abbrev optimize-projections-below : ℕ → In 13 optimize-projections-kinds.ps
 optimize-projections-below t =
     and
-    12
+    13
     optimize-projections-kinds.ps
-    (falls 12 optimize-projections-kinds.ps _<_ μ-optimize-projections t)
+    (falls 13 optimize-projections-kinds.ps _<_ μ-optimize-projections t)
     optimize-projections.Pre
 
 abbrev rewrite-projection-given-requirements-at :
-    ℕ → In 12 rewrite-projection-given-requirements-kinds.ps
+    ℕ → In 13 rewrite-projection-given-requirements-kinds.ps
 rewrite-projection-given-requirements-at t =
     and
-    12
+    13
     rewrite-projection-given-requirements-kinds.ps
     (is
-    12
+    13
     rewrite-projection-given-requirements-kinds.ps
     μ-rewrite-projection-given-requirements
     t)
     rewrite-projection-given-requirements.Pre
 
 abbrev rewrite-projection-given-requirements-below :
-    ℕ → In 12 rewrite-projection-given-requirements-kinds.ps
+    ℕ → In 13 rewrite-projection-given-requirements-kinds.ps
 rewrite-projection-given-requirements-below t =
     and
-    12
+    13
     rewrite-projection-given-requirements-kinds.ps
     (falls
-    12
+    13
     rewrite-projection-given-requirements-kinds.ps
     _<_
     μ-rewrite-projection-given-requirements
@@ -171,7 +171,7 @@ abbrev rewrite-projection-given-requirements-calls : ℕ → rewrite-projection-
 rewrite-projection-given-requirements-calls t = (first-at-reads.Asked, first-at-reads.Learnt, width-at-reads.Asked, width-at-reads.Learnt, get-at-indices-reads.Asked, get-at-indices-reads.Learnt, optimize-projections-below t, optimize-projections.Post, put-list-reads.Asked, put-list-reads.Learnt)
 
 merge-projections-node-at-requires : (t : ℕ) → merge-projections-lts.Need-node-at-requires (merge-projections-calls t) (merge-projections-at t) merge-projections.Post
-merge-projections-node-at-requires t c κs = c .before .before .before .before .before .before .before .before .before .before .before .before .pre .1 .0 .standing .tree .each _ (c .before .before .before .before .before .before .before .before .before .before .before .before .pre .1 .0 .within) .numbers
+merge-projections-node-at-requires t c κs = c .before .before .before .before .before .before .before .before .before .before .before .before .before .pre .1 .0 .standing .tree .each _ (c .before .before .before .before .before .before .before .before .before .before .before .before .before .pre .1 .0 .within) .numbers
 
 merge-projections-kind-of-requires : (t : ℕ) → merge-projections-lts.Need-kind-of-requires (merge-projections-calls t) (merge-projections-at t) merge-projections.Post
 merge-projections-kind-of-requires t c κs = search needs
@@ -183,7 +183,7 @@ merge-projections-enum-told : (t : ℕ) → merge-projections-lts.Need-enum-told
 merge-projections-enum-told t c = search needs
 
 merge-projections-rewrite-projection-given-requirements-requires : (t : ℕ) → merge-projections-lts.Need-rewrite-projection-given-requirements-requires (merge-projections-calls t) (merge-projections-at t) merge-projections.Post
-merge-projections-rewrite-projection-given-requirements-requires t c κs = (omega (arith, c .before .before .before .before .before .before .before .before .before .before .before .before .before .before .before .before .before .before .before .before .before .before .before .pre .0), (c .before .before .before .before .before .before .before .before .before .before .before .before .before .before .before .before .before .before .before .before .before .before .before .pre .1 .0, (c .before .before .before .before .before .before .before .before .before .before .before .before .before .before .before .before .before .before .before .before .before .before .before .pre .1 .1 .0, c .before .before .before .before .before .before .before .before .before .before .before .before .before .before .before .before .before .before .before .before .before .before .before .pre .1 .1 .1)))
+merge-projections-rewrite-projection-given-requirements-requires t c κs = (omega (arith, c .before .before .before .before .before .before .before .before .before .before .before .before .before .before .before .before .before .before .before .before .before .before .before .before .pre .0), (c .before .before .before .before .before .before .before .before .before .before .before .before .before .before .before .before .before .before .before .before .before .before .before .before .pre .1 .0, (c .before .before .before .before .before .before .before .before .before .before .before .before .before .before .before .before .before .before .before .before .before .before .before .before .pre .1 .1 .0, c .before .before .before .before .before .before .before .before .before .before .before .before .before .before .before .before .before .before .before .before .before .before .before .before .pre .1 .1 .1)))
 
 merge-projections-same-length : (t : ℕ) → merge-projections-lts.Need-same-length (merge-projections-calls t) (merge-projections-at t) merge-projections.Post
 merge-projections-same-length t c = search needs
@@ -211,7 +211,7 @@ merge-projections-returns t c = other-after _ (c .before .before .before .before
 
 merge-projections-merge-step-requires : (t : ℕ) → merge-projections-lts.Need-merge-step-requires (merge-projections-calls t) (merge-projections-at t) merge-projections.Post
 merge-projections-merge-step-requires t c κs =
-    let pre = c .before .before .before .before .before .before .before .before .before .before .before .before .before .before .before .before .before .before .before .before .before .pre in
+    let pre = c .before .before .before .before .before .before .before .before .before .before .before .before .before .before .before .before .before .before .before .before .before .before .pre in
     let e = sym (rw (c .before .before .before .before .before .kind .given .1) at (c .before .before .before .before .before .before .before .kind-of .ensures)) ∙ c .before .before .before .before .before .before .before .before .node-at .ensures .is in
     (pre .1 .0 .list, (lower-rows (pre .1 .0 .standing) _ (pre .1 .0 .within) _ _ e, (lower-reads (pre .1 .0 .standing) _ (pre .1 .0 .within) _ _ e (pre .1 .0 .items), pre .1 .1 .1)))
 
@@ -219,14 +219,14 @@ merge-projections-enum-told-2 : (t : ℕ) → merge-projections-lts.Need-enum-to
 merge-projections-enum-told-2 t c = search needs
 
 merge-projections-add-merge-projections : (t : ℕ) → merge-projections-lts.Need-add-merge-projections (merge-projections-calls t) (merge-projections-at t) merge-projections.Post
-merge-projections-add-merge-projections t c = omega (arith, c .before .before .before .before .before .before .before .before .before .before .before .before .before .before .before .before .before .before .before .before .before .before .before .before .before .before .before .before .pre .1 .0 .within, c .before .before .before .before .before .before .before .before .before .before .before .before .before .before .before .before .before .before .before .before .before .before .before .before .before .before .before .before .pre .1 .0 .standing .tree .few)
+merge-projections-add-merge-projections t c = omega (arith, c .before .before .before .before .before .before .before .before .before .before .before .before .before .before .before .before .before .before .before .before .before .before .before .before .before .before .before .before .before .pre .1 .0 .within, c .before .before .before .before .before .before .before .before .before .before .before .before .before .before .before .before .before .before .before .before .before .before .before .before .before .before .before .before .before .pre .1 .0 .standing .tree .few)
 
 merge-projections-merge-projections-requires : (t : ℕ) → merge-projections-lts.Need-merge-projections-requires (merge-projections-calls t) (merge-projections-at t) merge-projections.Post
 merge-projections-merge-projections-requires t c κs = (
-  omega (arith, c .before .before .before .before .before .before .before .before .before .before .before .before .before .before .before .before .before .before .before .before .before .before .before .before .before .before .before .before .before .before .before .before .before .before .before .pre .0, c .before .before .before .before .before .before .before .before .before .before .before .before .before .before .before .before .before .before .before .before .before .before .before .before .before .before .before .before .before .before .before .before .before .before .before .pre .1 .0 .within, c .before .before .before .before .before .before .before .before .before .before .before .before .before .before .before .before .before .before .before .before .before .before .before .before .before .before .before .before .before .before .before .before .before .before .before .pre .1 .0 .standing .tree .few),
+  omega (arith, c .before .before .before .before .before .before .before .before .before .before .before .before .before .before .before .before .before .before .before .before .before .before .before .before .before .before .before .before .before .before .before .before .before .before .before .before .pre .0, c .before .before .before .before .before .before .before .before .before .before .before .before .before .before .before .before .before .before .before .before .before .before .before .before .before .before .before .before .before .before .before .before .before .before .before .before .pre .1 .0 .within, c .before .before .before .before .before .before .before .before .before .before .before .before .before .before .before .before .before .before .before .before .before .before .before .before .before .before .before .before .before .before .before .before .before .before .before .before .pre .1 .0 .standing .tree .few),
   (
-    down-before _ _ _ (sym (rw (c .before .before .before .before .before .before .before .before .before .before .before .before .before .before .before .before .before .before .before .kind .given .1) at (c .before .before .before .before .before .before .before .before .before .before .before .before .before .before .before .before .before .before .before .before .before .kind-of .ensures)) ∙ c .before .before .before .before .before .before .before .before .before .before .before .before .before .before .before .before .before .before .before .before .before .before .node-at .ensures .is) _ _ _ (rw (c .before .before .before .before .before .before .before .enum-told2 .given .1) at (c .before .before .before .before .before .before .before .before .before .before .before .before .before .merge-step .ensures)) refl (c .before .before .before .before .before .before .before .before .before .before .before .before .before .before .before .before .before .before .before .before .before .before .before .before .before .before .before .before .before .before .before .before .before .before .before .pre .1 .0 .list) (c .before .before .before .before .before .before .before .before .before .before .before .before .before .before .before .before .before .before .before .before .before .before .before .before .before .before .before .before .before .before .before .before .before .before .before .pre .1 .0),
-    (c .before .before .before .before .before .before .before .before .before .before .before .before .before .before .before .before .before .before .before .before .before .before .before .before .before .before .before .before .before .before .before .before .before .before .before .pre .1 .1 .0, scratch-kept (c .before .before .before .before .before .before .before .before .before .before .before .before .before .before .before .before .before .before .before .before .before .before .before .before .before .before .before .before .before .before .before .before .before .before .before .pre .1 .1 .1) (c .before .before .before .before .before .before .before .before .before .before .before .before .before .merge-step .kept .1 .1 .1 .1 .1 .1 .1 .1 .1 .0) (c .before .before .before .before .before .before .before .before .before .before .before .before .before .merge-step .kept .1 .1 .1 .1 .1 .1 .1 .1 .1 .1 .0)),
+    down-before _ _ _ (sym (rw (c .before .before .before .before .before .before .before .before .before .before .before .before .before .before .before .before .before .before .before .kind .given .1) at (c .before .before .before .before .before .before .before .before .before .before .before .before .before .before .before .before .before .before .before .before .before .kind-of .ensures)) ∙ c .before .before .before .before .before .before .before .before .before .before .before .before .before .before .before .before .before .before .before .before .before .before .node-at .ensures .is) _ _ _ (rw (c .before .before .before .before .before .before .before .enum-told2 .given .1) at (c .before .before .before .before .before .before .before .before .before .before .before .before .before .merge-step .ensures)) refl (c .before .before .before .before .before .before .before .before .before .before .before .before .before .before .before .before .before .before .before .before .before .before .before .before .before .before .before .before .before .before .before .before .before .before .before .before .pre .1 .0 .list) (c .before .before .before .before .before .before .before .before .before .before .before .before .before .before .before .before .before .before .before .before .before .before .before .before .before .before .before .before .before .before .before .before .before .before .before .before .pre .1 .0),
+    (c .before .before .before .before .before .before .before .before .before .before .before .before .before .before .before .before .before .before .before .before .before .before .before .before .before .before .before .before .before .before .before .before .before .before .before .before .pre .1 .1 .0, scratch-kept (c .before .before .before .before .before .before .before .before .before .before .before .before .before .before .before .before .before .before .before .before .before .before .before .before .before .before .before .before .before .before .before .before .before .before .before .before .pre .1 .1 .1) (c .before .before .before .before .before .before .before .before .before .before .before .before .before .merge-step .kept .1 .1 .1 .1 .1 .1 .1 .1 .1 .0) (c .before .before .before .before .before .before .before .before .before .before .before .before .before .merge-step .kept .1 .1 .1 .1 .1 .1 .1 .1 .1 .1 .0)),
   ),
 )
 
@@ -234,15 +234,15 @@ merge-projections-enum-told-3 : (t : ℕ) → merge-projections-lts.Need-enum-to
 merge-projections-enum-told-3 t c = search needs
 
 merge-projections-add-merge-projections-2 : (t : ℕ) → merge-projections-lts.Need-add-merge-projections-2 (merge-projections-calls t) (merge-projections-at t) merge-projections.Post
-merge-projections-add-merge-projections-2 t c = omega (arith, c .before .before .before .before .before .before .before .before .before .before .before .before .before .before .before .before .before .before .before .before .before .before .before .before .before .before .before .before .pre .1 .0 .within, c .before .before .before .before .before .before .before .before .before .before .before .before .before .before .before .before .before .before .before .before .before .before .before .before .before .before .before .before .pre .1 .0 .standing .tree .few)
+merge-projections-add-merge-projections-2 t c = omega (arith, c .before .before .before .before .before .before .before .before .before .before .before .before .before .before .before .before .before .before .before .before .before .before .before .before .before .before .before .before .before .pre .1 .0 .within, c .before .before .before .before .before .before .before .before .before .before .before .before .before .before .before .before .before .before .before .before .before .before .before .before .before .before .before .before .before .pre .1 .0 .standing .tree .few)
 
 merge-projections-merge-projections-requires-2 : (t : ℕ) → merge-projections-lts.Need-merge-projections-requires-2 (merge-projections-calls t) (merge-projections-at t) merge-projections.Post
 merge-projections-merge-projections-requires-2 t c κs =
     let d = rw (c .before .before .before .before .before .before .before .enum-told3 .given .1) at (c .before .before .before .before .before .before .before .before .before .before .before .before .before .merge-step .ensures) in (
-      omega (arith, c .before .before .before .before .before .before .before .before .before .before .before .before .before .before .before .before .before .before .before .before .before .before .before .before .before .before .before .before .before .before .before .before .before .before .before .pre .0, c .before .before .before .before .before .before .before .before .before .before .before .before .before .before .before .before .before .before .before .before .before .before .before .before .before .before .before .before .before .before .before .before .before .before .before .pre .1 .0 .within, c .before .before .before .before .before .before .before .before .before .before .before .before .before .before .before .before .before .before .before .before .before .before .before .before .before .before .before .before .before .before .before .before .before .before .before .pre .1 .0 .standing .tree .few),
+      omega (arith, c .before .before .before .before .before .before .before .before .before .before .before .before .before .before .before .before .before .before .before .before .before .before .before .before .before .before .before .before .before .before .before .before .before .before .before .before .pre .0, c .before .before .before .before .before .before .before .before .before .before .before .before .before .before .before .before .before .before .before .before .before .before .before .before .before .before .before .before .before .before .before .before .before .before .before .before .pre .1 .0 .within, c .before .before .before .before .before .before .before .before .before .before .before .before .before .before .before .before .before .before .before .before .before .before .before .before .before .before .before .before .before .before .before .before .before .before .before .before .pre .1 .0 .standing .tree .few),
       (
-        down-before _ _ _ (sym (rw (c .before .before .before .before .before .before .before .before .before .before .before .before .before .before .before .before .before .before .before .kind .given .1) at (c .before .before .before .before .before .before .before .before .before .before .before .before .before .before .before .before .before .before .before .before .before .kind-of .ensures)) ∙ c .before .before .before .before .before .before .before .before .before .before .before .before .before .before .before .before .before .before .before .before .before .before .node-at .ensures .is) _ _ _ (d .0) refl (record { rows-ok = d .1 .rows-ok; tags = d .1 .few; few = c .before .before .before .before .before .before .before .before .before .before .before .before .before .before .before .before .before .before .before .before .before .before .before .before .before .before .before .before .before .before .before .before .before .before .before .pre .1 .0 .list .few }) (c .before .before .before .before .before .before .before .before .before .before .before .before .before .before .before .before .before .before .before .before .before .before .before .before .before .before .before .before .before .before .before .before .before .before .before .pre .1 .0),
-        (scratch-kept (c .before .before .before .before .before .before .before .before .before .before .before .before .before .before .before .before .before .before .before .before .before .before .before .before .before .before .before .before .before .before .before .before .before .before .before .pre .1 .1 .1) (c .before .before .before .before .before .before .before .before .before .before .before .before .before .merge-step .kept .1 .1 .1 .1 .1 .1 .1 .1 .1 .0) (c .before .before .before .before .before .before .before .before .before .before .before .before .before .merge-step .kept .1 .1 .1 .1 .1 .1 .1 .1 .1 .1 .0), c .before .before .before .before .before .before .before .before .before .before .before .before .before .before .before .before .before .before .before .before .before .before .before .before .before .before .before .before .before .before .before .before .before .before .before .pre .1 .1 .0),
+        down-before _ _ _ (sym (rw (c .before .before .before .before .before .before .before .before .before .before .before .before .before .before .before .before .before .before .before .kind .given .1) at (c .before .before .before .before .before .before .before .before .before .before .before .before .before .before .before .before .before .before .before .before .before .kind-of .ensures)) ∙ c .before .before .before .before .before .before .before .before .before .before .before .before .before .before .before .before .before .before .before .before .before .before .node-at .ensures .is) _ _ _ (d .0) refl (record { rows-ok = d .1 .rows-ok; tags = d .1 .few; few = c .before .before .before .before .before .before .before .before .before .before .before .before .before .before .before .before .before .before .before .before .before .before .before .before .before .before .before .before .before .before .before .before .before .before .before .before .pre .1 .0 .list .few }) (c .before .before .before .before .before .before .before .before .before .before .before .before .before .before .before .before .before .before .before .before .before .before .before .before .before .before .before .before .before .before .before .before .before .before .before .before .pre .1 .0),
+        (scratch-kept (c .before .before .before .before .before .before .before .before .before .before .before .before .before .before .before .before .before .before .before .before .before .before .before .before .before .before .before .before .before .before .before .before .before .before .before .before .pre .1 .1 .1) (c .before .before .before .before .before .before .before .before .before .before .before .before .before .merge-step .kept .1 .1 .1 .1 .1 .1 .1 .1 .1 .0) (c .before .before .before .before .before .before .before .before .before .before .before .before .before .merge-step .kept .1 .1 .1 .1 .1 .1 .1 .1 .1 .1 .0), c .before .before .before .before .before .before .before .before .before .before .before .before .before .before .before .before .before .before .before .before .before .before .before .before .before .before .before .before .before .before .before .before .before .before .before .before .pre .1 .1 .0),
       ),
     )
 
@@ -250,7 +250,7 @@ merge-projections-enum-told-4 : (t : ℕ) → merge-projections-lts.Need-enum-to
 merge-projections-enum-told-4 t c = search needs
 
 merge-projections-rewrite-projection-given-requirements-requires-2 : (t : ℕ) → merge-projections-lts.Need-rewrite-projection-given-requirements-requires-2 (merge-projections-calls t) (merge-projections-at t) merge-projections.Post
-merge-projections-rewrite-projection-given-requirements-requires-2 t c κs = (omega (arith, c .before .before .before .before .before .before .before .before .before .before .before .before .before .before .before .before .before .before .before .before .before .before .before .before .before .before .before .before .before .before .before .before .before .before .before .pre .0), (c .before .before .before .before .before .before .before .before .before .before .before .before .before .before .before .before .before .before .before .before .before .before .before .before .before .before .before .before .before .before .before .before .before .before .before .pre .1 .0, (c .before .before .before .before .before .before .before .before .before .before .before .before .before .before .before .before .before .before .before .before .before .before .before .before .before .before .before .before .before .before .before .before .before .before .before .pre .1 .1 .0, scratch-kept (c .before .before .before .before .before .before .before .before .before .before .before .before .before .before .before .before .before .before .before .before .before .before .before .before .before .before .before .before .before .before .before .before .before .before .before .pre .1 .1 .1) (c .before .before .before .before .before .before .before .before .before .before .before .before .before .merge-step .kept .1 .1 .1 .1 .1 .1 .1 .1 .1 .0) (c .before .before .before .before .before .before .before .before .before .before .before .before .before .merge-step .kept .1 .1 .1 .1 .1 .1 .1 .1 .1 .1 .0))))
+merge-projections-rewrite-projection-given-requirements-requires-2 t c κs = (omega (arith, c .before .before .before .before .before .before .before .before .before .before .before .before .before .before .before .before .before .before .before .before .before .before .before .before .before .before .before .before .before .before .before .before .before .before .before .before .pre .0), (c .before .before .before .before .before .before .before .before .before .before .before .before .before .before .before .before .before .before .before .before .before .before .before .before .before .before .before .before .before .before .before .before .before .before .before .before .pre .1 .0, (c .before .before .before .before .before .before .before .before .before .before .before .before .before .before .before .before .before .before .before .before .before .before .before .before .before .before .before .before .before .before .before .before .before .before .before .before .pre .1 .1 .0, scratch-kept (c .before .before .before .before .before .before .before .before .before .before .before .before .before .before .before .before .before .before .before .before .before .before .before .before .before .before .before .before .before .before .before .before .before .before .before .before .pre .1 .1 .1) (c .before .before .before .before .before .before .before .before .before .before .before .before .before .merge-step .kept .1 .1 .1 .1 .1 .1 .1 .1 .1 .0) (c .before .before .before .before .before .before .before .before .before .before .before .before .before .merge-step .kept .1 .1 .1 .1 .1 .1 .1 .1 .1 .1 .0))))
 
 merge-projections-enum-told-5 : (t : ℕ) → merge-projections-lts.Need-enum-told-5 (merge-projections-calls t) (merge-projections-at t) merge-projections.Post
 merge-projections-enum-told-5 t c = search needs
@@ -277,7 +277,7 @@ merge-projections-same-length-14 : (t : ℕ) → merge-projections-lts.Need-same
 merge-projections-same-length-14 t c = search needs
 
 merge-projections-returns-2 : (t : ℕ) → merge-projections-lts.Need-returns-2 (merge-projections-calls t) (merge-projections-at t) merge-projections.Post
-merge-projections-returns-2 t c = down-after _ _ _ (sym (rw (c .before .before .before .before .before .before .before .before .before .before .before .before .before .before .before .before .before .before .before .before .before .before .before .before .before .before .before .before .before .before .before .before .before .before .kind .given .1) at (c .before .before .before .before .before .before .before .before .before .before .before .before .before .before .before .before .before .before .before .before .before .before .before .before .before .before .before .before .before .before .before .before .before .before .before .before .kind-of .ensures)) ∙ c .before .before .before .before .before .before .before .before .before .before .before .before .before .before .before .before .before .before .before .before .before .before .before .before .before .before .before .before .before .before .before .before .before .before .before .before .before .node-at .ensures .is) _ _ _ (rw (c .before .before .before .before .before .before .before .before .before .before .before .before .before .before .before .before .before .before .before .before .before .before .enum-told2 .given .1) at (c .before .before .before .before .before .before .before .before .before .before .before .before .before .before .before .before .before .before .before .before .before .before .before .before .before .before .before .before .merge-step .ensures)) refl (c .before .before .before .before .before .before .before .before .before .before .before .before .before .before .before .before .before .before .before .before .before .before .before .before .before .before .before .before .before .before .before .before .before .before .before .before .before .before .before .before .before .before .before .before .before .before .before .before .before .before .pre .1 .0 .list) (c .before .before .before .before .before .before .before .before .before .before .before .before .before .before .merge-projections .ensures)
+merge-projections-returns-2 t c = down-after _ _ _ (sym (rw (c .before .before .before .before .before .before .before .before .before .before .before .before .before .before .before .before .before .before .before .before .before .before .before .before .before .before .before .before .before .before .before .before .before .before .kind .given .1) at (c .before .before .before .before .before .before .before .before .before .before .before .before .before .before .before .before .before .before .before .before .before .before .before .before .before .before .before .before .before .before .before .before .before .before .before .before .kind-of .ensures)) ∙ c .before .before .before .before .before .before .before .before .before .before .before .before .before .before .before .before .before .before .before .before .before .before .before .before .before .before .before .before .before .before .before .before .before .before .before .before .before .node-at .ensures .is) _ _ _ (rw (c .before .before .before .before .before .before .before .before .before .before .before .before .before .before .before .before .before .before .before .before .before .before .enum-told2 .given .1) at (c .before .before .before .before .before .before .before .before .before .before .before .before .before .before .before .before .before .before .before .before .before .before .before .before .before .before .before .before .merge-step .ensures)) refl (c .before .before .before .before .before .before .before .before .before .before .before .before .before .before .before .before .before .before .before .before .before .before .before .before .before .before .before .before .before .before .before .before .before .before .before .before .before .before .before .before .before .before .before .before .before .before .before .before .before .before .before .pre .1 .0 .list) (c .before .before .before .before .before .before .before .before .before .before .before .before .before .before .merge-projections .ensures)
 
 merge-projections-same-length-15 : (t : ℕ) → merge-projections-lts.Need-same-length-15 (merge-projections-calls t) (merge-projections-at t) merge-projections.Post
 merge-projections-same-length-15 t c = search needs
@@ -303,7 +303,7 @@ merge-projections-same-length-21 t c = search needs
 merge-projections-returns-3 : (t : ℕ) → merge-projections-lts.Need-returns-3 (merge-projections-calls t) (merge-projections-at t) merge-projections.Post
 merge-projections-returns-3 t c =
     let d = rw (c .before .before .before .before .before .before .before .before .before .before .before .before .before .before .before .before .before .before .before .before .before .before .enum-told3 .given .1) at (c .before .before .before .before .before .before .before .before .before .before .before .before .before .before .before .before .before .before .before .before .before .before .before .before .before .before .before .before .merge-step .ensures) in
-    down-after _ _ _ (sym (rw (c .before .before .before .before .before .before .before .before .before .before .before .before .before .before .before .before .before .before .before .before .before .before .before .before .before .before .before .before .before .before .before .before .before .before .kind .given .1) at (c .before .before .before .before .before .before .before .before .before .before .before .before .before .before .before .before .before .before .before .before .before .before .before .before .before .before .before .before .before .before .before .before .before .before .before .before .kind-of .ensures)) ∙ c .before .before .before .before .before .before .before .before .before .before .before .before .before .before .before .before .before .before .before .before .before .before .before .before .before .before .before .before .before .before .before .before .before .before .before .before .before .node-at .ensures .is) _ _ _ (d .0) refl (record { rows-ok = d .1 .rows-ok; tags = d .1 .few; few = c .before .before .before .before .before .before .before .before .before .before .before .before .before .before .before .before .before .before .before .before .before .before .before .before .before .before .before .before .before .before .before .before .before .before .before .before .before .before .before .before .before .before .before .before .before .before .before .before .before .before .pre .1 .0 .list .few }) (c .before .before .before .before .before .before .before .before .before .before .before .before .before .before .merge-projections2 .ensures)
+    down-after _ _ _ (sym (rw (c .before .before .before .before .before .before .before .before .before .before .before .before .before .before .before .before .before .before .before .before .before .before .before .before .before .before .before .before .before .before .before .before .before .before .kind .given .1) at (c .before .before .before .before .before .before .before .before .before .before .before .before .before .before .before .before .before .before .before .before .before .before .before .before .before .before .before .before .before .before .before .before .before .before .before .before .kind-of .ensures)) ∙ c .before .before .before .before .before .before .before .before .before .before .before .before .before .before .before .before .before .before .before .before .before .before .before .before .before .before .before .before .before .before .before .before .before .before .before .before .before .node-at .ensures .is) _ _ _ (d .0) refl (record { rows-ok = d .1 .rows-ok; tags = d .1 .few; few = c .before .before .before .before .before .before .before .before .before .before .before .before .before .before .before .before .before .before .before .before .before .before .before .before .before .before .before .before .before .before .before .before .before .before .before .before .before .before .before .before .before .before .before .before .before .before .before .before .before .before .before .pre .1 .0 .list .few }) (c .before .before .before .before .before .before .before .before .before .before .before .before .before .before .merge-projections2 .ensures)
 
 merge-projections-same-length-22 : (t : ℕ) → merge-projections-lts.Need-same-length-22 (merge-projections-calls t) (merge-projections-at t) merge-projections.Post
 merge-projections-same-length-22 t c = search needs
@@ -345,10 +345,10 @@ merge-projections-returns-5 : (t : ℕ) → merge-projections-lts.Need-returns-5
 merge-projections-returns-5 t c = over-large _ _ _ (sym (rw (c .before .before .before .before .before .before .before .before .before .before .before .before .kind .given .1) at (c .before .before .before .before .before .before .before .before .before .before .before .before .before .before .kind-of .ensures)) ∙ c .before .before .before .before .before .before .before .before .before .before .before .before .before .before .before .node-at .ensures .is) (rw (c .enum-told5 .given .1) at (c .before .before .before .before .before .before .merge-step .ensures)) refl
 
 optimize-input-optimize-projections-requires : (t : ℕ) → optimize-input-lts.Need-optimize-projections-requires (optimize-input-calls t) (optimize-input-at t) optimize-input.Post
-optimize-input-optimize-projections-requires t c κs = (omega (arith, c .before .before .before .before .before .before .before .before .before .before .before .before .before .before .before .before .before .before .before .pre .0), (c .before .before .before .before .before .before .before .before .before .before .before .before .before .before .before .before .before .before .before .pre .1 .0, (c .before .before .before .before .before .before .before .before .before .before .before .before .before .before .before .before .before .before .before .pre .1 .1 .0, c .before .before .before .before .before .before .before .before .before .before .before .before .before .before .before .before .before .before .before .pre .1 .1 .1)))
+optimize-input-optimize-projections-requires t c κs = (omega (arith, c .before .before .before .before .before .before .before .before .before .before .before .before .before .before .before .before .before .before .before .before .pre .0), (c .before .before .before .before .before .before .before .before .before .before .before .before .before .before .before .before .before .before .before .before .pre .1 .0, (c .before .before .before .before .before .before .before .before .before .before .before .before .before .before .before .before .before .before .before .before .pre .1 .1 .0, c .before .before .before .before .before .before .before .before .before .before .before .before .before .before .before .before .before .before .before .before .pre .1 .1 .1)))
 
 optimize-input-top-up-requires : (t : ℕ) → optimize-input-lts.Need-top-up-requires (optimize-input-calls t) (optimize-input-at t) optimize-input.Post
-optimize-input-top-up-requires t c κs = omega (arith, c .before .before .before .before .before .before .before .before .before .before .before .before .before .before .before .before .before .before .before .before .before .before .before .before .before .before .before .before .before .before .before .before .before .before .before .pre .1 .0 .ready .records-long, c .before .before .before .before .before .before .before .before .before .before .before .before .before .before .before .optimize-projections .kept .1 .1 .1 .1 .1 .1 .1 .1 .1 .1 .1 .1 .0)
+optimize-input-top-up-requires t c κs = omega (arith, c .before .before .before .before .before .before .before .before .before .before .before .before .before .before .before .before .before .before .before .before .before .before .before .before .before .before .before .before .before .before .before .before .before .before .before .before .pre .1 .0 .ready .records-long, c .before .before .before .before .before .before .before .before .before .before .before .before .before .before .before .optimize-projections .kept .1 .1 .1 .1 .1 .1 .1 .1 .1 .1 .1 .1 .1 .0)
 
 optimize-input-same-length : (t : ℕ) → optimize-input-lts.Need-same-length (optimize-input-calls t) (optimize-input-at t) optimize-input.Post
 optimize-input-same-length t c = search needs
@@ -393,7 +393,7 @@ optimize-inputs-add-optimize-input : (t : ℕ) → optimize-inputs-lts.Need-add-
 optimize-inputs-add-optimize-input t c = search needs
 
 optimize-inputs-optimize-input-requires : (t : ℕ) → optimize-inputs-lts.Need-optimize-input-requires (optimize-inputs-calls t) (optimize-inputs-at t) optimize-inputs.Post
-optimize-inputs-optimize-input-requires t c κs = (omega (arith, c .before .before .before .before .before .before .before .before .before .before .before .before .before .before .before .before .before .before .before .before .before .before .pre .0, c .before .before .before .before .before .before .before .before .before .before .before .before .before .before .before .before .before .before .before .before .before .before .pre .1 .0 .within, c .before .before .before .before .before .before .before .before .before .before .before .before .before .before .before .before .before .before .before .before .before .before .pre .1 .0 .standing .tree .few), (same-before (c .before .before .before .before .before .before .before .enum-told3 .given .1) (c .before .before .before .before .before .before .before .before .before .before .before .before .before .before .before .before .before .before .before .before .before .before .pre .1 .0), (c .before .before .before .before .before .before .before .before .before .before .before .before .before .before .before .before .before .before .before .before .before .before .pre .1 .1 .0, c .before .before .before .before .before .before .before .before .before .before .before .before .before .before .before .before .before .before .before .before .before .before .pre .1 .1 .1)))
+optimize-inputs-optimize-input-requires t c κs = (omega (arith, c .before .before .before .before .before .before .before .before .before .before .before .before .before .before .before .before .before .before .before .before .before .before .before .pre .0, c .before .before .before .before .before .before .before .before .before .before .before .before .before .before .before .before .before .before .before .before .before .before .before .pre .1 .0 .within, c .before .before .before .before .before .before .before .before .before .before .before .before .before .before .before .before .before .before .before .before .before .before .before .pre .1 .0 .standing .tree .few), (same-before (c .before .before .before .before .before .before .before .enum-told3 .given .1) (c .before .before .before .before .before .before .before .before .before .before .before .before .before .before .before .before .before .before .before .before .before .before .before .pre .1 .0), (c .before .before .before .before .before .before .before .before .before .before .before .before .before .before .before .before .before .before .before .before .before .before .before .pre .1 .1 .0, c .before .before .before .before .before .before .before .before .before .before .before .before .before .before .before .before .before .before .before .before .before .before .before .pre .1 .1 .1)))
 
 optimize-inputs-one-input-requires : (t : ℕ) → optimize-inputs-lts.Need-one-input-requires (optimize-inputs-calls t) (optimize-inputs-at t) optimize-inputs.Post
 optimize-inputs-one-input-requires t c κs = search needs
@@ -405,7 +405,7 @@ optimize-inputs-add-optimize-input-2 : (t : ℕ) → optimize-inputs-lts.Need-ad
 optimize-inputs-add-optimize-input-2 t c = search needs
 
 optimize-inputs-optimize-input-requires-2 : (t : ℕ) → optimize-inputs-lts.Need-optimize-input-requires-2 (optimize-inputs-calls t) (optimize-inputs-at t) optimize-inputs.Post
-optimize-inputs-optimize-input-requires-2 t c κs = (omega (arith, c .before .before .before .before .before .before .before .before .before .before .before .before .before .before .before .before .before .before .before .before .before .before .before .pre .0, c .before .before .before .before .before .before .before .before .before .before .before .before .before .before .before .before .before .before .before .before .before .before .before .pre .1 .0 .within, c .before .before .before .before .before .before .before .before .before .before .before .before .before .before .before .before .before .before .before .before .before .before .before .pre .1 .0 .standing .tree .few), (one-before _ (c .before .before .before .before .before .before .before .before .todo .given .1) (c .before .before .before .before .before .before .before .before .before .before .before .before .before .before .before .before .before .before .before .before .before .before .before .pre .1 .0), (c .before .before .before .before .before .before .before .before .before .before .before .before .before .before .before .before .before .before .before .before .before .before .before .pre .1 .1 .0, c .before .before .before .before .before .before .before .before .before .before .before .before .before .before .before .before .before .before .before .before .before .before .before .pre .1 .1 .1)))
+optimize-inputs-optimize-input-requires-2 t c κs = (omega (arith, c .before .before .before .before .before .before .before .before .before .before .before .before .before .before .before .before .before .before .before .before .before .before .before .before .pre .0, c .before .before .before .before .before .before .before .before .before .before .before .before .before .before .before .before .before .before .before .before .before .before .before .before .pre .1 .0 .within, c .before .before .before .before .before .before .before .before .before .before .before .before .before .before .before .before .before .before .before .before .before .before .before .before .pre .1 .0 .standing .tree .few), (one-before _ (c .before .before .before .before .before .before .before .before .todo .given .1) (c .before .before .before .before .before .before .before .before .before .before .before .before .before .before .before .before .before .before .before .before .before .before .before .before .pre .1 .0), (c .before .before .before .before .before .before .before .before .before .before .before .before .before .before .before .before .before .before .before .before .before .before .before .before .pre .1 .1 .0, c .before .before .before .before .before .before .before .before .before .before .before .before .before .before .before .before .before .before .before .before .before .before .before .before .pre .1 .1 .1)))
 
 optimize-inputs-one-input-requires-2 : (t : ℕ) → optimize-inputs-lts.Need-one-input-requires-2 (optimize-inputs-calls t) (optimize-inputs-at t) optimize-inputs.Post
 optimize-inputs-one-input-requires-2 t c κs = search needs
@@ -417,7 +417,7 @@ optimize-inputs-add-optimize-input-3 : (t : ℕ) → optimize-inputs-lts.Need-ad
 optimize-inputs-add-optimize-input-3 t c = search needs
 
 optimize-inputs-optimize-input-requires-3 : (t : ℕ) → optimize-inputs-lts.Need-optimize-input-requires-3 (optimize-inputs-calls t) (optimize-inputs-at t) optimize-inputs.Post
-optimize-inputs-optimize-input-requires-3 t c κs = (omega (arith, c .before .before .before .before .before .before .before .before .before .before .before .before .before .before .before .before .before .before .before .before .before .before .before .pre .0, c .before .before .before .before .before .before .before .before .before .before .before .before .before .before .before .before .before .before .before .before .before .before .before .pre .1 .0 .within, c .before .before .before .before .before .before .before .before .before .before .before .before .before .before .before .before .before .before .before .before .before .before .before .pre .1 .0 .standing .tree .few), (first-before _ (c .before .before .before .before .before .before .before .before .todo2 .given .1) (c .before .before .before .before .before .before .before .before .before .before .before .before .before .before .before .before .before .before .before .before .before .before .before .pre .1 .0), (c .before .before .before .before .before .before .before .before .before .before .before .before .before .before .before .before .before .before .before .before .before .before .before .pre .1 .1 .0, c .before .before .before .before .before .before .before .before .before .before .before .before .before .before .before .before .before .before .before .before .before .before .before .pre .1 .1 .1)))
+optimize-inputs-optimize-input-requires-3 t c κs = (omega (arith, c .before .before .before .before .before .before .before .before .before .before .before .before .before .before .before .before .before .before .before .before .before .before .before .before .pre .0, c .before .before .before .before .before .before .before .before .before .before .before .before .before .before .before .before .before .before .before .before .before .before .before .before .pre .1 .0 .within, c .before .before .before .before .before .before .before .before .before .before .before .before .before .before .before .before .before .before .before .before .before .before .before .before .pre .1 .0 .standing .tree .few), (first-before _ (c .before .before .before .before .before .before .before .before .todo2 .given .1) (c .before .before .before .before .before .before .before .before .before .before .before .before .before .before .before .before .before .before .before .before .before .before .before .before .pre .1 .0), (c .before .before .before .before .before .before .before .before .before .before .before .before .before .before .before .before .before .before .before .before .before .before .before .before .pre .1 .1 .0, c .before .before .before .before .before .before .before .before .before .before .before .before .before .before .before .before .before .before .before .before .before .before .before .before .pre .1 .1 .1)))
 
 optimize-inputs-enum-known-end : (t : ℕ) → optimize-inputs-lts.Need-enum-known-end (optimize-inputs-calls t) (optimize-inputs-at t) optimize-inputs.Post
 optimize-inputs-enum-known-end t c = search needs
@@ -451,10 +451,10 @@ optimize-inputs-returns t c = first-too-large _ _ (c .before .before .before .be
 
 optimize-inputs-optimize-input-requires-4 : (t : ℕ) → optimize-inputs-lts.Need-optimize-input-requires-4 (optimize-inputs-calls t) (optimize-inputs-at t) optimize-inputs.Post
 optimize-inputs-optimize-input-requires-4 t c κs = (
-  omega (arith, c .before .before .before .before .before .before .before .before .before .before .before .before .before .before .before .before .before .before .before .before .before .before .before .before .before .before .before .before .before .before .before .before .before .before .before .before .before .before .before .before .before .before .before .before .before .before .before .before .before .before .pre .0, c .before .before .before .before .before .before .before .before .before .before .before .before .before .before .before .before .before .before .before .before .before .before .before .before .before .before .before .before .before .before .before .before .before .before .before .before .before .before .before .before .before .before .before .before .before .before .before .before .before .before .pre .1 .0 .within, c .before .before .before .before .before .before .before .before .before .before .before .before .before .before .before .before .before .before .before .before .before .before .before .before .before .before .before .before .before .before .before .before .before .before .before .before .before .before .before .before .before .before .before .before .before .before .before .before .before .before .pre .1 .0 .standing .tree .few, right-above _ (c .before .before .before .before .before .before .before .before .before .before .before .before .before .before .before .before .before .before .before .before .before .before .before .before .before .before .before .before .before .before .before .before .before .before .before .todo2 .given .1) (c .before .before .before .before .before .before .before .before .before .before .before .before .before .before .before .before .before .before .before .before .before .before .before .before .before .before .before .before .before .before .before .before .before .before .before .before .before .before .before .before .before .before .before .before .before .before .before .before .before .before .pre .1 .0)),
+  omega (arith, c .before .before .before .before .before .before .before .before .before .before .before .before .before .before .before .before .before .before .before .before .before .before .before .before .before .before .before .before .before .before .before .before .before .before .before .before .before .before .before .before .before .before .before .before .before .before .before .before .before .before .before .pre .0, c .before .before .before .before .before .before .before .before .before .before .before .before .before .before .before .before .before .before .before .before .before .before .before .before .before .before .before .before .before .before .before .before .before .before .before .before .before .before .before .before .before .before .before .before .before .before .before .before .before .before .before .pre .1 .0 .within, c .before .before .before .before .before .before .before .before .before .before .before .before .before .before .before .before .before .before .before .before .before .before .before .before .before .before .before .before .before .before .before .before .before .before .before .before .before .before .before .before .before .before .before .before .before .before .before .before .before .before .before .pre .1 .0 .standing .tree .few, right-above _ (c .before .before .before .before .before .before .before .before .before .before .before .before .before .before .before .before .before .before .before .before .before .before .before .before .before .before .before .before .before .before .before .before .before .before .before .todo2 .given .1) (c .before .before .before .before .before .before .before .before .before .before .before .before .before .before .before .before .before .before .before .before .before .before .before .before .before .before .before .before .before .before .before .before .before .before .before .before .before .before .before .before .before .before .before .before .before .before .before .before .before .before .before .pre .1 .0)),
   (
-    second-before _ _ (c .before .before .before .before .before .before .before .before .before .before .before .before .before .before .before .before .before .before .before .before .before .before .before .before .before .before .before .before .before .before .before .before .before .before .before .todo2 .given .1) (c .before .before .before .before .before .before .before .before .before .before .before .before .before .before .before .before .before .before .before .before .before .before .before .before .before .before .optimize-input3 .ensures) _ _ (c .before .before .before .before .before .before .before .before .before .end .given .1) (c .before .before .before .before .before .before .before .before .before .before .before .before .before .before .before .before .before .before .before .before .before .before .before .before .before .before .before .before .before .before .before .before .before .before .before .before .before .before .before .before .before .before .before .before .before .before .before .before .before .before .pre .1 .0),
-    (scratch-kept (c .before .before .before .before .before .before .before .before .before .before .before .before .before .before .before .before .before .before .before .before .before .before .before .before .before .before .before .before .before .before .before .before .before .before .before .before .before .before .before .before .before .before .before .before .before .before .before .before .before .before .pre .1 .1 .0) (c .before .before .before .before .before .before .before .before .before .before .before .before .before .before .before .before .before .before .before .before .before .before .before .before .before .before .optimize-input3 .kept .1 .1 .1 .1 .1 .1 .1 .1 .1 .0) (c .before .before .before .before .before .before .before .before .before .before .before .before .before .before .before .before .before .before .before .before .before .before .before .before .before .before .optimize-input3 .kept .1 .1 .1 .1 .1 .1 .1 .1 .1 .1 .0), scratch-kept (c .before .before .before .before .before .before .before .before .before .before .before .before .before .before .before .before .before .before .before .before .before .before .before .before .before .before .before .before .before .before .before .before .before .before .before .before .before .before .before .before .before .before .before .before .before .before .before .before .before .before .pre .1 .1 .1) (c .before .before .before .before .before .before .before .before .before .before .before .before .before .before .before .before .before .before .before .before .before .before .before .before .before .before .optimize-input3 .kept .1 .1 .1 .1 .1 .1 .1 .1 .1 .1 .1 .0) (c .before .before .before .before .before .before .before .before .before .before .before .before .before .before .before .before .before .before .before .before .before .before .before .before .before .before .optimize-input3 .kept .1 .1 .1 .1 .1 .1 .1 .1 .1 .1 .1 .1 .0)),
+    second-before _ _ (c .before .before .before .before .before .before .before .before .before .before .before .before .before .before .before .before .before .before .before .before .before .before .before .before .before .before .before .before .before .before .before .before .before .before .before .todo2 .given .1) (c .before .before .before .before .before .before .before .before .before .before .before .before .before .before .before .before .before .before .before .before .before .before .before .before .before .before .optimize-input3 .ensures) _ _ (c .before .before .before .before .before .before .before .before .before .end .given .1) (c .before .before .before .before .before .before .before .before .before .before .before .before .before .before .before .before .before .before .before .before .before .before .before .before .before .before .before .before .before .before .before .before .before .before .before .before .before .before .before .before .before .before .before .before .before .before .before .before .before .before .before .pre .1 .0),
+    (scratch-kept (c .before .before .before .before .before .before .before .before .before .before .before .before .before .before .before .before .before .before .before .before .before .before .before .before .before .before .before .before .before .before .before .before .before .before .before .before .before .before .before .before .before .before .before .before .before .before .before .before .before .before .before .pre .1 .1 .0) (c .before .before .before .before .before .before .before .before .before .before .before .before .before .before .before .before .before .before .before .before .before .before .before .before .before .before .optimize-input3 .kept .1 .1 .1 .1 .1 .1 .1 .1 .1 .1 .0) (c .before .before .before .before .before .before .before .before .before .before .before .before .before .before .before .before .before .before .before .before .before .before .before .before .before .before .optimize-input3 .kept .1 .1 .1 .1 .1 .1 .1 .1 .1 .1 .1 .0), scratch-kept (c .before .before .before .before .before .before .before .before .before .before .before .before .before .before .before .before .before .before .before .before .before .before .before .before .before .before .before .before .before .before .before .before .before .before .before .before .before .before .before .before .before .before .before .before .before .before .before .before .before .before .before .pre .1 .1 .1) (c .before .before .before .before .before .before .before .before .before .before .before .before .before .before .before .before .before .before .before .before .before .before .before .before .before .before .optimize-input3 .kept .1 .1 .1 .1 .1 .1 .1 .1 .1 .1 .1 .1 .0) (c .before .before .before .before .before .before .before .before .before .before .before .before .before .before .before .before .before .before .before .before .before .before .before .before .before .before .optimize-input3 .kept .1 .1 .1 .1 .1 .1 .1 .1 .1 .1 .1 .1 .1 .0)),
   ),
 )
 
@@ -516,31 +516,31 @@ optimize-inputs-returns-5 : (t : ℕ) → optimize-inputs-lts.Need-returns-5 (op
 optimize-inputs-returns-5 t c = one-after _ (c .one-input2 .ensures) _ (c .before .before .before .before .before .before .before .before .before .before .before .before .before .before .before .before .before .before .before .before .before .before .before .before .todo .given .1) (c .before .before .before .before .before .before .before .before .before .before .before .before .before .before .before .optimize-input2 .ensures)
 
 optimize-inputs-same-length-22 : (t : ℕ) → optimize-inputs-lts.Need-same-length-22 (optimize-inputs-calls t) (optimize-inputs-at t) optimize-inputs.Post
-optimize-inputs-same-length-22 t c = omega (arith, c .before .before .before .before .before .before .before .before .before .before .before .before .before .before .before .before .before .before .before .before .before .before .before .before .before .before .before .before .before .before .before .before .before .before .before .before .before .before .before .before .before .before .optimize-input3 .kept .1 .1 .1 .1 .1 .1 .1 .1 .1 .0, c .before .before .before .before .before .before .before .before .before .before .before .before .before .before .before .optimize-input4 .kept .1 .1 .1 .1 .1 .1 .1 .1 .1 .0)
+optimize-inputs-same-length-22 t c = omega (arith, c .before .before .before .before .before .before .before .before .before .before .before .before .before .before .before .before .before .before .before .before .before .before .before .before .before .before .before .before .before .before .before .before .before .before .before .before .before .before .before .before .before .before .optimize-input3 .kept .1 .1 .1 .1 .1 .1 .1 .1 .1 .1 .0, c .before .before .before .before .before .before .before .before .before .before .before .before .before .before .before .optimize-input4 .kept .1 .1 .1 .1 .1 .1 .1 .1 .1 .1 .0)
 
 optimize-inputs-same-length-23 : (t : ℕ) → optimize-inputs-lts.Need-same-length-23 (optimize-inputs-calls t) (optimize-inputs-at t) optimize-inputs.Post
-optimize-inputs-same-length-23 t c = omega (arith, c .before .before .before .before .before .before .before .before .before .before .before .before .before .before .before .before .before .before .before .before .before .before .before .before .before .before .before .before .before .before .before .before .before .before .before .before .before .before .before .before .before .before .optimize-input3 .kept .1 .1 .1 .1 .1 .1 .1 .1 .1 .1 .0, c .before .before .before .before .before .before .before .before .before .before .before .before .before .before .before .optimize-input4 .kept .1 .1 .1 .1 .1 .1 .1 .1 .1 .1 .0)
+optimize-inputs-same-length-23 t c = omega (arith, c .before .before .before .before .before .before .before .before .before .before .before .before .before .before .before .before .before .before .before .before .before .before .before .before .before .before .before .before .before .before .before .before .before .before .before .before .before .before .before .before .before .before .optimize-input3 .kept .1 .1 .1 .1 .1 .1 .1 .1 .1 .1 .1 .0, c .before .before .before .before .before .before .before .before .before .before .before .before .before .before .before .optimize-input4 .kept .1 .1 .1 .1 .1 .1 .1 .1 .1 .1 .1 .0)
 
 optimize-inputs-same-length-24 : (t : ℕ) → optimize-inputs-lts.Need-same-length-24 (optimize-inputs-calls t) (optimize-inputs-at t) optimize-inputs.Post
-optimize-inputs-same-length-24 t c = omega (arith, c .before .before .before .before .before .before .before .before .before .before .before .before .before .before .before .before .before .before .before .before .before .before .before .before .before .before .before .before .before .before .before .before .before .before .before .before .before .before .before .before .before .before .optimize-input3 .kept .1 .1 .1 .1 .1 .1 .1 .1 .1 .1 .1 .0, c .before .before .before .before .before .before .before .before .before .before .before .before .before .before .before .optimize-input4 .kept .1 .1 .1 .1 .1 .1 .1 .1 .1 .1 .1 .0)
+optimize-inputs-same-length-24 t c = omega (arith, c .before .before .before .before .before .before .before .before .before .before .before .before .before .before .before .before .before .before .before .before .before .before .before .before .before .before .before .before .before .before .before .before .before .before .before .before .before .before .before .before .before .before .optimize-input3 .kept .1 .1 .1 .1 .1 .1 .1 .1 .1 .1 .1 .1 .0, c .before .before .before .before .before .before .before .before .before .before .before .before .before .before .before .optimize-input4 .kept .1 .1 .1 .1 .1 .1 .1 .1 .1 .1 .1 .1 .0)
 
 optimize-inputs-same-length-25 : (t : ℕ) → optimize-inputs-lts.Need-same-length-25 (optimize-inputs-calls t) (optimize-inputs-at t) optimize-inputs.Post
-optimize-inputs-same-length-25 t c = omega (arith, c .before .before .before .before .before .before .before .before .before .before .before .before .before .before .before .before .before .before .before .before .before .before .before .before .before .before .before .before .before .before .before .before .before .before .before .before .before .before .before .before .before .before .optimize-input3 .kept .1 .1 .1 .1 .1 .1 .1 .1 .1 .1 .1 .1 .0, c .before .before .before .before .before .before .before .before .before .before .before .before .before .before .before .optimize-input4 .kept .1 .1 .1 .1 .1 .1 .1 .1 .1 .1 .1 .1 .0)
+optimize-inputs-same-length-25 t c = omega (arith, c .before .before .before .before .before .before .before .before .before .before .before .before .before .before .before .before .before .before .before .before .before .before .before .before .before .before .before .before .before .before .before .before .before .before .before .before .before .before .before .before .before .before .optimize-input3 .kept .1 .1 .1 .1 .1 .1 .1 .1 .1 .1 .1 .1 .1 .0, c .before .before .before .before .before .before .before .before .before .before .before .before .before .before .before .optimize-input4 .kept .1 .1 .1 .1 .1 .1 .1 .1 .1 .1 .1 .1 .1 .0)
 
 optimize-inputs-same-length-26 : (t : ℕ) → optimize-inputs-lts.Need-same-length-26 (optimize-inputs-calls t) (optimize-inputs-at t) optimize-inputs.Post
-optimize-inputs-same-length-26 t c = omega (arith, c .before .before .before .before .before .before .before .before .before .before .before .before .before .before .before .before .before .before .before .before .before .before .before .before .before .before .before .before .before .before .before .before .before .before .before .before .before .before .before .before .before .before .optimize-input3 .kept .1 .1 .1 .1 .1 .1 .1 .1 .1 .1 .1 .1 .1 .0, c .before .before .before .before .before .before .before .before .before .before .before .before .before .before .before .optimize-input4 .kept .1 .1 .1 .1 .1 .1 .1 .1 .1 .1 .1 .1 .1 .0)
+optimize-inputs-same-length-26 t c = omega (arith, c .before .before .before .before .before .before .before .before .before .before .before .before .before .before .before .before .before .before .before .before .before .before .before .before .before .before .before .before .before .before .before .before .before .before .before .before .before .before .before .before .before .before .optimize-input3 .kept .1 .1 .1 .1 .1 .1 .1 .1 .1 .1 .1 .1 .1 .1 .0, c .before .before .before .before .before .before .before .before .before .before .before .before .before .before .before .optimize-input4 .kept .1 .1 .1 .1 .1 .1 .1 .1 .1 .1 .1 .1 .1 .1 .0)
 
 optimize-inputs-same-length-27 : (t : ℕ) → optimize-inputs-lts.Need-same-length-27 (optimize-inputs-calls t) (optimize-inputs-at t) optimize-inputs.Post
-optimize-inputs-same-length-27 t c = omega (arith, c .before .before .before .before .before .before .before .before .before .before .before .before .before .before .before .before .before .before .before .before .before .before .before .before .before .before .before .before .before .before .before .before .before .before .before .before .before .before .before .before .before .before .optimize-input3 .kept .1 .1 .1 .1 .1 .1 .1 .1 .1 .1 .1 .1 .1 .1 .0, c .before .before .before .before .before .before .before .before .before .before .before .before .before .before .before .optimize-input4 .kept .1 .1 .1 .1 .1 .1 .1 .1 .1 .1 .1 .1 .1 .1 .0)
+optimize-inputs-same-length-27 t c = omega (arith, c .before .before .before .before .before .before .before .before .before .before .before .before .before .before .before .before .before .before .before .before .before .before .before .before .before .before .before .before .before .before .before .before .before .before .before .before .before .before .before .before .before .before .optimize-input3 .kept .1 .1 .1 .1 .1 .1 .1 .1 .1 .1 .1 .1 .1 .1 .1 .0, c .before .before .before .before .before .before .before .before .before .before .before .before .before .before .before .optimize-input4 .kept .1 .1 .1 .1 .1 .1 .1 .1 .1 .1 .1 .1 .1 .1 .1 .0)
 
 optimize-inputs-same-length-28 : (t : ℕ) → optimize-inputs-lts.Need-same-length-28 (optimize-inputs-calls t) (optimize-inputs-at t) optimize-inputs.Post
-optimize-inputs-same-length-28 t c = omega (arith, c .before .before .before .before .before .before .before .before .before .before .before .before .before .before .before .before .before .before .before .before .before .before .before .before .before .before .before .before .before .before .before .before .before .before .before .before .before .before .before .before .before .before .optimize-input3 .kept .1 .1 .1 .1 .1 .1 .1 .1 .1 .1 .1 .1 .1 .1 .1 .0, c .before .before .before .before .before .before .before .before .before .before .before .before .before .before .before .optimize-input4 .kept .1 .1 .1 .1 .1 .1 .1 .1 .1 .1 .1 .1 .1 .1 .1 .0)
+optimize-inputs-same-length-28 t c = omega (arith, c .before .before .before .before .before .before .before .before .before .before .before .before .before .before .before .before .before .before .before .before .before .before .before .before .before .before .before .before .before .before .before .before .before .before .before .before .before .before .before .before .before .before .optimize-input3 .kept .1 .1 .1 .1 .1 .1 .1 .1 .1 .1 .1 .1 .1 .1 .1 .1 .0, c .before .before .before .before .before .before .before .before .before .before .before .before .before .before .before .optimize-input4 .kept .1 .1 .1 .1 .1 .1 .1 .1 .1 .1 .1 .1 .1 .1 .1 .1 .0)
 
 optimize-inputs-returns-6 : (t : ℕ) → optimize-inputs-lts.Need-returns-6 (optimize-inputs-calls t) (optimize-inputs-at t) optimize-inputs.Post
 optimize-inputs-returns-6 t c = two-after _ _ (c .before .before .before .before .before .before .before .before .before .before .before .before .before .before .before .before .before .before .before .before .before .before .before .before .before .before .before .before .before .before .before .before .before .before .before .before .before .before .before .before .before .before .before .before .before .before .before .before .before .before .before .todo2 .given .1) (c .before .before .before .before .before .before .before .before .before .before .before .before .before .before .before .before .before .before .before .before .before .before .before .before .before .before .before .before .before .before .before .before .before .before .before .before .before .before .before .before .before .before .optimize-input3 .ensures) _ _ (c .before .before .before .before .before .before .before .before .before .before .before .before .before .before .before .before .before .before .before .before .before .before .before .before .before .end .given .1) _ (c .before .before .before .before .before .before .before .before .before .before .before .before .before .before .before .optimize-input4 .ensures) (c .two-inputs .ensures)
 
 optimize-projections-node-at-requires : (t : ℕ) → optimize-projections-lts.Need-node-at-requires (optimize-projections-calls t) (optimize-projections-at t) optimize-projections.Post
-optimize-projections-node-at-requires t c κs = c .before .before .before .before .before .before .before .before .before .before .before .before .pre .1 .0 .standing .tree .each _ (c .before .before .before .before .before .before .before .before .before .before .before .before .pre .1 .0 .within) .numbers
+optimize-projections-node-at-requires t c κs = c .before .before .before .before .before .before .before .before .before .before .before .before .before .pre .1 .0 .standing .tree .each _ (c .before .before .before .before .before .before .before .before .before .before .before .before .before .pre .1 .0 .within) .numbers
 
 optimize-projections-kind-of-requires : (t : ℕ) → optimize-projections-lts.Need-kind-of-requires (optimize-projections-calls t) (optimize-projections-at t) optimize-projections.Post
 optimize-projections-kind-of-requires t c κs = search needs
@@ -553,21 +553,21 @@ optimize-projections-add-merge-projections t c = search needs
 
 optimize-projections-merge-projections-requires : (t : ℕ) → optimize-projections-lts.Need-merge-projections-requires (optimize-projections-calls t) (optimize-projections-at t) optimize-projections.Post
 optimize-projections-merge-projections-requires t c κs = (
-  omega (arith, c .before .before .before .before .before .before .before .before .before .before .before .before .before .before .before .before .before .before .before .before .before .before .before .before .pre .0, c .before .before .before .before .before .before .before .before .before .before .before .before .before .before .before .before .before .before .before .before .before .before .before .before .pre .1 .0 .within, c .before .before .before .before .before .before .before .before .before .before .before .before .before .before .before .before .before .before .before .before .before .before .before .before .pre .1 .0 .standing .tree .few),
-  (file-list _ _ _ _ (sym (rw (c .before .before .before .before .before .before .before .before .kind .given .1) at (c .before .before .before .before .before .before .before .before .before .before .kind-of .ensures)) ∙ c .before .before .before .before .before .before .before .before .before .before .before .node-at .ensures .is) (c .before .before .before .before .before .before .before .before .before .before .before .before .before .before .before .before .before .before .before .before .before .before .before .before .pre .1 .0), (c .before .before .before .before .before .before .before .before .before .before .before .before .before .before .before .before .before .before .before .before .before .before .before .before .pre .1 .1 .0, c .before .before .before .before .before .before .before .before .before .before .before .before .before .before .before .before .before .before .before .before .before .before .before .before .pre .1 .1 .1)),
+  omega (arith, c .before .before .before .before .before .before .before .before .before .before .before .before .before .before .before .before .before .before .before .before .before .before .before .before .before .pre .0, c .before .before .before .before .before .before .before .before .before .before .before .before .before .before .before .before .before .before .before .before .before .before .before .before .before .pre .1 .0 .within, c .before .before .before .before .before .before .before .before .before .before .before .before .before .before .before .before .before .before .before .before .before .before .before .before .before .pre .1 .0 .standing .tree .few),
+  (file-list _ _ _ _ (sym (rw (c .before .before .before .before .before .before .before .before .kind .given .1) at (c .before .before .before .before .before .before .before .before .before .before .kind-of .ensures)) ∙ c .before .before .before .before .before .before .before .before .before .before .before .node-at .ensures .is) (c .before .before .before .before .before .before .before .before .before .before .before .before .before .before .before .before .before .before .before .before .before .before .before .before .before .pre .1 .0), (c .before .before .before .before .before .before .before .before .before .before .before .before .before .before .before .before .before .before .before .before .before .before .before .before .before .pre .1 .1 .0, c .before .before .before .before .before .before .before .before .before .before .before .before .before .before .before .before .before .before .before .before .before .before .before .before .before .pre .1 .1 .1)),
 )
 
 optimize-projections-enum-told : (t : ℕ) → optimize-projections-lts.Need-enum-told (optimize-projections-calls t) (optimize-projections-at t) optimize-projections.Post
 optimize-projections-enum-told t c = search needs
 
 optimize-projections-job-at-requires : (t : ℕ) → optimize-projections-lts.Need-job-at-requires (optimize-projections-calls t) (optimize-projections-at t) optimize-projections.Post
-optimize-projections-job-at-requires t c κs = other-asked (c .before .before .before .node-at .ensures .is) (rw (c .enum-told .given .1) at (c .before .before .kind-of .ensures)) (c .before .before .before .before .before .before .before .before .before .before .before .before .before .before .before .before .pre .1 .0)
+optimize-projections-job-at-requires t c κs = other-asked (c .before .before .before .node-at .ensures .is) (rw (c .enum-told .given .1) at (c .before .before .kind-of .ensures)) (c .before .before .before .before .before .before .before .before .before .before .before .before .before .before .before .before .before .pre .1 .0)
 
 optimize-projections-optimize-inputs-requires : (t : ℕ) → optimize-projections-lts.Need-optimize-inputs-requires (optimize-projections-calls t) (optimize-projections-at t) optimize-projections.Post
-optimize-projections-optimize-inputs-requires t c κs = (omega (arith, c .before .before .before .before .before .before .before .before .before .before .before .before .before .before .before .before .before .before .before .before .before .before .before .before .pre .0), (inputs-before (c .before .before .before .before .before .before .before .before .before .before .before .node-at .ensures .is) (rw (c .before .before .before .before .before .before .before .before .enum-told .given .1) at (c .before .before .before .before .before .before .before .before .before .before .kind-of .ensures)) (c .before .before .before .before .before .before .before .job-at .ensures) (c .before .before .before .before .before .before .before .before .before .before .before .before .before .before .before .before .before .before .before .before .before .before .before .before .pre .1 .0), (c .before .before .before .before .before .before .before .before .before .before .before .before .before .before .before .before .before .before .before .before .before .before .before .before .pre .1 .1 .0, c .before .before .before .before .before .before .before .before .before .before .before .before .before .before .before .before .before .before .before .before .before .before .before .before .pre .1 .1 .1)))
+optimize-projections-optimize-inputs-requires t c κs = (omega (arith, c .before .before .before .before .before .before .before .before .before .before .before .before .before .before .before .before .before .before .before .before .before .before .before .before .before .pre .0), (inputs-before (c .before .before .before .before .before .before .before .before .before .before .before .node-at .ensures .is) (rw (c .before .before .before .before .before .before .before .before .enum-told .given .1) at (c .before .before .before .before .before .before .before .before .before .before .kind-of .ensures)) (c .before .before .before .before .before .before .before .job-at .ensures) (c .before .before .before .before .before .before .before .before .before .before .before .before .before .before .before .before .before .before .before .before .before .before .before .before .before .pre .1 .0), (c .before .before .before .before .before .before .before .before .before .before .before .before .before .before .before .before .before .before .before .before .before .before .before .before .before .pre .1 .1 .0, c .before .before .before .before .before .before .before .before .before .before .before .before .before .before .before .before .before .before .before .before .before .before .before .before .before .pre .1 .1 .1)))
 
 optimize-projections-put-node-requires : (t : ℕ) → optimize-projections-lts.Need-put-node-requires (optimize-projections-calls t) (optimize-projections-at t) optimize-projections.Post
-optimize-projections-put-node-requires t c κs = (omega (arith, c .before .before .before .before .before .before .before .before .before .before .before .before .before .before .before .before .before .before .before .before .before .before .before .before .before .before .before .before .before .before .before .before .before .before .before .before .before .before .before .before .pre .1 .0 .ready .records-long, c .before .before .before .before .before .before .before .before .before .before .before .before .before .before .before .optimize-inputs .kept .1 .1 .1 .1 .1 .1 .1 .1 .1 .1 .1 .1 .0), inputs-left (c .before .before .before .before .before .before .before .before .before .before .before .before .before .before .before .before .before .before .before .before .before .before .before .before .before .before .before .node-at .ensures .is) (rw (c .before .before .before .before .before .before .before .before .before .before .before .before .before .before .before .before .before .before .before .before .before .before .before .before .enum-told .given .1) at (c .before .before .before .before .before .before .before .before .before .before .before .before .before .before .before .before .before .before .before .before .before .before .before .before .before .before .kind-of .ensures)) (c .before .before .before .before .before .before .before .before .before .before .before .before .before .before .before .before .before .before .before .before .before .before .before .job-at .ensures) (c .before .before .before .before .before .before .before .before .before .before .before .before .before .before .before .before .before .before .before .before .before .before .before .before .before .before .before .before .before .before .before .before .before .before .before .before .before .before .before .before .pre .1 .0))
+optimize-projections-put-node-requires t c κs = (omega (arith, c .before .before .before .before .before .before .before .before .before .before .before .before .before .before .before .before .before .before .before .before .before .before .before .before .before .before .before .before .before .before .before .before .before .before .before .before .before .before .before .before .before .pre .1 .0 .ready .records-long, c .before .before .before .before .before .before .before .before .before .before .before .before .before .before .before .optimize-inputs .kept .1 .1 .1 .1 .1 .1 .1 .1 .1 .1 .1 .1 .1 .0), inputs-left (c .before .before .before .before .before .before .before .before .before .before .before .before .before .before .before .before .before .before .before .before .before .before .before .before .before .before .before .node-at .ensures .is) (rw (c .before .before .before .before .before .before .before .before .before .before .before .before .before .before .before .before .before .before .before .before .before .before .before .before .enum-told .given .1) at (c .before .before .before .before .before .before .before .before .before .before .before .before .before .before .before .before .before .before .before .before .before .before .before .before .before .before .kind-of .ensures)) (c .before .before .before .before .before .before .before .before .before .before .before .before .before .before .before .before .before .before .before .before .before .before .before .job-at .ensures) (c .before .before .before .before .before .before .before .before .before .before .before .before .before .before .before .before .before .before .before .before .before .before .before .before .before .before .before .before .before .before .before .before .before .before .before .before .before .before .before .before .before .pre .1 .0))
 
 optimize-projections-same-length : (t : ℕ) → optimize-projections-lts.Need-same-length (optimize-projections-calls t) (optimize-projections-at t) optimize-projections.Post
 optimize-projections-same-length t c = search needs
@@ -624,7 +624,7 @@ rewrite-projection-given-requirements-width-at-requires : (t : ℕ) → rewrite-
 rewrite-projection-given-requirements-width-at-requires t c κs = search needs
 
 rewrite-projection-given-requirements-get-at-indices-requires : (t : ℕ) → rewrite-projection-given-requirements-lts.Need-get-at-indices-requires (rewrite-projection-given-requirements-calls t) (rewrite-projection-given-requirements-at t) rewrite-projection-given-requirements.Post
-rewrite-projection-given-requirements-get-at-indices-requires t c κs = (c .before .before .before .before .before .before .before .before .before .before .before .before .before .before .before .before .before .before .pre .1 .0 .list, (request-within (c .before .before .before .before .before .before .before .before .before .before .before .before .before .before .before .before .before .before .pre .1 .0), (row-below (c .before .before .before .before .before .before .before .before .before .before .before .before .before .before .before .before .before .before .pre .1 .0 .standing) _ (c .before .before .before .before .before .before .before .before .before .before .before .before .before .before .before .before .before .before .pre .1 .0 .within) (c .before .before .before .before .before .first-at .ensures) (c .before .before .before .before .width-at .ensures), c .before .before .before .before .before .before .before .before .before .before .before .before .before .before .before .before .before .before .pre .1 .0 .ready .room)))
+rewrite-projection-given-requirements-get-at-indices-requires t c κs = (c .before .before .before .before .before .before .before .before .before .before .before .before .before .before .before .before .before .before .before .pre .1 .0 .list, (request-within (c .before .before .before .before .before .before .before .before .before .before .before .before .before .before .before .before .before .before .before .pre .1 .0), (row-below (c .before .before .before .before .before .before .before .before .before .before .before .before .before .before .before .before .before .before .before .pre .1 .0 .standing) _ (c .before .before .before .before .before .before .before .before .before .before .before .before .before .before .before .before .before .before .before .pre .1 .0 .within) (c .before .before .before .before .before .first-at .ensures) (c .before .before .before .before .width-at .ensures), c .before .before .before .before .before .before .before .before .before .before .before .before .before .before .before .before .before .before .before .pre .1 .0 .ready .room)))
 
 rewrite-projection-given-requirements-same-length : (t : ℕ) → rewrite-projection-given-requirements-lts.Need-same-length (rewrite-projection-given-requirements-calls t) (rewrite-projection-given-requirements-at t) rewrite-projection-given-requirements.Post
 rewrite-projection-given-requirements-same-length t c = search needs
@@ -642,7 +642,7 @@ rewrite-projection-given-requirements-returns : (t : ℕ) → rewrite-projection
 rewrite-projection-given-requirements-returns t c = copies-large _ _ _ (rw (c .before .before .before .before .before .before .before .before .before .before .before .before .before .first-at .ensures, c .before .before .before .before .before .before .before .before .before .before .before .before .width-at .ensures) at (c .before .before .before .before .before .before .before .get-at-indices .ensures)) _ (c .if1 .taken) refl
 
 rewrite-projection-given-requirements-optimize-projections-requires : (t : ℕ) → rewrite-projection-given-requirements-lts.Need-optimize-projections-requires (rewrite-projection-given-requirements-calls t) (rewrite-projection-given-requirements-at t) rewrite-projection-given-requirements.Post
-rewrite-projection-given-requirements-optimize-projections-requires t c κs = (omega (arith, c .before .before .before .before .before .before .before .before .before .before .before .before .before .before .before .before .before .before .before .before .before .before .before .before .before .before .before .before .before .before .before .before .before .pre .0), (input-before _ _ _ (rw (c .before .before .before .before .before .before .before .before .before .before .before .before .before .before .before .before .before .before .before .before .first-at .ensures, c .before .before .before .before .before .before .before .before .before .before .before .before .before .before .before .before .before .before .before .width-at .ensures) at (c .before .before .before .before .before .before .before .before .before .before .before .before .before .before .get-at-indices .ensures)) (c .before .before .before .before .before .before .before .before .before .before .before .before .before .before .before .before .before .before .before .before .before .before .before .before .before .before .before .before .before .before .before .before .before .pre .1 .0) (c .before .before .before .before .before .before .before .if1 .left), (c .before .before .before .before .before .before .before .before .before .before .before .before .before .before .before .before .before .before .before .before .before .before .before .before .before .before .before .before .before .before .before .before .before .pre .1 .1 .0, c .before .before .before .before .before .before .before .before .before .before .before .before .before .before .before .before .before .before .before .before .before .before .before .before .before .before .before .before .before .before .before .before .before .pre .1 .1 .1)))
+rewrite-projection-given-requirements-optimize-projections-requires t c κs = (omega (arith, c .before .before .before .before .before .before .before .before .before .before .before .before .before .before .before .before .before .before .before .before .before .before .before .before .before .before .before .before .before .before .before .before .before .before .pre .0), (input-before _ _ _ (rw (c .before .before .before .before .before .before .before .before .before .before .before .before .before .before .before .before .before .before .before .before .first-at .ensures, c .before .before .before .before .before .before .before .before .before .before .before .before .before .before .before .before .before .before .before .width-at .ensures) at (c .before .before .before .before .before .before .before .before .before .before .before .before .before .before .get-at-indices .ensures)) (c .before .before .before .before .before .before .before .before .before .before .before .before .before .before .before .before .before .before .before .before .before .before .before .before .before .before .before .before .before .before .before .before .before .before .pre .1 .0) (c .before .before .before .before .before .before .before .if1 .left), (c .before .before .before .before .before .before .before .before .before .before .before .before .before .before .before .before .before .before .before .before .before .before .before .before .before .before .before .before .before .before .before .before .before .before .pre .1 .1 .0, c .before .before .before .before .before .before .before .before .before .before .before .before .before .before .before .before .before .before .before .before .before .before .before .before .before .before .before .before .before .before .before .before .before .before .pre .1 .1 .1)))
 
 rewrite-projection-given-requirements-first-at-requires-2 : (t : ℕ) → rewrite-projection-given-requirements-lts.Need-first-at-requires-2 (rewrite-projection-given-requirements-calls t) (rewrite-projection-given-requirements-at t) rewrite-projection-given-requirements.Post
 rewrite-projection-given-requirements-first-at-requires-2 t c κs = search needs
@@ -652,10 +652,10 @@ rewrite-projection-given-requirements-width-at-requires-2 t c κs = search needs
 
 rewrite-projection-given-requirements-put-list-requires : (t : ℕ) → rewrite-projection-given-requirements-lts.Need-put-list-requires (rewrite-projection-given-requirements-calls t) (rewrite-projection-given-requirements-at t) rewrite-projection-given-requirements.Post
 rewrite-projection-given-requirements-put-list-requires t c κs = (
-  omega (arith, c .before .before .before .before .before .before .before .before .before .before .before .before .before .before .before .before .before .before .before .before .before .before .before .before .before .before .before .before .before .before .before .before .before .before .before .before .before .before .before .before .before .before .before .before .before .before .before .before .before .before .before .pre .1 .0 .ready .records-long, c .before .before .before .before .before .before .before .before .before .before .before .before .before .before .before .before .before .optimize-projections .kept .1 .1 .1 .1 .1 .1 .1 .1 .1 .1 .1 .1 .0),
+  omega (arith, c .before .before .before .before .before .before .before .before .before .before .before .before .before .before .before .before .before .before .before .before .before .before .before .before .before .before .before .before .before .before .before .before .before .before .before .before .before .before .before .before .before .before .before .before .before .before .before .before .before .before .before .before .pre .1 .0 .ready .records-long, c .before .before .before .before .before .before .before .before .before .before .before .before .before .before .before .before .before .optimize-projections .kept .1 .1 .1 .1 .1 .1 .1 .1 .1 .1 .1 .1 .1 .0),
   (
-    rw (c .before .before .first-at2 .ensures, c .before .width-at2 .ensures) (top-fields (c .before .before .before .before .before .before .before .before .before .before .before .before .before .before .before .before .before .before .before .before .before .before .before .before .before .before .before .before .before .before .before .before .before .before .before .before .before .before .before .before .before .before .before .before .before .before .before .before .before .before .before .pre .1 .0)),
-    rw (c .before .before .before .before .before .before .before .before .before .before .before .before .before .before .before .before .before .before .before .before .before .before .before .before .before .before .before .before .before .before .before .before .before .before .before .before .before .before .first-at .ensures, c .before .before .before .before .before .before .before .before .before .before .before .before .before .before .before .before .before .before .before .before .before .before .before .before .before .before .before .before .before .before .before .before .before .before .before .before .before .width-at .ensures) (list-fields _ _ _ (rw (c .before .before .before .before .before .before .before .before .before .before .before .before .before .before .before .before .before .before .before .before .before .before .before .before .before .before .before .before .before .before .before .before .before .before .before .before .before .before .first-at .ensures, c .before .before .before .before .before .before .before .before .before .before .before .before .before .before .before .before .before .before .before .before .before .before .before .before .before .before .before .before .before .before .before .before .before .before .before .before .before .width-at .ensures) at (c .before .before .before .before .before .before .before .before .before .before .before .before .before .before .before .before .before .before .before .before .before .before .before .before .before .before .before .before .before .before .before .before .get-at-indices .ensures)) _ (c .before .before .before .before .before .before .before .before .before .before .before .before .before .before .before .before .before .before .before .before .before .before .before .before .before .if1 .left) (c .before .before .before .before .before .before .before .before .before .before .before .before .before .before .before .before .before .optimize-projections .ensures) (c .before .before .before .before .before .before .before .before .before .before .before .before .before .before .before .before .before .before .before .before .before .before .before .before .before .before .before .before .before .before .before .before .before .before .before .before .before .before .before .before .before .before .before .before .before .before .before .before .before .before .before .pre .1 .0)),
+    rw (c .before .before .first-at2 .ensures, c .before .width-at2 .ensures) (top-fields (c .before .before .before .before .before .before .before .before .before .before .before .before .before .before .before .before .before .before .before .before .before .before .before .before .before .before .before .before .before .before .before .before .before .before .before .before .before .before .before .before .before .before .before .before .before .before .before .before .before .before .before .before .pre .1 .0)),
+    rw (c .before .before .before .before .before .before .before .before .before .before .before .before .before .before .before .before .before .before .before .before .before .before .before .before .before .before .before .before .before .before .before .before .before .before .before .before .before .before .first-at .ensures, c .before .before .before .before .before .before .before .before .before .before .before .before .before .before .before .before .before .before .before .before .before .before .before .before .before .before .before .before .before .before .before .before .before .before .before .before .before .width-at .ensures) (list-fields _ _ _ (rw (c .before .before .before .before .before .before .before .before .before .before .before .before .before .before .before .before .before .before .before .before .before .before .before .before .before .before .before .before .before .before .before .before .before .before .before .before .before .before .first-at .ensures, c .before .before .before .before .before .before .before .before .before .before .before .before .before .before .before .before .before .before .before .before .before .before .before .before .before .before .before .before .before .before .before .before .before .before .before .before .before .width-at .ensures) at (c .before .before .before .before .before .before .before .before .before .before .before .before .before .before .before .before .before .before .before .before .before .before .before .before .before .before .before .before .before .before .before .before .get-at-indices .ensures)) _ (c .before .before .before .before .before .before .before .before .before .before .before .before .before .before .before .before .before .before .before .before .before .before .before .before .before .if1 .left) (c .before .before .before .before .before .before .before .before .before .before .before .before .before .before .before .before .before .optimize-projections .ensures) (c .before .before .before .before .before .before .before .before .before .before .before .before .before .before .before .before .before .before .before .before .before .before .before .before .before .before .before .before .before .before .before .before .before .before .before .before .before .before .before .before .before .before .before .before .before .before .before .before .before .before .before .before .pre .1 .0)),
   ),
 )
 
@@ -675,10 +675,10 @@ rewrite-projection-given-requirements-same-length-9 : (t : ℕ) → rewrite-proj
 rewrite-projection-given-requirements-same-length-9 t c = search needs
 
 rewrite-projection-given-requirements-same-length-10 : (t : ℕ) → rewrite-projection-given-requirements-lts.Need-same-length-10 (rewrite-projection-given-requirements-calls t) (rewrite-projection-given-requirements-at t) rewrite-projection-given-requirements.Post
-rewrite-projection-given-requirements-same-length-10 t c = omega (arith, c .before .before .before .before .before .before .before .before .before .before .before .before .before .before .before .before .before .before .before .before .before .before .before .before .before .before .before .before .before .before .before .before .before .before .before .get-at-indices .kept .1 .1 .1 .1 .1 .1 .1 .1 .1 .0, c .before .before .before .before .before .before .before .before .before .before .before .before .before .before .before .before .before .before .before .before .optimize-projections .kept .1 .1 .1 .1 .1 .1 .1 .1 .1 .1 .1 .1 .1 .0)
+rewrite-projection-given-requirements-same-length-10 t c = omega (arith, c .before .before .before .before .before .before .before .before .before .before .before .before .before .before .before .before .before .before .before .before .before .before .before .before .before .before .before .before .before .before .before .before .before .before .before .get-at-indices .kept .1 .1 .1 .1 .1 .1 .1 .1 .1 .0, c .before .before .before .before .before .before .before .before .before .before .before .before .before .before .before .before .before .before .before .before .optimize-projections .kept .1 .1 .1 .1 .1 .1 .1 .1 .1 .1 .1 .1 .1 .1 .0)
 
 rewrite-projection-given-requirements-same-length-11 : (t : ℕ) → rewrite-projection-given-requirements-lts.Need-same-length-11 (rewrite-projection-given-requirements-calls t) (rewrite-projection-given-requirements-at t) rewrite-projection-given-requirements.Post
-rewrite-projection-given-requirements-same-length-11 t c = omega (arith, c .before .before .before .before .before .before .before .before .before .before .before .before .before .before .before .before .before .before .before .before .before .before .before .before .before .before .before .before .before .before .before .before .before .before .before .get-at-indices .kept .1 .1 .1 .1 .1 .1 .1 .1 .1 .1 .0, c .before .before .before .before .before .before .before .before .before .before .before .before .before .before .before .before .before .before .before .before .optimize-projections .kept .1 .1 .1 .1 .1 .1 .1 .1 .1 .1 .1 .1 .1 .1 .0)
+rewrite-projection-given-requirements-same-length-11 t c = omega (arith, c .before .before .before .before .before .before .before .before .before .before .before .before .before .before .before .before .before .before .before .before .before .before .before .before .before .before .before .before .before .before .before .before .before .before .before .get-at-indices .kept .1 .1 .1 .1 .1 .1 .1 .1 .1 .1 .0, c .before .before .before .before .before .before .before .before .before .before .before .before .before .before .before .before .before .before .before .before .optimize-projections .kept .1 .1 .1 .1 .1 .1 .1 .1 .1 .1 .1 .1 .1 .1 .1 .0)
 
 rewrite-projection-given-requirements-returns-2 : (t : ℕ) → rewrite-projection-given-requirements-lts.Need-returns-2 (rewrite-projection-given-requirements-calls t) (rewrite-projection-given-requirements-at t) rewrite-projection-given-requirements.Post
 rewrite-projection-given-requirements-returns-2 t c = put-after _ _ _ (rw (c .before .before .before .before .before .before .before .before .before .before .before .before .before .before .before .before .before .before .before .before .before .before .before .before .before .before .before .before .before .before .before .before .before .before .before .before .before .before .before .before .before .first-at .ensures, c .before .before .before .before .before .before .before .before .before .before .before .before .before .before .before .before .before .before .before .before .before .before .before .before .before .before .before .before .before .before .before .before .before .before .before .before .before .before .before .before .width-at .ensures) at (c .before .before .before .before .before .before .before .before .before .before .before .before .before .before .before .before .before .before .before .before .before .before .before .before .before .before .before .before .before .before .before .before .before .before .before .get-at-indices .ensures)) _ (c .before .before .before .before .before .before .before .before .before .before .before .before .before .before .before .before .before .before .before .before .before .before .before .before .before .before .before .before .if1 .left) (c .before .before .before .before .before .before .before .before .before .before .before .before .before .before .before .before .before .before .before .before .optimize-projections .ensures) _ (rw (c .before .before .before .before .before .before .before .before .before .before .before .before .before .before .before .before .before .before .before .before .before .before .before .before .before .before .before .before .before .before .before .before .before .before .before .before .before .before .before .before .before .first-at .ensures, c .before .before .before .before .before .before .before .before .before .before .before .before .before .before .before .before .before .before .before .before .before .before .before .before .before .before .before .before .before .before .before .before .before .before .before .before .before .before .before .before .width-at .ensures, c .before .before .before .before .before .first-at2 .ensures, c .before .before .before .before .width-at2 .ensures) at (c .before .before .put-list .ensures))

@@ -2,7 +2,7 @@
 use Rattle.cpl.specs.Read.{any}
 use Rattle.cpl.specs.ReadPlan.{readTableKey}
 use Rattle.reader_parts.proofs.Counts.{from-any}
-use Rattle.reader.proofs.Keys.{counted-after-bad, counted-after-right, stands-none}
+use Rattle.reader.proofs.Keys.{counted-after-bad, counted-after-right, stands-none, tables-put}
 use Rattle.required_indices.proofs.Pads.{wide}
 use Rattle.versions.specs.Versions.{versionOf}
 use borrow.Author.Needs.{needs}
@@ -25,26 +25,36 @@ new-requires c κs = search needs
 
 read-keys-requires : tie.Need-read-keys-requires
 read-keys-requires c κs =
-    let pre = c .before .before .before .before .before .before .before .pre in
-    let new = c .new in
-    (omega (arith, pre .0), (pre .1 .0, (pre .1 .1 .0, [], pre .1 .1 .1, stands-none (new .result) (new .ensures))))
+    let pre = c .before .before .before .before .before .before .before .before .before .before .before .before .before .pre in
+    let new = c .before .before .before .before .before .new in
+    let clear-keys = c .before .before .before .clear-keys in
+    (omega (arith, pre .0, clear-keys .kept .0), (pre .1 .0, (pre .1 .1 .0, [], pre .1 .1 .1, stands-none (new .result) (new .ensures))))
 
 returns : tie.Need-returns
 returns c =
-    let args = c .before .before .before .before .before .before .args in
+    let args = c .before .before .before .before .before .before .before .args in
     let count = c .before .count in
     let read-count = c .before .before .before .read-count in
     λ C wide. counted-after-bad _ any _ (readTableKey (versionOf (args .version)) (C .tables)) _ _ (rw (count .given .1) at (read-count .ensures any from-any))
 
 returns-2 : tie.Need-returns-2
 returns-2 c =
-    let count2 = c .before .before .before .count2 in
-    let read-count = c .before .before .before .before .before .read-count in
-    let args = c .before .before .before .before .before .before .before .before .args in
-    let read-keys = c .read-keys in
-    let new = c .before .new in
+    let count2 = c .before .before .before .before .before .before .before .before .before .before .count2 in
+    let read-count = c .before .before .before .before .before .before .before .before .before .before .before .before .read-count in
+    let args = c .before .before .before .before .before .before .before .before .before .before .before .before .before .before .before .before .args in
+    let read-keys = c .before .before .read-keys in
+    let new = c .before .before .before .before .before .before .before .before .new in
+    let clear-keys = c .before .before .before .before .before .before .clear-keys in
     λ C wide. let e = rw (count2 .given .1) at (read-count .ensures any from-any) in
-    counted-after-right _ any _ (readTableKey (versionOf (args .version)) (C .tables)) _ _ (e .0) (read-keys .result) (read-keys .ensures C [] wide (stands-none (new .result) (new .ensures)))
+    counted-after-right _ any _ (readTableKey (versionOf (args .version)) (C .tables)) _ _ _ _ (e .0) (λ ks. tables-put ks (clear-keys .ensures)) (read-keys .result) (read-keys .ensures C [] wide (stands-none (new .result) (new .ensures)))
+
+clear-keys-requires : tie.Need-clear-keys-requires
+clear-keys-requires c κs =
+    let pre = c .before .before .before .before .before .before .before .before .before .pre in
+    omega (arith, pre .0)
+
+same-length : tie.Need-same-length
+same-length c = search needs
 
 pub read-all-keys-spec : {M : Type 1} → statement M
-read-all-keys-spec = tie.close (tie.spec read-count-requires enum-known-count enum-known-count-2 new-requires read-keys-requires returns returns-2)
+read-all-keys-spec = tie.close (tie.spec read-count-requires enum-known-count enum-known-count-2 new-requires clear-keys-requires read-keys-requires returns same-length returns-2)

@@ -1,12 +1,14 @@
 -- `writer::segment_size` meets its contract. Assumes nothing.
 use borrow.Author.Needs.{needs}
 use native.Mathlib.Omega.{arith}
-use mathlib.Core.Path.{refl, sym}
+use mathlib.Core.Path.{ap, refl, sym}
 use mathlib.Core.Bool.{false}
 use Rattle.writer_parts.specs.Lists.{takenCount, winsBytes}
 use Rattle.writer.specs.Shapes.{which}
+use lib.ListN.{length}
 use Rattle.writer_parts.proofs.Over.{length-bytes}
 use Rattle.writer_parts.proofs.Lists.{counted-length}
+use Rattle.writer.proofs.Segments.{own-list, own-tags}
 use Rattle.writer.proofs.segment_size.Statement.{statement}
 use Rattle.writer.proofs.segment_size.Tie as tie
 
@@ -85,6 +87,24 @@ enum-told-2 c = search needs
 enum-told-3 : tie.Need-enum-told-3
 enum-told-3 c = search needs
 
+enum-known-segment-5 : tie.Need-enum-known-segment-5
+enum-known-segment-5 c = search needs
+
+part-of-requires : tie.Need-part-of-requires
+part-of-requires c κs = search needs
+
+counted-size-requires-2 : tie.Need-counted-size-requires-2
+counted-size-requires-2 c κs =
+    let segment5 = c .before .before .segment5 in
+    let pre = c .before .before .before .before .before .before .pre in
+    let args = c .before .before .before .before .before .before .args in
+    let part-of = c .part-of in
+    let l = own-list (segment5 .given .0 .0) (segment5 .given .0 .1 .0) (args .rows .now) (args .cells .now) (segment5 .given .0 .1 .1 .1 .0) (segment5 .given .0 .1 .1 .1 .1 .0) (part-of .result) (part-of .ensures .set) in
+    let t = own-tags (segment5 .given .0 .0) (segment5 .given .0 .1 .0) (args .rows .now) (args .cells .now) (segment5 .given .0 .1 .1 .1 .0) (segment5 .given .0 .1 .1 .1 .1 .0) (part-of .result) (part-of .ensures .set) in
+    let p = rw (segment5 .given .1) at (pre .0) in
+    let q = rw (segment5 .given .1) at (pre .1) in
+    (p, omega (arith, q, ap length l, t))
+
 returns : tie.Need-returns
 returns c = search needs
 
@@ -124,5 +144,15 @@ returns-7 c =
     let enum-told3 = c .enum-told3 in
     rw (enum-told3 .given .1) (record { bytes-are = sym (length-bytes 4 _); tags-are = refl })
 
+returns-8 : tie.Need-returns-8
+returns-8 c =
+    let segment5 = c .before .before .before .segment5 in
+    let part-of = c .before .part-of in
+    let counted-size2 = c .counted-size2 in
+    let args = c .before .before .before .before .before .before .before .args in
+    let l = own-list (segment5 .given .0 .0) (segment5 .given .0 .1 .0) (args .rows .now) (args .cells .now) (segment5 .given .0 .1 .1 .1 .0) (segment5 .given .0 .1 .1 .1 .1 .0) (part-of .result) (part-of .ensures .set) in
+    let t = own-tags (segment5 .given .0 .0) (segment5 .given .0 .1 .0) (args .rows .now) (args .cells .now) (segment5 .given .0 .1 .1 .1 .0) (segment5 .given .0 .1 .1 .1 .1 .0) (part-of .result) (part-of .ensures .set) in
+    rw (segment5 .given .1) (omega (arith, counted-size2 .ensures, ap length l, t))
+
 pub segment-size-spec : {M : Type 1} → statement M
-segment-size-spec = tie.close (tie.spec enum-told enum-known-segment counted-size-requires enum-known-segment-2 wins-size-requires both-requires enum-known-segment-3 expr-size-requires enum-known-segment-4 expr-size-requires-2 both-requires-2 enum-told-2 enum-told-3 returns returns-2 returns-3 returns-4 returns-5 returns-6 returns-7)
+segment-size-spec = tie.close (tie.spec enum-told enum-known-segment counted-size-requires enum-known-segment-2 wins-size-requires both-requires enum-known-segment-3 expr-size-requires enum-known-segment-4 expr-size-requires-2 both-requires-2 enum-told-2 enum-told-3 enum-known-segment-5 part-of-requires counted-size-requires-2 returns returns-2 returns-3 returns-4 returns-5 returns-6 returns-7 returns-8)

@@ -56,9 +56,6 @@ add-behind c =
     let pre = c .before .before .before .pre in
     let h = rw (node5 .given .1) at pre in omega (arith, h)
 
-all-of-requires-3 : tie.Need-all-of-requires-3
-all-of-requires-3 c κs = search needs
-
 enum-known-node-6 : tie.Need-enum-known-node-6
 enum-known-node-6 c = search needs
 
@@ -143,9 +140,8 @@ returns-4 c =
 
 returns-5 : tie.Need-returns-5
 returns-5 c =
-    let node5 = c .before .before .node5 in
-    let all-of3 = c .all-of3 in
-    rw (node5 .given .1, all-of3 .ensures)
+    let node5 = c .before .node5 in
+    rw (node5 .given .1)
 
 returns-6 : tie.Need-returns-6
 returns-6 c =
@@ -191,4 +187,4 @@ returns-12 c =
     empty-shape .ensures ∙ (rw (node10 .given .1))
 
 pub shape-of-spec : {M : Type 1} → statement M
-shape-of-spec = tie.close (tie.spec enum-known-node all-of-requires plain-requires enum-known-node-2 plain-requires-2 enum-known-node-3 all-of-requires-2 plain-requires-3 enum-known-node-4 wide-requires mul-plain add-plain wide-requires-2 plain-requires-4 enum-known-node-5 add-behind all-of-requires-3 enum-known-node-6 plain-requires-5 enum-known-node-7 wide16-requires mul-plain-2 add-plain-2 plain-requires-6 enum-told plain-requires-7 enum-told-2 plain-requires-8 enum-known-node-8 join-shape-requires enum-known-node-9 scan-shape-requires enum-known-node-10 empty-shape-requires returns returns-2 returns-3 returns-4 returns-5 returns-6 returns-7 returns-8 returns-9 returns-10 returns-11 returns-12)
+shape-of-spec = tie.close (tie.spec enum-known-node all-of-requires plain-requires enum-known-node-2 plain-requires-2 enum-known-node-3 all-of-requires-2 plain-requires-3 enum-known-node-4 wide-requires mul-plain add-plain wide-requires-2 plain-requires-4 enum-known-node-5 add-behind enum-known-node-6 plain-requires-5 enum-known-node-7 wide16-requires mul-plain-2 add-plain-2 plain-requires-6 enum-told plain-requires-7 enum-told-2 plain-requires-8 enum-known-node-8 join-shape-requires enum-known-node-9 scan-shape-requires enum-known-node-10 empty-shape-requires returns returns-2 returns-3 returns-4 returns-5 returns-6 returns-7 returns-8 returns-9 returns-10 returns-11 returns-12)

@@ -1,14 +1,15 @@
 -- `writer::write_segment` meets its contract. Assumes nothing.
 use borrow.Author.Needs.{needs}
 use native.Mathlib.Omega.{arith}
-use mathlib.Core.Path.{refl}
+use mathlib.Core.Path.{ap, refl}
 use mathlib.Core.Bool.{false}
 use Rattle.writer_parts.specs.Lists.{takenCount, winsBytes}
 use Rattle.writer.specs.Shapes.{which}
 use Rattle.cpl.specs.Bytes.{bytes}
-use Rattle.writer_parts.proofs.Over.{length-bytes, start}
+use lib.ListN.{length}
+use Rattle.writer_parts.proofs.Over.{length-bytes, so, start}
 use Rattle.writer_parts.proofs.Lists.{after-count, counted-length}
-use Rattle.writer.proofs.Segments.{after-mark}
+use Rattle.writer.proofs.Segments.{after-mark, own-list}
 use Rattle.writer_parts.proofs.Rows.{number-wrote}
 use Rattle.writer.proofs.write_segment.Statement.{statement}
 use Rattle.writer.proofs.write_segment.Tie as tie
@@ -169,6 +170,23 @@ put-at-requires-4 c κs =
     let pre = c .before .before .before .before .before .before .before .pre in
     let q = rw (segment5 .given .1) at (pre .1) in omega (arith, q, length-bytes 4 (segment5 .given .0 .0))
 
+enum-known-segment-6 : tie.Need-enum-known-segment-6
+enum-known-segment-6 c = search needs
+
+part-of-requires : tie.Need-part-of-requires
+part-of-requires c κs = search needs
+
+write-counted-requires-2 : tie.Need-write-counted-requires-2
+write-counted-requires-2 c κs =
+    let segment6 = c .before .before .before .segment6 in
+    let pre = c .before .before .before .before .before .before .before .before .pre in
+    let args = c .before .before .before .before .before .before .before .before .args in
+    let part-of = c .before .part-of in
+    let l = own-list (segment6 .given .0 .0) (segment6 .given .0 .1 .0) (args .rows .now) (args .cells .now) (segment6 .given .0 .1 .1 .1 .0) (segment6 .given .0 .1 .1 .1 .1 .0) (part-of .result) (part-of .ensures .set) in
+    let p = rw (segment6 .given .1) at (pre .0) in
+    let q = rw (segment6 .given .1) at (pre .1) in
+    (p, omega (arith, q, ap length l))
+
 returns : tie.Need-returns
 returns c =
     let enum-told = c .enum-told in
@@ -232,5 +250,16 @@ returns-7 c =
     let put-at4 = c .before .before .put-at4 in
     rw (segment5 .given .1) (number-wrote refl (put-at4 .ensures))
 
+same-length-7 : tie.Need-same-length-7
+same-length-7 c = search needs
+
+returns-8 : tie.Need-returns-8
+returns-8 c =
+    let segment6 = c .before .before .before .before .before .before .segment6 in
+    let part-of = c .before .before .before .before .part-of in
+    let write-counted2 = c .before .before .write-counted2 in
+    let args = c .before .before .before .before .before .before .before .before .before .before .before .args in
+    rw (segment6 .given .1) (so (write-counted2 .ensures) (own-list (segment6 .given .0 .0) (segment6 .given .0 .1 .0) (args .rows .now) (args .cells .now) (segment6 .given .0 .1 .1 .1 .0) (segment6 .given .0 .1 .1 .1 .1 .0) (part-of .result) (part-of .ensures .set)) refl)
+
 pub write-segment-spec : {M : Type 1} → statement M
-write-segment-spec = tie.close (tie.spec enum-told enum-known-segment write-counted-requires enum-known-segment-2 len-requires put-at-requires sub-write-wins part-write-wins-start part-write-wins-end write-wins-requires add-result enum-known-segment-3 write-expr-requires enum-known-segment-4 put-at-requires-2 sub-write-expr part-write-expr-start part-write-expr-end write-expr-requires-2 add-result-2 enum-told-2 put-at-requires-3 enum-known-segment-5 put-at-requires-4 returns same-length returns-2 same-length-2 returns-3 same-length-3 returns-4 same-length-4 returns-5 same-length-5 returns-6 same-length-6 returns-7)
+write-segment-spec = tie.close (tie.spec enum-told enum-known-segment write-counted-requires enum-known-segment-2 len-requires put-at-requires sub-write-wins part-write-wins-start part-write-wins-end write-wins-requires add-result enum-known-segment-3 write-expr-requires enum-known-segment-4 put-at-requires-2 sub-write-expr part-write-expr-start part-write-expr-end write-expr-requires-2 add-result-2 enum-told-2 put-at-requires-3 enum-known-segment-5 put-at-requires-4 enum-known-segment-6 part-of-requires write-counted-requires-2 returns same-length returns-2 same-length-2 returns-3 same-length-3 returns-4 same-length-4 returns-5 same-length-5 returns-6 same-length-6 returns-7 same-length-7 returns-8)

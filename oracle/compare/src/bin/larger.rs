@@ -3,11 +3,12 @@
 //!
 //! Scans are told apart by giving each a table of its own, with the names of the table that it had. `slip` exchanges the two
 //! requests of each pair, which must be noticed.
-use compare::{Library, ended, numbers};
+use compare::Library;
 use generator::{Case, Mix, Random, case, line};
 use model::{Catalogue, File, Plan, TableKey, accept, read, write};
 use simmerroof::Mode;
 use std::collections::BTreeMap;
+use tools::{ended, numbers};
 
 /// The plan with a table of its own for each scan, which has the key of the scan's table.
 fn apart(file: &File) -> File {
@@ -57,7 +58,7 @@ fn requests(r: &mut Random, width: usize) -> (Vec<u16>, Vec<u16>) {
 
 fn run(n: usize, seed: u64, slip: bool) -> bool {
     let mut r = Random::new(seed);
-    let mix = Mix { wide: true, second: 50, keys: true, most_nodes: 256, most_bytes: 12000 };
+    let mix = Mix { wide: true, second: 50, keys: 40, most_nodes: 256, most_bytes: 12000 };
     let mut library = Library::new(false);
     let (mut pairs, mut fewer, mut gone, mut large, mut of_two) = (0, 0, 0, 0, 0);
     while pairs < n {

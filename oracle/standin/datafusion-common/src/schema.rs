@@ -1,17 +1,8 @@
 //! Field lists.
-use crate::{Column, DataFusionError, Result, TableReference};
+use crate::{Column, DataFusionError, FunctionalDependencies, Result, TableReference};
 use arrow::datatypes::{DataType, Field, FieldRef, Fields, Schema};
 use std::collections::BTreeSet;
 use std::sync::Arc;
-
-/// [D2] Document 01: "Every input counts as having no functional dependencies."
-#[derive(Debug, Clone, Default, PartialEq, Eq)]
-pub struct FunctionalDependencies;
-impl FunctionalDependencies {
-    pub fn is_empty(&self) -> bool {
-        true
-    }
-}
 
 #[derive(Debug, Clone, PartialEq, Eq)]
 pub struct DFSchema {
@@ -26,7 +17,7 @@ impl DFSchema {
         Self {
             inner: Arc::new(Schema { fields: vec![] }),
             field_qualifiers: vec![],
-            functional_dependencies: FunctionalDependencies,
+            functional_dependencies: FunctionalDependencies::NONE,
         }
     }
     /// [D3] Refuses document 01's CLASH: two equal pairs, or one name both with and without qualifier.
@@ -35,7 +26,7 @@ impl DFSchema {
         let s = Self {
             inner: Arc::new(Schema { fields }),
             field_qualifiers,
-            functional_dependencies: FunctionalDependencies,
+            functional_dependencies: FunctionalDependencies::NONE,
         };
         s.check_names()?;
         Ok(s)
@@ -86,6 +77,18 @@ impl DFSchema {
     pub fn functional_dependencies(&self) -> &FunctionalDependencies {
         &self.functional_dependencies
     }
+    /// [D26] The list with these dependencies, which must name fields that it has.
+    pub fn with_functional_dependencies(mut self, all: FunctionalDependencies) -> Result<Self> {
+        if !all.fit(self.inner.fields.len()) {
+            return Err(DataFusionError::Plan("a dependency on a field that is not there".into()));
+        }
+        self.functional_dependencies = all;
+        Ok(self)
+    }
+    /// The fields' texts, as a column's [D12].
+    pub fn field_names(&self) -> Vec<String> {
+        self.iter().map(|f| Column::from(f).to_string()).collect()
+    }
 }
 fn fits(col: &Column, q: Option<&TableReference>, f: &FieldRef) -> bool {
     f.name() == &col.name && (col.relation.is_none() || q == col.relation.as_ref())
@@ -100,9 +103,4 @@ impl TryFrom<Arc<Schema>> for DFSchema {
 /// A field of the rig: always a number that may be missing.
 pub fn number_field(name: impl Into<String>) -> FieldRef {
     Arc::new(Field::new(name, DataType::Int64, true))
-}
-
-/// Never called: under [D2] the texts' own short cut applies.
-pub fn get_required_group_by_exprs_indices(_: &DFSchema, _: &[String]) -> Option<Vec<usize>> {
-    unreachable!("no functional dependencies in the rig")
 }

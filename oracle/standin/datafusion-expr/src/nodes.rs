@@ -99,11 +99,12 @@ pub struct Join {
     pub join_type: JoinType,
     pub schema: DFSchemaRef,
 }
-/// A table of the catalogue: its number and its column names.
+/// A table of the catalogue: its number, its column names and its key. [D2] A key is the crate's primary key: no value of it is missing.
 #[derive(Debug, PartialEq, Eq)]
 pub struct TableSource {
     pub number: u8,
     pub names: Vec<String>,
+    pub key: Option<Vec<usize>>,
 }
 #[derive(Debug, Clone)]
 pub struct TableScan {

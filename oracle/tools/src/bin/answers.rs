@@ -16,7 +16,8 @@ fn answers(r: &mut Random, n: u64, [small, large]: [Mix; 2]) {
         };
         let request = case.request.as_deref();
         let here = model::answer(0, case.mask, &case.file, request, usize::MAX);
-        if here.is_err() || here != model::answer_stale(case.mask, &case.file, request) || result.len() > 1400 {
+        let there = model::answer_with(model::Ways::ALL, case.mask, &case.file, request);
+        if here.is_err() || here != there || result.len() > 1400 {
             continue;
         }
         let room = result.len() + *r.pick(&[0, 1, 100]);
@@ -30,7 +31,7 @@ fn main() {
     let (n, seed) = (words.next().expect("N"), words.next().expect("SEED"));
     tools::on_deep_stack(move || {
         let mut r = Random::new(seed);
-        let mix = |second, most_nodes, most_bytes| Mix { wide: false, second, keys: false, most_nodes, most_bytes };
+        let mix = |second, most_nodes, most_bytes| Mix { wide: false, second, keys: 0, most_nodes, most_bytes };
         answers(&mut r, n, [mix(0, 24, 360), mix(0, 80, 1400)]);
         // of version 2 the files may be four times as long
         answers(&mut r, n / 7, [mix(100, 24, 100), mix(100, 80, 400)]);

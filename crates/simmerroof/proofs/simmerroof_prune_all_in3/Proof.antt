@@ -1,9 +1,9 @@
--- `simmerroof::simmerroof_prune_all_in2` meets its contract: what `prune_in` answers of all fields, as three numbers. Assumes nothing.
+-- `simmerroof::simmerroof_prune_all_in3` meets its contract: what `prune_in` answers of all fields, as three numbers. Assumes nothing.
 use Rattle.pruner.proofs.Entries.{of-all}
 use Rattle.simmerroof.proofs.Numbers.{numbers}
 use borrow.Author.Needs.{needs}
-use Rattle.simmerroof.proofs.simmerroof_prune_all_in2.Statement.{statement}
-use Rattle.simmerroof.proofs.simmerroof_prune_all_in2.Tie as tie
+use Rattle.simmerroof.proofs.simmerroof_prune_all_in3.Statement.{statement}
+use Rattle.simmerroof.proofs.simmerroof_prune_all_in3.Tie as tie
 
 slice-aggregate-prune-in : tie.Need-slice-aggregate-prune-in
 slice-aggregate-prune-in c = search needs
@@ -23,5 +23,5 @@ returns c =
     let put = c .put in
     numbers _ _ _ _ _ (of-all _ _ _ _ _ (prune-in .ensures)) (put .ensures)
 
-pub simmerroof-prune-all-in2-spec : {M : Type 1} → statement M
-simmerroof-prune-all-in2-spec = tie.close (tie.spec slice-aggregate-prune-in prune-in-requires put-requires same-length returns)
+pub simmerroof-prune-all-in3-spec : {M : Type 1} → statement M
+simmerroof-prune-all-in3-spec = tie.close (tie.spec slice-aggregate-prune-in prune-in-requires put-requires same-length returns)

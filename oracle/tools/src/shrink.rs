@@ -38,7 +38,7 @@ fn candidates(case: &Case) -> Vec<Case> {
     out
 }
 
-/// Every catalogue with a table, a key, or the last columns of a table left out.
+/// Every catalogue with a table, a key, a column of a key, or the last columns of a table left out.
 fn shorter(c: &Catalogue) -> Vec<Catalogue> {
     let mut out = vec![];
     for at in 0..c.tables.len() {
@@ -53,6 +53,13 @@ fn shorter(c: &Catalogue) -> Vec<Catalogue> {
     }
     out.retain(|less| less != c);
     out.extend(less(&c.keys).map(|keys| Catalogue { keys, ..c.clone() }));
+    for (at, key) in c.keys.iter().enumerate().filter(|(_, k)| k.columns.len() > 1) {
+        for columns in less(&key.columns) {
+            let mut keys = c.keys.clone();
+            keys[at].columns = columns;
+            out.push(Catalogue { keys, ..c.clone() });
+        }
+    }
     out
 }
 

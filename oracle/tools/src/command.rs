@@ -18,7 +18,7 @@ pub fn numbers<const K: usize>(usage: &str, choices: [&str; K]) -> (usize, u64, 
 
 /// Runs the work and ends the process: status 0 if it says so, else 1. Work that stops early has failed.
 pub fn ended(work: impl FnOnce() -> bool + Send + UnwindSafe + 'static) {
-    let passed = tools::on_deep_stack(|| catch_unwind(work)).unwrap_or_else(|_| {
+    let passed = crate::on_deep_stack(|| catch_unwind(work)).unwrap_or_else(|_| {
         println!("failed: stopped early, as standard error says");
         false
     });

@@ -1,0 +1,2 @@
+-- Keys as sets in a lent array.
+pub mod Slots
