@@ -13,7 +13,7 @@ use Rattle.cpl.specs.Accept.{Fault, fault, check}
 use Rattle.cpl.proofs.Refusals.{Within, Coded, reading-coded, Faulty, check-coded}
 use Rattle.rules.specs.Merge.{Merge}
 use Rattle.rules.specs.Answer.{refused, passedOn, checked, judged}
-use Rattle.rules.specs.Check.{Finding, accepted, faulty, found, finding, Checked, numbersOf, checkFile}
+use Rattle.rules.specs.Check.{Finding, accepted, faulty, findingOf, finding, Checked, numbersOf, checkFile}
 
 -- ── codes ───────────────────────────────────────────────────────────────────────────────────
 
@@ -25,7 +25,7 @@ abbrev pub Sound : Finding → Type 0
 Sound (accepted C p) = Unit {0}
 Sound (faulty code place) = RefusalCode code
 
-found-sound : (C : Catalogue) (p : Plan) (f : Option Fault) → Faulty f → Sound (found C p f)
+found-sound : (C : Catalogue) (p : Plan) (f : Option Fault) → Faulty f → Sound (findingOf C p f)
 found-sound C p none h = tt
 found-sound C p (some (fault code node)) (inl h) = inl (omega (arith, h .0), omega (arith, h .1))
 found-sound C p (some (fault code node)) (inr e) = inr e

@@ -7,7 +7,8 @@ use native.Mathlib.Omega.{arith}
 use Rattle.cpl.specs.Exprs.{planNodes}
 use Rattle.cpl.specs.Plan.{Catalogue}
 use Rattle.cpl.specs.ReadPlan.{Head, h0, h1, h2}
-use Rattle.cpl.proofs.Accepted.{Accepted, accepted}
+use Rattle.cpl.specs.Accepted.{Accepted}
+use Rattle.cpl.proofs.Accepted.{accepted}
 use Rattle.tree.specs.Node.{nodeAt}
 use Rattle.tree.specs.Shows.{Stands}
 use Rattle.tree.specs.Tree.{Arrays, WfTree, headOf, lent, planAt, rightOf}

@@ -19,7 +19,7 @@ use Rattle.cpl.specs.Fields.{fieldsOf}
 use Rattle.cpl.specs.Accept.{fault, check}
 use Rattle.cpl.specs.Writable.{FitCatalogue}
 use Rattle.cpl.proofs.RoundTrip.{written-read}
-use Rattle.rules.specs.Check.{accepted, faulty, found, finding, numbersOf, checkFile}
+use Rattle.rules.specs.Check.{accepted, faulty, findingOf, finding, numbersOf, checkFile}
 use Rattle.rules.specs.Success.{sourceOf}
 use Rattle.versions.specs.Versions.{fieldsRoom, rowsRoom, versionOf}
 use Rattle.versions.specs.declared.Version.{Version}
@@ -62,7 +62,7 @@ module _ (file cells rows nodes fields widths keys : List ℕ) (r : Reading) whe
   pub refuse-node : (C : Catalogue) (p : Plan) (next tags count code node : ℕ) → Refuses (r .checked) code node → readFile file ≡ ok (sourceOf C p) next tags count
       → check C p 0 ≡ some (fault code node) → ReadingIs file cells rows nodes fields widths keys r
   unfolding finding
-  refuse-node C p next tags count code node e h f = refused code node e (ap finding h ∙ ap (found C p) f)
+  refuse-node C p next tags count code node e h f = refused code node e (ap finding h ∙ ap (findingOf C p) f)
 
 -- ── a file that was read ────────────────────────────────────────────────────────────────────
 
@@ -148,7 +148,7 @@ root-width {w} f = sym (list-length _ one (firstAt w 0) (widthAt w 0)) ∙ ap le
 module _ {file cells rows nodes fields widths keys : List ℕ} {version : Version} {start count : ℕ} (p : PlanIn file cells rows nodes fields widths keys version start count) where
   pub is-accepted : finding (readFile file) ≡ accepted (p .C) (rootPlan cells rows nodes)
   unfolding finding
-  is-accepted = ap finding (p .reads) ∙ ap (found (p .C) (rootPlan cells rows nodes)) (p .fine)
+  is-accepted = ap finding (p .reads) ∙ ap (findingOf (p .C) (rootPlan cells rows nodes)) (p .fine)
 
   root-stands : FieldsStand (p .C) (lent cells rows nodes) fields widths 0
   root-stands = p .stand 0 (omega (arith, p .whole, nodes-pos (rootPlan cells rows nodes)))

@@ -1,4 +1,4 @@
--- What acceptance says of a plan, node by node and without node numbers: `check` finds no fault exactly where `Accepted` holds.
+-- `check` finds no fault exactly where `Accepted` holds; then what that says of the fields.
 use mathlib.Core.Path.{_≡_, refl, ap₂}
 use mathlib.Core.List.{List}
 use mathlib.Core.Bool.{Bool, true, false, not, true≢false}
@@ -8,31 +8,13 @@ use lib.Dec.{T, leb, leb→le, le→leb}
 use lib.ListN.{length}
 use Rattle.cpl.specs.Codes.{CLASH, UNKNOWN, AMBIGUOUS, WIDTH, FIELDS}
 use Rattle.cpl.specs.Plan.{Pair, Expr, Binary, union, join, Plan, leaf, unary, binary, Catalogue}
-use Rattle.cpl.specs.Exprs.{known, leafExprs, definite, unaryExprs, planNodes}
-use Rattle.cpl.specs.Fields.{leafFields, leafInput, unaryFields, binaryFields, fieldsOf}
-use Rattle.cpl.specs.Accept.{clash, Test, allPass, binaryPasses, even, together, Fault, _then_, must, nodeFault, check}
+use Rattle.cpl.specs.Exprs.{known, definite, planNodes}
+use Rattle.cpl.specs.Fields.{binaryFields, fieldsOf}
+use Rattle.cpl.specs.Accept.{clash, Test, allPass, together, Fault, _then_, must, nodeFault, check}
 use Rattle.cpl.specs.Lists.{All}
+use Rattle.cpl.specs.Accepted.{Clear, Resolved, NodeOk, Accepted}
 use Rattle.cpl.proofs.Lists.{All-map, All-both, all-T, T-all}
-use Rattle.cpl.proofs.Clash.{Clear, clear, no-clash, clear-join}
-
--- each reference finds one field, and no second one fits
-pub record Resolved (all-pass : Test → Bool) : Type 0 where
-  pub all-found : T (all-pass known)
-  pub all-definite : T (all-pass definite)
-
--- a node without a fault
-pub record NodeOk (C : Catalogue) (all-pass : Test → Bool) (inputs-even : Bool) (fs gs : List Pair) : Type 0 where
-  pub resolved : Resolved all-pass
-  pub as-wide : T inputs-even
-  pub few : length fs ≤ C .version .maxFields
-  pub distinct : Clear gs
-
-unfoldable pub Accepted : Catalogue → Plan → Type 0
-Accepted C (leaf h) = NodeOk C (allPass (leafExprs h) (leafInput C h)) true (leafFields C h) (leafFields C h)
-Accepted C (unary h p) = Accepted C p × NodeOk C (allPass (unaryExprs h) (fieldsOf C p)) true (unaryFields h (fieldsOf C p)) (unaryFields h (fieldsOf C p))
-Accepted C (binary h p₁ p₂) =
-    Accepted C p₁ × Accepted C p₂
-    × NodeOk C (binaryPasses h (fieldsOf C p₁) (fieldsOf C p₂)) (even h (fieldsOf C p₁) (fieldsOf C p₂)) (binaryFields h (fieldsOf C p₁) (fieldsOf C p₂)) (together h (fieldsOf C p₁) (fieldsOf C p₂))
+use Rattle.cpl.proofs.Clash.{clear, no-clash, clear-join}
 
 -- ── expression by expression ────────────────────────────────────────────────────────────────
 

@@ -52,3 +52,18 @@ is-false false t = refl
 pub cond-ap : {A B : Type 0} (f : A → B) (b : Bool) (x y : A) → cond b (f x) (f y) ≡ f (cond b x y)
 cond-ap f true x y = refl
 cond-ap f false x y = refl
+
+pub or-false : (a : Bool) → (a || false) ≡ a
+or-false true = refl
+or-false false = refl
+
+pub or-assoc : (a b c : Bool) → ((a || b) || c) ≡ (a || (b || c))
+or-assoc true b c = refl
+or-assoc false b c = refl
+
+-- either says yes where the other does
+pub bool-eq : (a b : Bool) → (T a → T b) → (T b → T a) → a ≡ b
+bool-eq true true f g = refl
+bool-eq true false f g = absurd (f tt)
+bool-eq false true f g = absurd (g tt)
+bool-eq false false f g = refl

@@ -8,15 +8,10 @@ use Rattle.cpl.specs.Lists.{All, a[], _a∷_}
 use Rattle.cpl.specs.Plan.{Pair, eqP, JoinType, j-inner, j-left, j-right, j-full, j-lsemi, j-lanti, j-rsemi, j-ranti}
 use Rattle.cpl.specs.Fields.{joinFields}
 use Rattle.cpl.specs.Accept.{halfNamed, conflict, clash}
+use Rattle.cpl.specs.Accepted.{Clear, n[], _n∷_}
 use Rattle.cpl.proofs.Bools.{nor, nor-T, is-false}
 use Rattle.cpl.proofs.Lists.{All-left, All-map}
 
--- no two fields conflict, as a list of facts
-pub data Clear : List Pair → Type 0 where
-  n[] : Clear []
-  _n∷_ : {f : Pair} {fs : List Pair} → All (λ g. T (not (conflict f g))) fs → Clear fs → Clear (f ∷ fs)
-
-infixr 30 _n∷_
 none-of : (f : Pair) (gs : List Pair) → T (not (anyB (conflict f) gs)) → All (λ g. T (not (conflict f g))) gs
 unfolding anyB
 none-of f [] t = a[]

@@ -13,12 +13,12 @@ use borrow.Author.Tests.{eq-eqb, ne-eqb}
 use native.Mathlib.Decide.{ℕ-discrete}
 use Rattle.cpl.specs.Tests.{anyB}
 use Rattle.cpl.specs.Lists.{All, a[], _a∷_}
-use Rattle.cpl.specs.Plan.{Pair, pair, eqP}
+use Rattle.cpl.specs.Plan.{Pair, pair, eqP, nameless}
 use Rattle.cpl.specs.Exprs.{fits, next, find, present, fitting}
 use Rattle.cpl.specs.Accept.{halfNamed, conflict}
+use Rattle.cpl.specs.Accepted.{Clear, n[], _n∷_}
 use Rattle.cpl.proofs.Bools.{halves, is-true, left-T, right-T}
 use Rattle.cpl.proofs.Lists.{All-map, All-both}
-use Rattle.cpl.proofs.Clash.{Clear, n[], _n∷_}
 
 -- ── what fits ───────────────────────────────────────────────────────────────────────────────
 
@@ -26,10 +26,6 @@ use Rattle.cpl.proofs.Clash.{Clear, n[], _n∷_}
 pub fits-is : (q n r m : ℕ) → fits (pair q n) (pair r m) ≡ (eqb n m && (eqb q 0 || eqb q r))
 unfolding fits
 fits-is q n r m = refl
-
--- a pair's name alone
-abbrev pub nameless : Pair → Pair
-nameless (pair q n) = pair 0 n
 
 -- what fits is the pair itself, or its name alone
 pub fits-cases : (c f : Pair) → fits c f ≡ true → (c ≡ f) ⊎ (c ≡ nameless f)

@@ -12,5 +12,6 @@ pub mod Bytes
 pub mod Writable
 pub mod Fields
 pub mod Accept
+pub mod Accepted
 pub mod AreBytes
 pub mod Computes

@@ -1,5 +1,5 @@
--- Every limit of the format, in one place: those of its version, and those that all versions have. A count above its limit is refused with MANY, a
--- field list with FIELDS.
+-- Every limit, in one place: those of the version, those that all versions have, and that of the settings. A count above its limit is refused with MANY, a
+-- field list with FIELDS, a setting with SETTING.
 use Prim.Native.Nat.{ℕ}
 
 -- ── what a version decides ──────────────────────────────────────────────────────────────────
@@ -25,10 +25,14 @@ pub record Version : Type 0 where
 abbrev pub version1 : Version
 version1 = record { number = 1; wide = 1; maxColumns = 64; maxItems = 128; maxFields = 128; late = 0; maxTableKeys = 0; maxFilters = 0 }
 
+-- "limit 512, as is the field limit": no version has more columns, items or fields
+abbrev pub maxWide : ℕ
+maxWide = 512
+
 -- Document 02: "each count limited to 64 or 128 is u16 with limit 512, as is the field limit; column indices are u16"; "u8 key count (to 16)", "a scan
 -- ends in u8 n to 16 and n filter expressions"
 abbrev pub version2 : Version
-version2 = record { number = 2; wide = 2; maxColumns = 512; maxItems = 512; maxFields = 512; late = 1; maxTableKeys = 16; maxFilters = 16 }
+version2 = record { number = 2; wide = 2; maxColumns = maxWide; maxItems = maxWide; maxFields = maxWide; late = 1; maxTableKeys = 16; maxFilters = 16 }
 
 -- the versions that there are
 pub data IsVersion : Version → Type 0 where
@@ -55,3 +59,9 @@ maxTags = 4096
 -- "u32 fetch (4,294,967,295 = none)"
 abbrev pub noFetch : ℕ
 noFetch = 4294967295
+
+-- ── settings ────────────────────────────────────────────────────────────────────────────────
+
+-- "push mask above 4,095"
+abbrev pub maxMask : ℕ
+maxMask = 4095

@@ -16,6 +16,10 @@ pub data Pair : Type 0 where
 unfoldable pub eqP : Pair → Pair → Bool
 eqP (pair q n) (pair r m) = eqb q r && eqb n m
 
+-- a pair's name alone
+abbrev pub nameless : Pair → Pair
+nameless (pair q n) = pair 0 n
+
 -- tags 3 and 4
 pub data Op1 : Type 0 where
   o-not o-missing : Op1

@@ -17,7 +17,7 @@ use Rattle.cpl.specs.Plan.{Agg, Catalogue, Item, Pair, aggPair, aggregate, item
 use Rattle.cpl.specs.Tests.{concatMap}
 use Rattle.cpl.proofs.Lists.{Fit-++, Fit-length, Fit-map, Fit-sym, Fit-trans}
 use Rattle.rules.specs.Keys.{keptGroups, placesOf}
-use Rattle.rules.specs.Mask.{Mask, count, select}
+use Rattle.rules.specs.Mask.{Mask, countM, select}
 use Rattle.rules.specs.Rules as rules
 use Rattle.rules.specs.Rules.{aggregateJob, unaryJob, used}
 use Rattle.rules.proofs.Asked.{aggregate-fields, groups-fit, groups-keep, places-fit, used-fit}
@@ -142,7 +142,7 @@ module _ (gs : List Item) (vs : List Agg) {n : ℕ} {fs : List Pair} {r key aske
   kept-asks = follow-asks n own-asks (set-asks gs vs en (t .set-is) p) (en ∙ sym (Fit-length group-fit)) (t .kept-is)
 
   -- as many fields are kept as groups and aggregates are left
-  count-kept : count K ≡ length (select G gs) + length (select A′ vs)
+  count-kept : countM K ≡ length (select G gs) + length (select A′ vs)
   count-kept =
       sym (length-select (Fit-++ (Fit-trans group-fit (Fit-sym (Fit-map itemPair gs))) (Fit-trans agg-fit (Fit-sym (Fit-map aggPair vs)))))
       ∙ ap length (sym (aggregate-fields group-fit A′ vs))
@@ -153,7 +153,7 @@ module _ (gs : List Item) (vs : List Agg) {n : ℕ} {fs : List Pair} {r key aske
   unfolding unaryJob
   nothing-is C none e = record {
     K = K;
-    job = none-left (select G gs) (select A′ vs) fs K (sym count-kept ∙ eqb-true (count K) 0 (sym (empty-mask kept-asks) ∙ e));
+    job = none-left (select G gs) (select A′ vs) fs K (sym count-kept ∙ eqb-true (countM K) 0 (sym (empty-mask kept-asks) ∙ e));
     kept = kept-asks;
   }
 
@@ -173,7 +173,7 @@ module _ (gs : List Item) (vs : List Agg) {n : ℕ} {fs : List Pair} {r key aske
         Q = used es fs;
         left = λ L. K;
         job =
-            some-left (select G gs) (select A′ vs) fs K (λ z. eqb-false (count K) 0 (sym (empty-mask kept-asks) ∙ e) (count-kept ∙ z))
+            some-left (select G gs) (select A′ vs) fs K (λ z. eqb-false (countM K) 0 (sym (empty-mask kept-asks) ∙ e) (count-kept ∙ z))
             ∙ ap (λ x. rules.ask x (used es fs) true (unary (aggregate (select G gs) (select A′ vs))) (λ L. K)) (sym (d .flag ∙ n₀ .flag))
             ∙ ap₂ (λ M N. rules.ask (flagOf q) (used es fs) true (unary (aggregate (select M gs) (select N vs))) (λ L. K))
             (sym (front-mask G A′ (length gs) (length vs) kept-asks gl al)) (sym (back-mask G A′ (length gs) (length vs) kept-asks gl al));

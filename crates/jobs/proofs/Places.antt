@@ -9,7 +9,7 @@ use Rattle.cpl.specs.Fields.{binaryFields, fieldsOf, leafFields, unaryFields}
 use Rattle.cpl.specs.Lists.{Fit}
 use Rattle.cpl.specs.Plan.{Binary, Catalogue, Leaf, Pair, Unary, empty}
 use Rattle.cpl.specs.ReadPlan.{h0, h1, h2}
-use Rattle.cpl.proofs.Accepted.{Accepted}
+use Rattle.cpl.specs.Accepted.{Accepted}
 use Rattle.rules.specs.Keys.{keyOf}
 use Rattle.rules.specs.Mask.{Mask}
 use Rattle.required_indices.specs.Request.{Holds, flagOf, setOf, wordsN}

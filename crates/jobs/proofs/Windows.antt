@@ -13,7 +13,7 @@ use Rattle.cpl.specs.Lists.{Fit}
 use Rattle.cpl.specs.Plan.{Catalogue, Pair, Win, unary, winPair, window}
 use Rattle.cpl.specs.Tests.{concatMap}
 use Rattle.cpl.proofs.Lists.{Fit-length, Fit-map, Fit-trans, drop-fit, take-fit}
-use Rattle.rules.specs.Mask.{Mask, count, select}
+use Rattle.rules.specs.Mask.{Mask, countM, select}
 use Rattle.rules.specs.Rules as rules
 use Rattle.rules.specs.Rules.{plus, unaryJob, windowJob}
 use Rattle.rules.proofs.Asked.{plus-fit}
@@ -71,7 +71,7 @@ module _ (ws : List Win) {width : ℕ} {fs : List Pair} {r below set : RequiredI
   set-asks : Asks set S
   set-asks = subst (λ x. Asks set (drop x R)) ew (rest-asks width (p .asks) upto hs)
 
-  left-count : count S ≡ length (select S ws)
+  left-count : countM S ≡ length (select S ws)
   left-count = sym (length-select rest-fit)
 
   set-within : setOf set < 2 ^ length ws
@@ -92,7 +92,7 @@ module _ (ws : List Win) {width : ℕ} {fs : List Pair} {r below set : RequiredI
     Q = R₀;
     left = λ K. K ++ S;
     job =
-        none-left (select S ws) fs (flagOf r) R₀ S (sym left-count ∙ eqb-true (count S) 0 (sym (empty-mask set-asks) ∙ e))
+        none-left (select S ws) fs (flagOf r) R₀ S (sym left-count ∙ eqb-true (countM S) 0 (sym (empty-mask set-asks) ∙ e))
         ∙ ap (λ x. rules.ask x R₀ false (λ p. p) (λ K. K ++ S)) (sym (hb .flag));
     asks = pass-asks;
     fit = pass-fit;
@@ -110,7 +110,7 @@ module _ (ws : List Win) {width : ℕ} {fs : List Pair} {r below set : RequiredI
         Q = plus es fs R₀;
         left = λ K. K ++ S;
         job =
-            some-left (select S ws) fs (flagOf r) R₀ S (λ z. eqb-false (count S) 0 (sym (empty-mask set-asks) ∙ e) (left-count ∙ z))
+            some-left (select S ws) fs (flagOf r) R₀ S (λ z. eqb-false (countM S) 0 (sym (empty-mask set-asks) ∙ e) (left-count ∙ z))
             ∙ ap₂ (λ x M. rules.ask x (plus es fs R₀) true (unary (window (select M ws))) (λ K. K ++ S)) (sym (d .flag ∙ hb .flag)) (sym (asks-mask set-asks (Fit-length rest-fit)));
         asks = d .asks R₀ pass-fit pass-asks;
         fit = plus-fit es pass-fit;

@@ -8,7 +8,7 @@ use Rattle.cpl.specs.Accept.{Fault, check}
 use Rattle.cpl.specs.Plan.{Catalogue, Plan, Source}
 use Rattle.cpl.specs.Read.{Res, ok}
 use Rattle.cpl.specs.ReadPlan.{readFile}
-use Rattle.rules.specs.Check.{Finding, accepted, faulty, found, finding, numbersOf, checkFile}
+use Rattle.rules.specs.Check.{Finding, accepted, faulty, findingOf, finding, numbersOf, checkFile}
 use Rattle.rules.specs.Success.{sourceOf}
 use Rattle.acceptance.specs.Readings.{ReadingIs}
 use Rattle.acceptance.specs.declared.Reading.{Reading}
@@ -22,7 +22,7 @@ use Rattle.listing.proofs.Nodes.{stored-lines}
 pub fine : (file : List ℕ) (C : Catalogue) (p : Plan) (next tags nodes : ℕ) → readFile file ≡ ok (sourceOf C p) next tags nodes → check C p 0 ≡ none
     → listText file ≡ planText C p
 unfolding listText findingText finding
-fine file C p next tags nodes e f = ap (λ (r : Res Source). findingText (finding r)) e ∙ ap (λ (g : Option Fault). findingText (found C p g)) f
+fine file C p next tags nodes e f = ap (λ (r : Res Source). findingText (finding r)) e ∙ ap (λ (g : Option Fault). findingText (findingOf C p g)) f
 
 refused-text : (f : Finding) → 0 < numbersOf f .code → findingText f ≡ refusedText (numbersOf f .code) (numbersOf f .place)
 unfolding numbersOf findingText

@@ -5,7 +5,7 @@ use Prim.Native.Nat.{ℕ, _<_}
 use Rattle.cpl.specs.Fields.{fieldsOf}
 use Rattle.cpl.specs.Plan.{Catalogue}
 use Rattle.cpl.specs.Writable.{FitCatalogue}
-use Rattle.cpl.proofs.Accepted.{Accepted}
+use Rattle.cpl.specs.Accepted.{Accepted}
 use Rattle.tree.specs.Tree.{lent, planAt, WfTree}
 use Rattle.lookup.specs.Fields.{RowIn, fieldsAt, firstAt, widthAt}
 

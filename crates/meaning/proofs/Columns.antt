@@ -7,9 +7,9 @@ use Rattle.cpl.specs.Lists.{All, z[], _z∷_, Fit}
 use Rattle.cpl.specs.Plan.{Pair, col, Item, bare, projection, Plan, unary, Catalogue, itemPair, itemExpr}
 use Rattle.cpl.specs.Accept.{conflict}
 use Rattle.cpl.specs.Fields.{unaryFields, fieldsOf}
+use Rattle.cpl.specs.Accepted.{Clear, n[], _n∷_}
 use Rattle.cpl.proofs.Lists.{All-map, map-cong, map-congA, map-map, map-id, Fit-map, fit-self}
 use Rattle.cpl.proofs.Lookup.{fits-self, apart}
-use Rattle.cpl.proofs.Clash.{Clear, n[], _n∷_}
 use Rattle.rules.specs.Mask.{Mask, select, ones, LeM}
 use Rattle.rules.specs.Rules.{sameColumns, overChild}
 use Rattle.rules.proofs.Masks.{select-map, select-select, select-ones, Fit-select, All-select}

@@ -15,7 +15,7 @@ use Rattle.cpl.proofs.Lookup.{find-none, find-here, find-past}
 use Rattle.cpl.proofs.Lists.{map-cong, map-map, map-++, always, All-left, All-right}
 use Rattle.rules.specs.Mask.{Mask, select}
 use Rattle.rules.proofs.Masks.{select-nil}
-use Rattle.rules.proofs.Covers.{Holds, h[], here, past, Covers, Cov, used-head, used-tail}
+use Rattle.rules.proofs.Covers.{KeepsFirst, h[], here, past, Covers, Cov, used-head, used-tail}
 use Rattle.meaning.specs.Value.{Val, missing, num, Row, op1, op2}
 use Rattle.meaning.specs.Eval.{valueAt, lookup, eval, evalAll}
 use Rattle.meaning.specs.Lists.{filterB, page, around, orElse}
@@ -124,7 +124,7 @@ module _ (c f : Pair) (fs : List Pair) (v : Val) (r : Row) where
 empty-row : (c : Pair) (fs : List Pair) (ks : Mask) → lookup (select ks fs) (select ks []) c ≡ lookup fs [] c
 empty-row c fs ks = ap (λ r. lookup (select ks fs) r c) (select-nil ks) ∙ (lookup-nil c (select ks fs) ∙ sym (lookup-nil c fs))
 
-lookup-select : (c : Pair) {fs : List Pair} {ks : Mask} → Holds c fs ks → (r : Row) → lookup (select ks fs) (select ks r) c ≡ lookup fs r c
+lookup-select : (c : Pair) {fs : List Pair} {ks : Mask} → KeepsFirst c fs ks → (r : Row) → lookup (select ks fs) (select ks r) c ≡ lookup fs r c
 unfolding select
 lookup-select c h[] r = lookup-none c [] ∙ sym (lookup-none c r)
 lookup-select c {fs} {ks} (here e fit) [] = empty-row c fs ks

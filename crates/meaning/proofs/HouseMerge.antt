@@ -6,9 +6,9 @@ use lib.Dec.{T}
 use Rattle.cpl.specs.Tests.{allB}
 use Rattle.cpl.specs.Plan.{Pair, Expr, col, lit, miss, un, bin, Item, bare, named, itemPair, itemExpr}
 use Rattle.cpl.specs.Exprs.{fits, columns?}
+use Rattle.cpl.specs.Accepted.{Clear}
 use Rattle.cpl.proofs.Bools.{halves, nor, cond-ap}
 use Rattle.cpl.proofs.Lists.{map-cong, map-map, Fit-map, Fit-maps, Fit-trans}
-use Rattle.cpl.proofs.Clash.{Clear}
 use Rattle.rules.specs.Merge.{plain, defOf, replace, define, replaceItem}
 use Rattle.rules.proofs.MergeTidy.{Step, equal, put, replace-expr}
 use Rattle.meaning.specs.Value.{Row, op1, op2}

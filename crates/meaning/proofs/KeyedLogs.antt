@@ -33,5 +33,5 @@ module _ (C : Catalogue) (D : Log) where
   pub keys-differ : Keyed C D → KeysDiffer C D
   keys-differ h = All-map (λ k u. unique-differ (k .columns) (u .no-two) (u .none-missing)) h
 
-  pub no-keys : C .keys ≡ [] → Keyed C D
-  no-keys e = subst⁻¹ (All (λ k. Unique (k .columns) (tableRows D (k .table)))) e a[]
+  pub without-keys : C .keys ≡ [] → Keyed C D
+  without-keys e = subst⁻¹ (All (λ k. Unique (k .columns) (tableRows D (k .table)))) e a[]

@@ -8,7 +8,7 @@ use lib.Dec.{T, eqb}
 use Rattle.cpl.specs.Tests.{anyB}
 use Rattle.cpl.specs.Plan.{Leaf, scan, empty, Plan, leaf, unary, binary, Catalogue, namesOf}
 use Rattle.cpl.specs.Fields.{columnsOf}
-use Rattle.cpl.proofs.Bools.{halves, both-T}
+use Rattle.cpl.proofs.Bools.{halves, both-T, or-false}
 use Rattle.rules.specs.Mask.{Mask, LeM}
 use Rattle.rules.specs.Merge.{Merge}
 use Rattle.rules.specs.Rewrite.{rewrite}
@@ -32,10 +32,6 @@ module _ (C : Catalogue) (t i : ℕ) where
   scans-read : (p : Plan) → anyB (λ h. leafReads C h t i) (scans p) ≡ reads C p t i
   unfolding anyB scans leafScans reads leafReads
   scans-read (leaf (scan u q is es)) = or-false (leafReads C (scan u q is es) t i)
-    where
-      or-false : (b : Bool) → (b || false) ≡ b
-      or-false true = refl
-      or-false false = refl
   scans-read (leaf (empty b cs)) = refl
   scans-read (unary h p) = scans-read p
   scans-read (binary h p₁ p₂) = any-++ (λ h. leafReads C h t i) (scans p₁) (scans p₂) ∙ ap₂ _||_ (scans-read p₁) (scans-read p₂)

@@ -3,15 +3,16 @@ use mathlib.Core.Path.{_≡_, refl, ap, ap₂}
 use mathlib.Core.List.{List, [], _∷_, _++_, map, head-eq-of-cons-eq, tail-eq-of-cons-eq}
 use mathlib.Core.Bool.{Bool, true, false, cond, _&&_}
 use mathlib.Core.Option.{Option, none, some}
-use Prim.Native.Nat.{ℕ}
+use Prim.Native.Nat.{ℕ, _<_}
 use native.Mathlib.Omega.{arith}
-use lib.Dec.{eqb, eqb-refl}
+use lib.Dec.{T, eqb, eqb-refl}
 use lib.ListN.{length, getD}
 use Rattle.cpl.specs.Tests.{anyB, allB, concatMap}
 use Rattle.cpl.specs.Lists.{All, _a∷_}
 use Rattle.cpl.specs.Plan.{Pair, Expr, col, lit, miss, un, bin, Leaf, scan, empty, Plan, leaf, unary, binary, Catalogue, namesOf}
 use Rattle.cpl.specs.Exprs.{find, found, places}
 use Rattle.cpl.specs.Fields.{columnsOf, tableFields, fieldsOf}
+use Rattle.cpl.specs.Writable.{FitLeaf, FitPlan}
 use Rattle.cpl.proofs.Bools.{both-T, left-T, right-T}
 use Rattle.cpl.proofs.Lists.{each-number, All-map, All-left, All-right, map-congA}
 use Rattle.meaning.specs.Value.{missing, Row, Log, op1, op2, yes?}
@@ -72,20 +73,42 @@ transpose is js p f (r ∷ rs) (s ∷ ss) e h k =
     go true rs ss x y = ap₂ _∷_ x y
     go false rs ss x y = y
 
-module _ (C : Catalogue) (D E : Log) where
-  leaf-reads : (h : Leaf) → Agree C (leaf h) D E → leafRows C D h ≡ leafRows C E h
-  unfolding leafRows scanRows reads leafReads rowCount column filterColumns
-  leaf-reads (scan u q is es) a =
+-- ── plans ───────────────────────────────────────────────────────────────────────────────────
+
+-- every scan of the plan is of a table of which In holds
+unfoldable pub ScansIn : (In : ℕ → Type 0) → Plan → Type 0
+ScansIn In (leaf (scan t q is es)) = In t
+ScansIn In (leaf (empty b cs)) = Unit {0}
+ScansIn In (unary h p) = ScansIn In p
+ScansIn In (binary h p₁ p₂) = ScansIn In p₁ × ScansIn In p₂
+
+module _ (C : Catalogue) (D E : Log) {In : ℕ → Type 0} (counts : (t : ℕ) → In t → rowCount D t ≡ rowCount E t) where
+  leaf-reads : (h : Leaf) → ScansIn In (leaf h) → ((t i : ℕ) → T (leafReads C h t i) → column D t i ≡ column E t i) → leafRows C D h ≡ leafRows C E h
+  unfolding leafRows scanRows leafReads rowCount column filterColumns ScansIn
+  leaf-reads (scan u q is es) k a =
       let cs = columnsOf (namesOf C u) is in
       let js = filterColumns C u q es in
-      let all = each-number (SameColumn (tableRows D u) (tableRows E u)) (cs ++ js) (λ i t. a .columns u i (both-T (eqb u u) (anyB (eqb i) (cs ++ js)) (eqb-refl u) t)) in
-      transpose cs js (passes (tableFields C u q) es) (λ r s h. passes-same r s (tableFields C u q) es h) (tableRows D u) (tableRows E u) (a .counts u) (All-left cs js all) (All-right cs js all)
-  leaf-reads (empty b cs) a = refl
+      let all = each-number (SameColumn (tableRows D u) (tableRows E u)) (cs ++ js) (λ i t. a u i (both-T (eqb u u) (anyB (eqb i) (cs ++ js)) (eqb-refl u) t)) in
+      transpose cs js (passes (tableFields C u q) es) (λ r s h. passes-same r s (tableFields C u q) es h) (tableRows D u) (tableRows E u) (counts u k) (All-left cs js all) (All-right cs js all)
+  leaf-reads (empty b cs) k a = refl
 
-  pub reads-only : (p : Plan) → Agree C p D E → meaning C D p ≡ meaning C E p
-  unfolding meaning reads
-  reads-only (leaf h) a = leaf-reads h a
-  reads-only (unary h p) a = ap (unaryRows h (fieldsOf C p)) (reads-only p (record { counts = a .counts; columns = a .columns }))
-  reads-only (binary h p₁ p₂) a =
-      ap₂ (binaryRows h (fieldsOf C p₁) (fieldsOf C p₂)) (reads-only p₁ (record { counts = a .counts; columns = λ t i k. a .columns t i (left-T (reads C p₁ t i) (reads C p₂ t i) k) }))
-      (reads-only p₂ (record { counts = a .counts; columns = λ t i k. a .columns t i (right-T (reads C p₁ t i) (reads C p₂ t i) k) }))
+  pub reads-in : (p : Plan) → ScansIn In p → ((t i : ℕ) → T (reads C p t i) → column D t i ≡ column E t i) → meaning C D p ≡ meaning C E p
+  unfolding meaning reads ScansIn
+  reads-in (leaf h) k a = leaf-reads h k a
+  reads-in (unary h p) k a = ap (unaryRows h (fieldsOf C p)) (reads-in p k a)
+  reads-in (binary h p₁ p₂) k a =
+      ap₂ (binaryRows h (fieldsOf C p₁) (fieldsOf C p₂)) (reads-in p₁ (k .0) (λ t i r. a t i (left-T (reads C p₁ t i) (reads C p₂ t i) r)))
+      (reads-in p₂ (k .1) (λ t i r. a t i (right-T (reads C p₁ t i) (reads C p₂ t i) r)))
+
+-- ── plans that can be written ───────────────────────────────────────────────────────────────
+
+-- their scans are of the catalogue's tables
+fit-scans : (C : Catalogue) (p : Plan) → FitPlan C p → ScansIn (λ t. t < length (C .tables)) p
+unfolding FitPlan FitLeaf ScansIn
+fit-scans C (leaf (scan t q is es)) f = f .0
+fit-scans C (leaf (empty b cs)) f = tt
+fit-scans C (unary h p) f = fit-scans C p (f .1)
+fit-scans C (binary h p₁ p₂) f = (fit-scans C p₁ (f .1), fit-scans C p₂ (f .2))
+
+pub reads-only : (C : Catalogue) (D E : Log) (p : Plan) → FitPlan C p → Agree C p D E → meaning C D p ≡ meaning C E p
+reads-only C D E p f a = reads-in C D E (a .counts) p (fit-scans C p f) (a .columns)

@@ -11,12 +11,12 @@ use Rattle.cpl.specs.Lists.{Fit}
 use Rattle.cpl.specs.Plan.{Pair, Item, bare, Unary, projection, filter, sort, limit, aggregate, window, subqueryAlias, distinct, Binary, Plan, leaf, unary, binary, Catalogue, itemPair}
 use Rattle.cpl.specs.Fields.{unaryFields, binaryFields, fieldsOf}
 use Rattle.cpl.specs.Accept.{even}
-use Rattle.cpl.proofs.Clash.{Clear}
-use Rattle.cpl.proofs.Accepted.{Accepted, distinct-fields}
-use Rattle.rules.specs.Mask.{Mask, select, count}
+use Rattle.cpl.specs.Accepted.{Clear, Accepted}
+use Rattle.cpl.proofs.Accepted.{distinct-fields}
+use Rattle.rules.specs.Mask.{Mask, select, countM}
 use Rattle.rules.specs.Merge.{mergeStep}
 use Rattle.rules.specs.Rules.{topUp, Job, done, ask, projectionJob, unaryJob}
-use Rattle.rules.specs.Rewrite.{Go, input, runJob, pend, counted, merged, leafWalk, nodeWalk, unaryWalk, binaryWalk, walk}
+use Rattle.rules.specs.Rewrite.{Go, input, runJob, pend, measured, merged, leafWalk, nodeWalk, unaryWalk, binaryWalk, walk}
 use Rattle.rules.proofs.Masks.{LeM-refl, LeM-fit, count-eq, length-select}
 use Rattle.rules.proofs.Known.{bare-fields}
 use Rattle.rules.proofs.MergeTidy.{step, step-pairs}
@@ -47,9 +47,9 @@ module _ (C : Catalogue) (D : Log) {fs : List Pair} {rs : List Row} (nd : Clear 
   -- a topped-up input has exactly what was asked of it
   pub topped : {Q K : Mask} {p′ : Plan} → Fit Q fs → Narrowed C D fs rs Q K p′ → Narrowed C D fs rs Q Q (topUp C fs Q p′)
   unfolding topUp fieldsOf meaning unaryFields unaryRows
-  topped {Q} {K} {p′} f n = go (ltb (count Q) (length (fieldsOf C p′))) (λ t. t)
+  topped {Q} {K} {p′} f n = go (ltb (countM Q) (length (fieldsOf C p′))) (λ t. t)
     where
-      go : (b : Bool) → (T (not b) → T (not (ltb (count Q) (length (fieldsOf C p′))))) → Narrowed C D fs rs Q Q (cond b (unary (projection (map bare (select Q fs))) p′) p′)
+      go : (b : Bool) → (T (not b) → T (not (ltb (countM Q) (length (fieldsOf C p′))))) → Narrowed C D fs rs Q Q (cond b (unary (projection (map bare (select Q fs))) p′) p′)
       go true t =
           record {
             keeps = LeM-refl Q;
@@ -57,8 +57,8 @@ module _ (C : Catalogue) (D : Log) {fs : List Pair} {rs : List Row} (nd : Clear 
             rows = ap₂ (projectionRows (map bare (select Q fs))) (n .fields) (n .rows) ∙ columns-rows nd w f (n .keeps);
           }
       go false t =
-          let h : length (fieldsOf C p′) ≤ count Q = nltb→le _ _ (t tt) in
-          let l : length (fieldsOf C p′) ≡ count K = ap length (n .fields) ∙ length-select (LeM-fit (n .keeps) f) in
+          let h : length (fieldsOf C p′) ≤ countM Q = nltb→le _ _ (t tt) in
+          let l : length (fieldsOf C p′) ≡ countM K = ap length (n .fields) ∙ length-select (LeM-fit (n .keeps) f) in
           subst (λ M. Narrowed C D fs rs Q M p′) (count-eq (n .keeps) (omega arith)) n
 
   module _ (go : Go) (g : Narrows C D fs rs go) {R : Mask} {gs : List Pair} {qs : List Row} where
@@ -95,7 +95,7 @@ module _ (C : Catalogue) (D : Log) where
         → ((ks : List Item) → Clear (map itemPair ks) → Narrows C D (map itemPair ks) (projectionRows ks fs rs) (go (some ks)))
         → (r : Option (List Item)) → mergeStep true m js is ≡ r
         → Narrows C D (map itemPair js) (projectionRows js (map itemPair is) (projectionRows is fs rs)) (merged r (λ ks. go (some ks)) (pend C (some js) (map itemPair is) (go (some is))))
-    unfolding merged counted
+    unfolding merged measured
     merged-narrows js is u l g none e = pend-narrows C D l (projection-wide is fs rs) (go (some is)) (g is l) (some js)
     merged-narrows js is u l g (some ks) e = λ b R f.
         let s = step true m js is ks e in

@@ -9,8 +9,8 @@ use Rattle.cpl.specs.Lists.{a[], Fit}
 use Rattle.cpl.specs.Plan.{Pair, Item, Agg, Win, Leaf, scan, empty, Unary, projection, filter, sort, limit, aggregate, window, subqueryAlias, distinct, Plan, leaf, unary, Catalogue, namesOf, itemPair, itemExpr, keyExpr, aggPair, winPair}
 use Rattle.cpl.specs.Exprs.{aggExprs, winExprs, unaryExprs}
 use Rattle.cpl.specs.Fields.{columnsOf, scanField, leafFields, requalify, unaryFields, fieldsOf}
+use Rattle.cpl.specs.Accepted.{Clear}
 use Rattle.cpl.proofs.Lists.{All-mapped, map-cong, map-map, Fit-map, fit-self, Fit-trans, take-fit}
-use Rattle.cpl.proofs.Clash.{Clear}
 use Rattle.rules.specs.Mask.{Mask, select, ones, LeM}
 use Rattle.rules.specs.Keys.{placesOf}
 use Rattle.rules.specs.Rules.{used, leafRule, leafKept, Job, done, ask, projectionJob, aggregateJob, windowJob, unaryJob}

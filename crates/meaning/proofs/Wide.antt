@@ -9,8 +9,8 @@ use Rattle.cpl.specs.Lists.{All, a[], _a∷_, z[], Fit}
 use Rattle.cpl.specs.Plan.{Pair, Expr, Item, Agg, JoinType, j-inner, j-left, j-right, j-full, j-lsemi, j-lanti, j-rsemi, j-ranti, Leaf, scan, empty, Unary, projection, filter, sort, limit, aggregate, window, subqueryAlias, distinct, Binary, union, join, Plan, leaf, unary, binary, Catalogue, namesOf, itemPair, itemExpr, aggPair, winPair}
 use Rattle.cpl.specs.Fields.{columnsOf, scanField, leafFields, requalify, unaryFields, joinFields, binaryFields, fieldsOf}
 use Rattle.cpl.specs.Accept.{even}
+use Rattle.cpl.specs.Accepted.{Accepted}
 use Rattle.cpl.proofs.Lists.{All-map, All-++, All-cond, always, All-mapped, All-concat, Fit-map, Fit-maps, Fit-trans, Fit-sym, Fit-++, length-Fit}
-use Rattle.cpl.proofs.Accepted.{Accepted}
 use Rattle.meaning.specs.Value.{missing, Row, Log, sameRow}
 use Rattle.meaning.specs.Eval.{eval, evalAll}
 use Rattle.meaning.specs.Lists.{filterB, firsts, page, around, orElse}

@@ -2,7 +2,7 @@
 use mathlib.Core.Path.{_≡_}
 use mathlib.Core.List.{List, map, _++_}
 use mathlib.Core.Bool.{Bool, false, _&&_, _||_}
-use Prim.Native.Nat.{ℕ}
+use Prim.Native.Nat.{ℕ, _<_}
 use lib.Dec.{T, eqb}
 use lib.ListN.{length, getD}
 use Rattle.cpl.specs.Tests.{anyB, concatMap}
@@ -34,7 +34,7 @@ rowCount D t = length (tableRows D t)
 unfoldable pub column : Log → (table column : ℕ) → List Val
 column D t i = map (λ r. getD r i missing) (tableRows D t)
 
--- as many rows in each table, and the same values in each column that the plan's scans name
+-- as many rows in each of the catalogue's tables, and the same values in each column that the plan's scans name
 pub record Agree (C : Catalogue) (p : Plan) (D E : Log) : Type 0 where
-  pub counts : (t : ℕ) → rowCount D t ≡ rowCount E t
+  pub counts : (t : ℕ) → t < length (C .tables) → rowCount D t ≡ rowCount E t
   pub columns : (t i : ℕ) → T (reads C p t i) → column D t i ≡ column E t i

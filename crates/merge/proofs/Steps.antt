@@ -11,12 +11,11 @@ use lib.ListN.{length}
 use Rattle.cpl.specs.Codes.{tagOf}
 use Rattle.cpl.specs.Exprs.{itemTags}
 use Rattle.cpl.specs.Limits.{maxTags}
-use Rattle.cpl.specs.Plan.{Item, itemExpr, itemPair, pair}
+use Rattle.cpl.specs.Plan.{Item, itemExpr, itemPair, pair, nameless}
 use Rattle.cpl.specs.Tests.{anyB, sumOf}
-use Rattle.cpl.proofs.Lookup.{nameless}
-use Rattle.rules.specs.Merge.{dropsChild, held, mergeStep, occursIn, pushes, replaceItem, usesNone}
+use Rattle.rules.specs.Merge.{dropsChild, held, mergeStep, occursIn, pushes, replaceItem, usesNone, stops}
 use Rattle.rules.specs.Rewrite.{tooLong}
-use Rattle.rules.proofs.Held.{held-items, stops}
+use Rattle.rules.proofs.Held.{held-items}
 use Rattle.arena.specs.Cells.{Wf, exprAt}
 use Rattle.arena.specs.Rows.{RowIs, RowOk, itemAt, itemsAt}
 use Rattle.arena.proofs.Laws.{here}

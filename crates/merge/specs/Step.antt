@@ -7,12 +7,11 @@ use Prim.Native.Nat.{ℕ, _*_, _/_, _%_, _^_, _≤_}
 use lib.Dec.{eqb}
 use lib.ListN.{length}
 use Rattle.cpl.specs.Exprs.{itemTags}
-use Rattle.cpl.specs.Limits.{maxTags}
+use Rattle.cpl.specs.Limits.{maxTags, maxWide}
 use Rattle.cpl.specs.Accept.{allPass}
 use Rattle.cpl.specs.Plan.{Item, itemExpr, itemPair}
 use Rattle.cpl.specs.Tests.{sumOf}
-use Rattle.cpl.proofs.Accepted.{Resolved}
-use Rattle.cpl.proofs.Clash.{Clear}
+use Rattle.cpl.specs.Accepted.{Clear, Resolved}
 use Rattle.rules.specs.Merge.{mergeStep}
 use Rattle.rules.specs.Rewrite.{tooLong}
 use Rattle.arena.specs.Rows.{RowsOk, itemsAt}
@@ -30,7 +29,7 @@ pub record Reads (js is : List Item) : Type 0 where
 
 -- rows for the list, and nodes for all that a list may have; a row names a node in 16 bits
 pub record Room (rows cells : List ℕ) (size : ℕ) : Type 0 where
-  pub few : size ≤ 512
+  pub few : size ≤ maxWide
   pub rows-long : size * 4 ≤ length rows
   pub cells-long : maxTags * 3 ≤ length cells
   pub cells-short : length cells ≤ 196608

@@ -13,9 +13,9 @@ use lib.ListN.{length, getD, take, length-map, List·getD-append, List·getD-eq-
 use lib.Seq.{ext-getD, getD-append-add, getD-append-seam, take-append-le, take-append-seam}
 use Rattle.cpl.specs.Tests.{allB, anyB}
 use Rattle.cpl.proofs.Bools.{and-left, and-right}
-use Rattle.rules.specs.Keys.{carried, hasAll, isKeyPlace, isPlace, keptGroups}
+use Rattle.rules.specs.Keys.{carried, hasAll, isKeyPlace, isPlace, keptGroups, freshAt, freshPlace, member}
 use Rattle.rules.specs.Mask.{Mask, ones, orM}
-use Rattle.rules.proofs.KeySets.{carried-at, fresh, freshPlace, key-place, member}
+use Rattle.rules.proofs.KeySets.{carried-at, key-place}
 use Rattle.required_indices.specs.Request.{Asks, Holds, flagOf, setOf}
 use Rattle.required_indices.specs.Set.{has, setMask}
 use Rattle.required_indices.specs.declared.RequiredIndices.{RequiredIndices}
@@ -133,11 +133,11 @@ module _ {key : List ℕ} {ps : List (Option ℕ)} {f : Found} (h : FoundIs key 
   keyAt xs p = isKeyPlace key p
 
   -- the first items and all items, once an item's own answers are known
-  firsts-off : (p : Option ℕ) → freshPlace key ps p ≡ false → (m : ℕ) → has (setOf (f .firsts)) m ≡ fresh key (ps ++ (p ∷ [])) m
-  firsts-off p e m = h .firsts-are m ∙ bit-off (fresh key ps) (length ps) m (at-end ps p (freshPlace key) (fresh-none key)) ∙ sym (at-snoc ps p (freshPlace key) (fresh-none key) m ∙ ap (λ b. cond (eqb m (length ps)) b (fresh key ps m)) e)
+  firsts-off : (p : Option ℕ) → freshPlace key ps p ≡ false → (m : ℕ) → has (setOf (f .firsts)) m ≡ freshAt key (ps ++ (p ∷ [])) m
+  firsts-off p e m = h .firsts-are m ∙ bit-off (freshAt key ps) (length ps) m (at-end ps p (freshPlace key) (fresh-none key)) ∙ sym (at-snoc ps p (freshPlace key) (fresh-none key) m ∙ ap (λ b. cond (eqb m (length ps)) b (freshAt key ps m)) e)
 
-  firsts-on : (p : Option ℕ) → freshPlace key ps p ≡ true → (t : ℕ) → t ≡ bitOr (setOf (f .firsts)) (2 ^ length ps) → (m : ℕ) → has t m ≡ fresh key (ps ++ (p ∷ [])) m
-  firsts-on p e t d m = with-one (setOf (f .firsts)) (fresh key ps) (length ps) d (h .firsts-are) m ∙ bit-on (fresh key ps) (length ps) m ∙ sym (at-snoc ps p (freshPlace key) (fresh-none key) m ∙ ap (λ b. cond (eqb m (length ps)) b (fresh key ps m)) e)
+  firsts-on : (p : Option ℕ) → freshPlace key ps p ≡ true → (t : ℕ) → t ≡ bitOr (setOf (f .firsts)) (2 ^ length ps) → (m : ℕ) → has t m ≡ freshAt key (ps ++ (p ∷ [])) m
+  firsts-on p e t d m = with-one (setOf (f .firsts)) (freshAt key ps) (length ps) d (h .firsts-are) m ∙ bit-on (freshAt key ps) (length ps) m ∙ sym (at-snoc ps p (freshPlace key) (fresh-none key) m ∙ ap (λ b. cond (eqb m (length ps)) b (freshAt key ps m)) e)
 
   all-off : (p : Option ℕ) → isKeyPlace key p ≡ false → (m : ℕ) → has (setOf (f .all)) m ≡ isKeyPlace key (getD (ps ++ (p ∷ [])) m none)
   all-off p e m = h .all-are m ∙ bit-off (λ x. isKeyPlace key (getD ps x none)) (length ps) m (at-end ps p keyAt (λ xs. key-none key)) ∙ sym (at-snoc ps p keyAt (λ xs. key-none key) m ∙ ap (λ b. cond (eqb m (length ps)) b (isKeyPlace key (getD ps m none))) e)
@@ -242,10 +242,10 @@ module _ {s : ℕ} {ks : List ℕ} {ps : List (Option ℕ)} {f : Found} (k : Key
       go false e = ne-eqb (setOf (f .seen)) s (λ z. true≢false (sym (all-true (λ i. anyB (isPlace i) ps) ks (each z)) ∙ e))
 
   pub carried-yes : eqb (setOf (f .seen)) s ≡ true → KeySet (setOf (f .firsts)) (carried ks ps)
-  carried-yes e = record { members = λ m. h .firsts-are m ∙ sym (carried-at ks ps m ∙ ap (_&& fresh ks ps m) (sym seen-all ∙ e)) }
+  carried-yes e = record { members = λ m. h .firsts-are m ∙ sym (carried-at ks ps m ∙ ap (_&& freshAt ks ps m) (sym seen-all ∙ e)) }
 
   pub carried-no : {t : ℕ} → eqb (setOf (f .seen)) s ≡ false → t ≡ 0 → KeySet t (carried ks ps)
-  carried-no e z = record { members = λ m. ap (λ x. has x m) z ∙ (has-none m ∙ sym (carried-at ks ps m ∙ ap (_&& fresh ks ps m) (sym seen-all ∙ e))) }
+  carried-no e z = record { members = λ m. ap (λ x. has x m) z ∙ (has-none m ∙ sym (carried-at ks ps m ∙ ap (_&& freshAt ks ps m) (sym seen-all ∙ e))) }
 
   -- the groups that are key columns, as a mask
   all-mask : setMask (length ps) (setOf (f .all)) ≡ map (isKeyPlace ks) ps

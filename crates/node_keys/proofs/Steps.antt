@@ -12,8 +12,7 @@ use Rattle.cpl.specs.Exprs.{find}
 use Rattle.cpl.specs.Plan.{Expr, Item, Pair, bin, col, itemExpr, lit, miss, un}
 use Rattle.cpl.specs.Tests.{anyB}
 use Rattle.cpl.proofs.Lookup.{found-below}
-use Rattle.rules.specs.Keys.{fieldPlace, isPlace, placesOf}
-use Rattle.rules.proofs.KeySets.{member}
+use Rattle.rules.specs.Keys.{fieldPlace, isPlace, placesOf, member}
 use Rattle.required_indices.specs.Request.{Holds, setOf, wordsN}
 use Rattle.required_indices.specs.Set.{has}
 use Rattle.required_indices.specs.declared.RequiredIndices.{RequiredIndices}

@@ -16,8 +16,7 @@ use Rattle.cpl.specs.Read.{fresh}
 use Rattle.cpl.specs.Tests.{allB, anyB, iota}
 use Rattle.cpl.specs.Writable.{FitAfter, FitCatalogue, FitTableKey}
 use Rattle.cpl.proofs.Bools.{and-left}
-use Rattle.rules.specs.Keys.{carried, declared, firstAt, hasAll, isPlace, leafKey}
-use Rattle.rules.proofs.KeySets.{member}
+use Rattle.rules.specs.Keys.{carried, declared, firstAt, hasAll, isPlace, leafKey, member}
 use Rattle.key_sets.specs.Slots.{KeySet}
 use Rattle.node_keys.proofs.Founds.{all-true}
 

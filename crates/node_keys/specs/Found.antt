@@ -6,8 +6,7 @@ use mathlib.Core.Option.{Option, none, some}
 use Prim.Native.Nat.{ℕ, _+_, _*_, _<_, _≤_}
 use lib.ListN.{length, getD}
 use Rattle.cpl.specs.Tests.{anyB}
-use Rattle.rules.specs.Keys.{carried, isKeyPlace, isPlace}
-use Rattle.rules.proofs.KeySets.{fresh, member}
+use Rattle.rules.specs.Keys.{carried, isKeyPlace, isPlace, freshAt, member}
 use Rattle.required_indices.specs.Request.{setOf, wordsN}
 use Rattle.required_indices.specs.Set.{has}
 use Rattle.required_indices.specs.declared.RequiredIndices.{RequiredIndices}
@@ -21,7 +20,7 @@ use Rattle.node_keys.specs.declared.Found.{Found}
 -- among items at the places ps: the key's columns that stand there, of each of these the first item, and all items that are one
 pub record FoundIs (key : List ℕ) (ps : List (Option ℕ)) (f : Found) : Type 0 where
   pub seen-are : (j : ℕ) → has (setOf (f .seen)) j ≡ (member j key && anyB (isPlace j) ps)
-  pub firsts-are : (m : ℕ) → has (setOf (f .firsts)) m ≡ fresh key ps m
+  pub firsts-are : (m : ℕ) → has (setOf (f .firsts)) m ≡ freshAt key ps m
   pub all-are : (m : ℕ) → has (setOf (f .all)) m ≡ isKeyPlace key (getD ps m none)
 
 -- a set has room for the place

@@ -10,7 +10,7 @@ use lib.ListN.{length}
 use Rattle.cpl.specs.Exprs.{planNodes, planTags}
 use Rattle.cpl.specs.Fields.{fieldsOf}
 use Rattle.cpl.specs.Plan.{Catalogue, Item, Pair, Plan, bare, projection, unary}
-use Rattle.rules.specs.Mask.{Mask, count, select}
+use Rattle.rules.specs.Mask.{Mask, countM, select}
 use Rattle.rules.specs.Rules.{overChild, sameColumns, topUp}
 use Rattle.rules.specs.Rewrite as rules
 use Rattle.required_indices.specs.Request.{Asks}
@@ -78,7 +78,7 @@ child-tags C js p = over-tags (sameColumns js (fieldsOf C p)) js p
 
 pub top-tags : (C : Catalogue) (fs : List Pair) (R : Mask) (p : Plan) → planTags p ≤ planTags (topUp C fs R p)
 unfolding topUp
-top-tags C fs R p = top-cond (ltb (count R) (length (fieldsOf C p))) (map bare (select R fs)) p
+top-tags C fs R p = top-cond (ltb (countM R) (length (fieldsOf C p))) (map bare (select R fs)) p
 
 over-nodes : (b : Bool) (is : List Item) (p : Plan) → planNodes p ≤ planNodes (cond b p (unary (projection is) p))
 unfolding planNodes
@@ -96,7 +96,7 @@ child-nodes C js p = over-nodes (sameColumns js (fieldsOf C p)) js p
 
 pub top-nodes : (C : Catalogue) (fs : List Pair) (R : Mask) (p : Plan) → planNodes p ≤ planNodes (topUp C fs R p)
 unfolding topUp
-top-nodes C fs R p = top-cond-nodes (ltb (count R) (length (fieldsOf C p))) (map bare (select R fs)) p
+top-nodes C fs R p = top-cond-nodes (ltb (countM R) (length (fieldsOf C p))) (map bare (select R fs)) p
 
 -- ── a projection on top ─────────────────────────────────────────────────────────────────────
 

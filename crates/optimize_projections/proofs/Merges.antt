@@ -17,16 +17,16 @@ use Rattle.cpl.specs.Plan.{Catalogue, Item, Pair, Plan, Unary, projection, filt
 use Rattle.cpl.specs.ReadPlan.{Head, h0, h1, h2}
 use Rattle.cpl.specs.Tests.{sumOf}
 use Rattle.cpl.specs.Writable.{FitList, FitPlan, FitUnary}
-use Rattle.cpl.proofs.Accepted.{Accepted, Resolved}
+use Rattle.cpl.specs.Accepted.{Accepted, Resolved}
 use Rattle.cpl.proofs.Lists.{Fit-length, length-Fit}
 use Rattle.versions.proofs.Small.{small}
 use Rattle.rules.specs.Mask.{Mask}
 use Rattle.rules.specs.Merge.{Merge, mergeStep}
 use Rattle.rules.specs.Rewrite as rules
-use Rattle.rules.specs.Rewrite.{counted, merged, nodeWalk, pend, tooLong, unaryWalk, walk}
-use Rattle.rules.proofs.Inputs.{Fields}
+use Rattle.rules.specs.Rewrite.{measured, merged, nodeWalk, pend, tooLong, unaryWalk, walk}
+use Rattle.rules.specs.Items.{FieldsOk, Items}
 use Rattle.rules.proofs.MergeTidy.{step, step-pairs}
-use Rattle.rules.proofs.Results.{Items, merged-items, plan-fields}
+use Rattle.rules.proofs.Results.{merged-items, plan-fields}
 use Rattle.required_indices.specs.Request.{flagOf}
 use Rattle.required_indices.specs.declared.RequiredIndices.{RequiredIndices}
 use Rattle.arena.specs.Rows.{RowsOk, itemsAt}
@@ -95,7 +95,7 @@ module _ {cells rows nodes fields widths : List ℕ} (z : Standing cells rows no
   lower-items =
       record {
         resolved = lower-accepted .1 .resolved;
-        own = subst⁻¹ (Fields (z .C .version)) lower-pairs (plan-fields (z .C) (z .tables) (planAt a k) (z .accepted k l) (z .tree .each k l .fit));
+        own = subst⁻¹ (FieldsOk (z .C .version)) lower-pairs (plan-fields (z .C) (z .tables) (planAt a k) (z .accepted k l) (z .tree .each k l .fit));
         fit = lower-fit .0;
       }
 
@@ -195,18 +195,18 @@ module _ (M : Merge) (C : Catalogue) (js : List Item) (b : Bool) (R : Mask) wher
   unfolding walk unaryWalk fieldsOf unaryFields merged
   over-stop is e p = ap (λ (o : Option (List Item)). merged o (λ ks. walk M C p (some ks)) (pend C (some js) (map itemPair is) (walk M C p (some is))) b R) e
 
-  step-walk : (is ks : List Item) → M js is ≡ some ks → (p : Plan) → walk M C (unary (projection is) p) (some js) b R ≡ counted ks (walk M C p (some ks) b R)
+  step-walk : (is ks : List Item) → M js is ≡ some ks → (p : Plan) → walk M C (unary (projection is) p) (some js) b R ≡ measured ks (walk M C p (some ks) b R)
   unfolding walk unaryWalk merged
   step-walk is ks e p = ap (λ (o : Option (List Item)). merged o (λ ks. walk M C p (some ks)) (pend C (some js) (map itemPair is) (walk M C p (some is))) b R) e
 
   short-walk : (is ks : List Item) → M js is ≡ some ks → sumOf itemTags ks ≤ maxTags → (p : Plan) → walk M C (unary (projection is) p) (some js) b R ≡ walk M C p (some ks) b R
-  unfolding counted tooLong
+  unfolding measured tooLong
   short-walk is ks e t p =
       step-walk is ks e p
       ∙ ap (λ (o : Bool). record { plan = walk M C p (some ks) b R .plan; kept = walk M C p (some ks) b R .kept; overlong = o || walk M C p (some ks) b R .overlong }) (le-ltb maxTags (sumOf itemTags ks) t)
 
   long-walk : (is ks : List Item) → M js is ≡ some ks → tooLong ks ≡ true → (p : Plan) → walk M C (unary (projection is) p) (some js) b R .overlong ≡ true
-  unfolding counted
+  unfolding measured
   long-walk is ks e t p = ap (λ (w : rules.Walked). w .overlong) (step-walk is ks e p) ∙ ap (λ (o : Bool). o || walk M C p (some ks) b R .overlong) t
 
 -- ── a pending list at node k ────────────────────────────────────────────────────────────────

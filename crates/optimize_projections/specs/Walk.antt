@@ -15,7 +15,7 @@ use Rattle.rules.specs.Mask.{Mask}
 use Rattle.rules.specs.Merge.{Merge, mergeStep}
 use Rattle.rules.specs.Rewrite as rules
 use Rattle.rules.specs.Rewrite.{input, walk}
-use Rattle.rules.proofs.Results.{Items}
+use Rattle.rules.specs.Items.{Items}
 use Rattle.required_indices.specs.Request.{Asks, flagOf}
 use Rattle.required_indices.specs.declared.RequiredIndices.{RequiredIndices}
 use Rattle.tree.specs.Tree.{Arrays, lent, planAt}

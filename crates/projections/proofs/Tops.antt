@@ -74,11 +74,11 @@ named-differ (named c f ∷ js) (g ∷ gs) e = refl
 -- ── plans ───────────────────────────────────────────────────────────────────────────────────
 
 module _ (C : Catalogue) (p : Plan) where
-  topped-yes : (fs : List Pair) (Q : Mask) → mask.count Q < length (fieldsOf C p) → topUp C fs Q p ≡ unary (projection (map bare (select Q fs))) p
+  topped-yes : (fs : List Pair) (Q : Mask) → mask.countM Q < length (fieldsOf C p) → topUp C fs Q p ≡ unary (projection (map bare (select Q fs))) p
   unfolding topUp
   topped-yes fs Q h = rw (lt-ltb _ _ h)
 
-  topped-no : (fs : List Pair) (Q : Mask) → length (fieldsOf C p) ≤ mask.count Q → topUp C fs Q p ≡ p
+  topped-no : (fs : List Pair) (Q : Mask) → length (fieldsOf C p) ≤ mask.countM Q → topUp C fs Q p ≡ p
   unfolding topUp
   topped-no fs Q h = rw (le-ltb _ _ h)
 

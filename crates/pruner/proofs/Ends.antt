@@ -13,7 +13,7 @@ use Rattle.cpl.specs.AreBytes.{AreBytes}
 use Rattle.cpl.specs.Bytes.{bytesOf, planBytes}
 use Rattle.cpl.specs.Codes.{LARGE}
 use Rattle.cpl.specs.Exprs.{planNodes, planTags}
-use Rattle.cpl.specs.Limits.{maxNodes, maxTags}
+use Rattle.cpl.specs.Limits.{maxNodes, maxTags, maxMask}
 use Rattle.cpl.specs.Plan.{Catalogue, Plan, Source}
 use Rattle.cpl.specs.Read.{pick}
 use Rattle.cpl.specs.ReadPlan.{readFile}
@@ -194,14 +194,14 @@ module _ (mode mask : ℕ) (file : List ℕ) (request : ℕ → List ℕ) where
   unfolding reply verdict settingsOk deliver
   high-mode out l h = rw (lt-leb mode 1 l) (refuses out h)
 
-  pub high-mask : {r : Answer} (out : List ℕ) → mode ≤ 1 → 4095 < mask → Refuses r 1 0 → AnswerIs (reply mode mask file request out) r out
+  pub high-mask : {r : Answer} (out : List ℕ) → mode ≤ 1 → maxMask < mask → Refuses r 1 0 → AnswerIs (reply mode mask file request out) r out
   unfolding reply verdict settingsOk deliver
-  high-mask out k l h = rw (le-leb mode 1 k, lt-leb mask 4095 l) (refuses out h)
+  high-mask out k l h = rw (le-leb mode 1 k, lt-leb mask maxMask l) (refuses out h)
 
-  module _ (k : mode ≤ 1) (l : mask ≤ 4095) where
+  module _ (k : mode ≤ 1) (l : mask ≤ maxMask) where
     judged-answer : (out : List ℕ) → reply mode mask file request out ≡ deliver (judged (mergeOf mode mask) request (readFile file)) out
     unfolding reply verdict settingsOk
-    judged-answer out = rw (le-leb mode 1 k, le-leb mask 4095 l) refl
+    judged-answer out = rw (le-leb mode 1 k, le-leb mask maxMask l) refl
 
     module _ (cells rows nodes fields widths keys : List ℕ) (t : Intake) where
       refused-in : (code : ℕ) → 0 < code → IntakeIs file request cells rows nodes fields widths keys t code

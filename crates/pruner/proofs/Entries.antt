@@ -20,7 +20,7 @@ narrows : (mask : ℕ) (file : List ℕ) (request : ℕ → List ℕ) (out : Lis
     → Narrows mask file request (reply 1 mask file request out)
 narrows mask file request out b z =
     let k = promise-keyed mask file request out b z in
-    record { keyed = k; plain = plain-promise mask file request _ (k .plans); version1 = λ old. promise mask file request out b old z }
+    record { keyed = k; plain = plain-promise mask file request _ b (k .plans); version1 = λ old. promise mask file request out b old z }
 
 -- "Narrow" of the very bytes, in house mode
 pub promised : (mode mask : ℕ) (file : List ℕ) (request : ℕ → List ℕ) (out : List ℕ) {r : Answer} {out′ : List ℕ} → AreBytes file

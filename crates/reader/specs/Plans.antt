@@ -4,7 +4,7 @@ use mathlib.Core.Path.{_≡_}
 use mathlib.Core.List.{List}
 use lib.ListN.{length}
 use lib.Seq.{sets}
-use Rattle.cpl.specs.Limits.{maxTags, maxNodes}
+use Rattle.cpl.specs.Limits.{maxTags, maxNodes, maxTables}
 use Rattle.cpl.specs.Limits as cpl
 use Rattle.cpl.specs.Plan.{Plan, Catalogue, Source}
 use Rattle.cpl.specs.Exprs.{planNodes}
@@ -82,7 +82,7 @@ pub record TookFile (file cells cells′ rows rows′ nodes nodes′ names′ ke
   pub marked : readMark file 0 0 0 ≡ ok (C .version) 5 0 0
   pub is : readFile file ≡ ok (record { catalogue = C; plan = plan }) (length file) tags count
   pub starts-at : readCatalogue (C .version) file 5 0 0 ≡ ok C start 0 0
-  pub few-tables : tables ≤ 16
+  pub few-tables : tables ≤ maxTables
   pub keys-are : TableKeys C keys′
   pub holds : Holds cells cells′ rows rows′ nodes nodes′ plan count tags made
 

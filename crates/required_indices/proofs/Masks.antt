@@ -12,7 +12,7 @@ use lib.Count.{ones, onesIn, ones-step}
 use lib.Dec.{eqb}
 use lib.ListN.{length, getD, take, drop, take-append-drop}
 use Rattle.cpl.specs.Lists.{z[], _z∷_}
-use Rattle.rules.specs.Mask.{Mask, orM, count, LeB, LeM}
+use Rattle.rules.specs.Mask.{Mask, orM, countM, LeB, LeM}
 use Rattle.rules.specs.Mask as mask
 use Rattle.required_indices.specs.Set.{odd, has, setMask}
 use Rattle.required_indices.proofs.Members.{two-pos, half-lt, has-zero, has-suc, odd-or, has-mod, all-half, all-odd}
@@ -92,22 +92,22 @@ mask-snoc zero s = ap (_∷ []) (sym (has-zero s))
 mask-snoc (suc n) s = ap (odd s ∷_) (mask-snoc n (s / 2) ∙ ap (λ (b : Bool). setMask n (s / 2) ++ (b ∷ [])) (sym (has-suc s n)))
 
 -- the size is the count of yes
-count-cons : (x : ℕ) (m : Mask) → x < 2 → count (eqb x 1 ∷ m) ≡ x + count m
-unfolding count
+count-cons : (x : ℕ) (m : Mask) → x < 2 → countM (eqb x 1 ∷ m) ≡ x + countM m
+unfolding countM
 count-cons zero m h = omega arith
 count-cons (suc zero) m h = omega arith
 count-cons (suc (suc x)) m h = absurd (omega arith)
 
-pub mask-count : (n s : ℕ) → s < 2 ^ n → count (setMask n s) ≡ ones s
-unfolding setMask count ones onesIn
+pub mask-count : (n s : ℕ) → s < 2 ^ n → countM (setMask n s) ≡ ones s
+unfolding setMask countM ones onesIn
 mask-count zero s h = sym (ap ones (lt-one h))
 mask-count (suc n) s h = count-cons (s % 2) (setMask n (s / 2)) (mod-lt s two-pos) ∙ ap (λ (x : ℕ). s % 2 + x) (mask-count n (s / 2) (half-lt n h)) ∙ sym (ones-step s)
 
-pub mask-empty : (n s : ℕ) → s < 2 ^ n → count (setMask n s) ≡ 0 → s ≡ 0
+pub mask-empty : (n s : ℕ) → s < 2 ^ n → countM (setMask n s) ≡ 0 → s ≡ 0
 unfolding setMask
 mask-empty zero s h e = lt-one h
 mask-empty (suc n) s h e =
-    let c : count (eqb (s % 2) 1 ∷ setMask n (s / 2)) ≡ s % 2 + count (setMask n (s / 2)) = count-cons (s % 2) (setMask n (s / 2)) (mod-lt s two-pos) in
+    let c : countM (eqb (s % 2) 1 ∷ setMask n (s / 2)) ≡ s % 2 + countM (setMask n (s / 2)) = count-cons (s % 2) (setMask n (s / 2)) (mod-lt s two-pos) in
     let high : s / 2 ≡ 0 = mask-empty n (s / 2) (half-lt n h) (omega arith) in
     omega (arith, div-add-mod' s 2)
 

@@ -12,7 +12,7 @@ use lib.Count.{ones}
 use lib.Dec.{eqb}
 use lib.ListN.{length, getD, take, drop, List·getD-eq-default}
 use borrow.Author.Tests.{eqb-true, eqb-false, eq-eqb, ne-eqb}
-use Rattle.rules.specs.Mask.{Mask, orM, count, LeM}
+use Rattle.rules.specs.Mask.{Mask, orM, countM, LeM}
 use Rattle.rules.specs.Mask as mask
 use Rattle.rules.specs.Request.{maskOf}
 use Rattle.required_indices.specs.Set.{has, setMask}
@@ -84,17 +84,17 @@ contains-mask {r} {R} a i =
     (side (length R) i)
 
 -- len
-pub len-mask : {r : RequiredIndices} {R : Mask} → Asks r R → ones (setOf r) ≡ count R
-len-mask {r} {R} a = sym (mask-count (length R) (setOf r) (a .within)) ∙ ap count (a .mask)
+pub len-mask : {r : RequiredIndices} {R : Mask} → Asks r R → ones (setOf r) ≡ countM R
+len-mask {r} {R} a = sym (mask-count (length R) (setOf r) (a .within)) ∙ ap countM (a .mask)
 
 -- is_empty
-pub empty-mask : {r : RequiredIndices} {R : Mask} → Asks r R → eqb (setOf r) 0 ≡ eqb (count R) 0
+pub empty-mask : {r : RequiredIndices} {R : Mask} → Asks r R → eqb (setOf r) 0 ≡ eqb (countM R) 0
 unfolding lib.Count.ones lib.Count.onesIn
 empty-mask {r} {R} a = by (eqb (setOf r) 0) refl
   where
-    by : (t : Bool) → eqb (setOf r) 0 ≡ t → eqb (setOf r) 0 ≡ eqb (count R) 0
-    by true e = e ∙ sym (eq-eqb (count R) 0 (sym (len-mask a) ∙ ap ones (eqb-true (setOf r) 0 e)))
-    by false e = e ∙ sym (ne-eqb (count R) 0 (λ z. eqb-false (setOf r) 0 e (mask-empty (length R) (setOf r) (a .within) (ap count (a .mask) ∙ z))))
+    by : (t : Bool) → eqb (setOf r) 0 ≡ t → eqb (setOf r) 0 ≡ eqb (countM R) 0
+    by true e = e ∙ sym (eq-eqb (countM R) 0 (sym (len-mask a) ∙ ap ones (eqb-true (setOf r) 0 e)))
+    by false e = e ∙ sym (ne-eqb (countM R) 0 (λ z. eqb-false (setOf r) 0 e (mask-empty (length R) (setOf r) (a .within) (ap countM (a .mask) ∙ z))))
 
 module _ {r q : RequiredIndices} {R Q : Mask} (a : Asks r R) (c : Asks q Q) (same : length R ≡ length Q) where
   maskQ : setMask (length R) (setOf q) ≡ Q

@@ -9,7 +9,7 @@ use native.Mathlib.Omega.{arith}
 use lib.ListN.{length, getD, drop}
 use lib.Seq.{drop-drop, getD-drop}
 use Rattle.cpl.specs.Lists.{Fit, z[], _z∷_}
-use Rattle.rules.specs.Mask.{Mask, select, count}
+use Rattle.rules.specs.Mask.{Mask, select, countM}
 use Rattle.required_indices.specs.Set.{has}
 use Rattle.required_indices.specs.Request.{setOf, IsNext, Asks}
 use Rattle.required_indices.specs.declared.RequiredIndices.{RequiredIndices}
@@ -28,8 +28,8 @@ indicesFrom k (false ∷ ks) = indicesFrom (suc k) ks
 unfoldable pub indicesAt : ℕ → Mask → List ℕ
 indicesAt from m = indicesFrom from (drop from m)
 
-indices-length : (k : ℕ) (ks : Mask) → length (indicesFrom k ks) ≡ count ks
-unfolding indicesFrom count
+indices-length : (k : ℕ) (ks : Mask) → length (indicesFrom k ks) ≡ countM ks
+unfolding indicesFrom countM
 indices-length k [] = refl
 indices-length k (true ∷ ks) = ap suc (indices-length (suc k) ks)
 indices-length k (false ∷ ks) = indices-length (suc k) ks
@@ -121,7 +121,7 @@ module _ {r : RequiredIndices} {R : Mask} (a : Asks r R) where
   next-mask from Nothing g = sym (ap headNext (next-end from Nothing g refl))
 
 -- as many indices as the mask counts, and what they select of as many things as there are fields
-pub indices-count : (R : Mask) → length (indicesAt 0 R) ≡ count R
+pub indices-count : (R : Mask) → length (indicesAt 0 R) ≡ countM R
 unfolding indicesAt
 indices-count R = indices-length 0 R
 

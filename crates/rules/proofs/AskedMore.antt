@@ -12,7 +12,7 @@ use Rattle.cpl.specs.Fields.{columnsOf}
 use Rattle.rules.specs.Mask.{orM, Mask, ones, zeros, LeM}
 use Rattle.rules.specs.Keys.{placesOf, hasAll, isKeyPlace, keptGroups}
 use Rattle.rules.specs.Rules.{leafRule, Job, done, ask, projectionJob, aggregateJob, windowJob, unaryJob, leftPart, rightPart, leftAsk, rightAsk}
-use Rattle.rules.specs.Scans.{leafScans, numbered, leafLeft, Into, i[], _i∷_, pass, Part, narrower, Within}
+use Rattle.rules.specs.Scans.{leafScans, numbered, leafLeft, Into, i[], _i∷_, pass, Part, narrower, NarrowerAt}
 use Rattle.rules.proofs.Masks.{LeM-refl, LeM-trans}
 use Rattle.rules.proofs.Parts.{Into-++, Part-map, Part-concat, select-more, take-more, drop-more, orM-more, used-more, plus-more, plus-same, take-plus}
 
@@ -23,7 +23,7 @@ pub data More : Job → Job → Type 0 where
 
 -- ── nodes with no input ─────────────────────────────────────────────────────────────────────
 
-pub leaf-more : (C : Catalogue) (h : Leaf) (at : ℕ) (b b′ : Bool) {R R′ : Mask} → LeM R R′ → Into (Within C) (leafLeft C h at b R) (leafLeft C h at b′ R′)
+pub leaf-more : (C : Catalogue) (h : Leaf) (at : ℕ) (b b′ : Bool) {R R′ : Mask} → LeM R R′ → Into (NarrowerAt C) (leafLeft C h at b R) (leafLeft C h at b′ R′)
 unfolding leafLeft numbered leafScans leafRule columnsOf
 leaf-more C (scan t q is es) at b b′ l = record { same-node = refl; scan-within = narrower (select-more l _) } i∷ i[]
 leaf-more C (empty one cs) at b b′ l = i[]

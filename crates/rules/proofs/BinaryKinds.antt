@@ -13,19 +13,19 @@ use Rattle.cpl.specs.Exprs.{known, definite, condExprs}
 use Rattle.cpl.specs.Fields.{binaryFields, fieldsOf}
 use Rattle.cpl.specs.Accept.{Test, allPass, onPasses, binaryPasses, even, together}
 use Rattle.cpl.specs.Writable.{FitBinary, FitPlan}
+use Rattle.cpl.specs.Accepted.{Clear, Resolved, NodeOk, Accepted}
 use Rattle.cpl.proofs.Bools.{halves, both-T}
 use Rattle.cpl.proofs.Versions.{Sound}
 use Rattle.cpl.proofs.Lists.{All-map, All-both, all-T, T-all}
-use Rattle.cpl.proofs.Clash.{Clear}
-use Rattle.cpl.proofs.Accepted.{Resolved, NodeOk, Accepted}
 use Rattle.rules.specs.Mask.{Mask, select, LeM}
 use Rattle.rules.specs.Rules.{joinExprs, leftAsk, rightAsk, binaryKept}
 use Rattle.rules.specs.Rewrite.{Go, binaryWalk}
+use Rattle.rules.specs.Items.{FieldsOk}
 use Rattle.rules.proofs.Masks.{LeM-refl, length-select, select-++, select-short}
 use Rattle.rules.proofs.Asked.{plus-cov, plus-keeps, part-fits, ask-fits, join-keeps, join-fields}
 use Rattle.rules.proofs.Covers.{Covers, Cov, used-head, used-tail, used-left, used-right, cov-both}
 use Rattle.rules.proofs.Known.{known-select, definite-select, clear-select}
-use Rattle.rules.proofs.Inputs.{Fields, Good, topped}
+use Rattle.rules.proofs.Inputs.{Good, topped}
 
 -- ── references of a join ────────────────────────────────────────────────────────────────────
 
@@ -98,7 +98,7 @@ module _ (fl fr : List Pair) {R : Mask} where
   binary-clear union e f k = clear-select R k
   binary-clear (join t os c) e f k = subst Clear (select-++ (ask-fits (join t os c) fl fr e f .0) (rightAsk (join t os c) fl fr R) fr) (clear-select _ k)
 
-module _ (C : Catalogue) (laws : Sound (C .version)) (h : Binary) {fl fr : List Pair} (l : Fields (C .version) fl) (r : Fields (C .version) fr) (o : NodeOk C (binaryPasses h fl fr) (even h fl fr) (binaryFields h fl fr) (together h fl fr))
+module _ (C : Catalogue) (laws : Sound (C .version)) (h : Binary) {fl fr : List Pair} (l : FieldsOk (C .version) fl) (r : FieldsOk (C .version) fr) (o : NodeOk C (binaryPasses h fl fr) (even h fl fr) (binaryFields h fl fr) (together h fl fr))
     (fit : FitBinary h) (go₁ go₂ : Go) (g₁ : Good C fl go₁) (g₂ : Good C fr go₂) where
   pub binary-good : Good C (binaryFields h fl fr) (binaryWalk C h fl fr go₁ go₂)
   unfolding binaryWalk fieldsOf Accepted FitPlan

@@ -25,14 +25,14 @@ use Rattle.rules.proofs.Requests.{fit-mask}
 -- ── what is covered ─────────────────────────────────────────────────────────────────────────
 
 -- the mask keeps the first field that fits the reference, if one does
-pub data Holds (c : Pair) : List Pair → Mask → Type 0 where
-  h[] : Holds c [] []
-  here : {f : Pair} {fs : List Pair} {ks : Mask} → fits c f ≡ true → Fit ks fs → Holds c (f ∷ fs) (true ∷ ks)
-  past : {f : Pair} {k : Bool} {fs : List Pair} {ks : Mask} → fits c f ≡ false → Holds c fs ks → Holds c (f ∷ fs) (k ∷ ks)
+pub data KeepsFirst (c : Pair) : List Pair → Mask → Type 0 where
+  h[] : KeepsFirst c [] []
+  here : {f : Pair} {fs : List Pair} {ks : Mask} → fits c f ≡ true → Fit ks fs → KeepsFirst c (f ∷ fs) (true ∷ ks)
+  past : {f : Pair} {k : Bool} {fs : List Pair} {ks : Mask} → fits c f ≡ false → KeepsFirst c fs ks → KeepsFirst c (f ∷ fs) (k ∷ ks)
 
 -- the field of each reference of the expression
 abbrev pub Covers : Expr → List Pair → Mask → Type 0
-Covers e fs K = All (λ c. Holds c fs K) (references e)
+Covers e fs K = All (λ c. KeepsFirst c fs K) (references e)
 
 abbrev pub Cov : List Expr → List Pair → Mask → Type 0
 Cov es fs K = All (λ e. Covers e fs K) es
@@ -52,13 +52,13 @@ module _ {fs : List Pair} {K : Mask} where
 
 -- ── over two sides ──────────────────────────────────────────────────────────────────────────
 
-holds-fit : {c : Pair} {fs : List Pair} {K : Mask} → Holds c fs K → Fit K fs
+holds-fit : {c : Pair} {fs : List Pair} {K : Mask} → KeepsFirst c fs K → Fit K fs
 holds-fit h[] = z[]
 holds-fit (here e f) = tt z∷ f
 holds-fit (past e h) = tt z∷ holds-fit h
 
 -- the first that fits on each side is kept, so the first of both sides together is
-holds-both : {c : Pair} {fl fr : List Pair} {Kl Kr : Mask} → Holds c fl Kl → Holds c fr Kr → Holds c (fl ++ fr) (Kl ++ Kr)
+holds-both : {c : Pair} {fl fr : List Pair} {Kl Kr : Mask} → KeepsFirst c fl Kl → KeepsFirst c fr Kr → KeepsFirst c (fl ++ fr) (Kl ++ Kr)
 holds-both h[] r = r
 holds-both (here e f) r = here e (Fit-++ f (holds-fit r))
 holds-both (past e h) r = past e (holds-both h r)
@@ -95,12 +95,12 @@ next-place : {o : Option ℕ} {i : ℕ} → o ≡ some i → next o ≡ some (su
 unfolding next
 next-place e = ap next e
 
-holds : (c : Pair) {fs : List Pair} {K : Mask} → Fit K fs → ((i : ℕ) → find c fs ≡ some i → i < length fs → Has K i) → Holds c fs K
+holds : (c : Pair) {fs : List Pair} {K : Mask} → Fit K fs → ((i : ℕ) → find c fs ≡ some i → i < length fs → Has K i) → KeepsFirst c fs K
 unfolding Has
 holds c z[] h = h[]
 holds c (_z∷_ {x = k} {y = f} {xs = K} {ys = fs} _ fit) h = go (fits c f) refl k (h 0) (λ e. holds c fit (λ i p l. h (suc i) (find-past c f fs e ∙ next-place p) (omega arith)))
   where
-    go : (b : Bool) → fits c f ≡ b → (k : Bool) → (find c (f ∷ fs) ≡ some 0 → 0 < suc (length fs) → T k) → (fits c f ≡ false → Holds c fs K) → Holds c (f ∷ fs) (k ∷ K)
+    go : (b : Bool) → fits c f ≡ b → (k : Bool) → (find c (f ∷ fs) ≡ some 0 → 0 < suc (length fs) → T k) → (fits c f ≡ false → KeepsFirst c fs K) → KeepsFirst c (f ∷ fs) (k ∷ K)
     go true e true g r = here e fit
     go true e false g r = absurd (g (find-here c f fs e) (omega arith))
     go false e k g r = past e (r e)

@@ -12,12 +12,12 @@ use Rattle.cpl.specs.Plan.{Pair, Item, bare, Agg, Win, Leaf, scan, empty, Unary
 use Rattle.cpl.specs.Exprs.{planNodes}
 use Rattle.cpl.specs.Fields.{columnsOf, leafFields, unaryFields, binaryFields, fieldsOf}
 use Rattle.cpl.proofs.Lists.{map-map, map-id, map-++}
-use Rattle.rules.specs.Mask.{Mask, select, count}
+use Rattle.rules.specs.Mask.{Mask, select, countM}
 use Rattle.rules.specs.Keys.{keyOf}
 use Rattle.rules.specs.Merge.{Merge}
 use Rattle.rules.specs.Rules.{topUp, sameColumns, overChild, leafRule, Job, done, ask, projectionJob, aggregateJob, windowJob, unaryJob, leftAsk, rightAsk}
-use Rattle.rules.specs.Rewrite.{Go, input, runJob, pend, counted, merged, leafWalk, nodeWalk, unaryWalk, binaryWalk, walk, rewrite}
-use Rattle.rules.specs.Scans.{leafScans, scans, Numbered, numbered, scansOf, Left, jobScans, pendScans, mergedScans, leafLeft, itemsOf, unaryScans, binaryScans, walkScans, scansUnder, Into, i[], _i∷_, pass, narrower, Within, Rising, r[], _r∷_, Followed}
+use Rattle.rules.specs.Rewrite.{Go, input, runJob, pend, measured, merged, leafWalk, nodeWalk, unaryWalk, binaryWalk, walk, rewrite}
+use Rattle.rules.specs.Scans.{leafScans, scans, Numbered, numbered, scansOf, Left, jobScans, pendScans, mergedScans, leafLeft, itemsOf, unaryScans, binaryScans, walkScans, scansUnder, Into, i[], _i∷_, pass, narrower, NarrowerAt, Rising, r[], _r∷_, Followed}
 use Rattle.rules.proofs.Parts.{none-into, Into-++, select-part}
 
 -- ── the scans of a plan, with and without numbers ───────────────────────────────────────────
@@ -40,7 +40,7 @@ scansOf-heads (binary h p₁ p₂) at =
 
 topUp-scans : (C : Catalogue) (fs : List Pair) (Q : Mask) (p′ : Plan) → scans (topUp C fs Q p′) ≡ scans p′
 unfolding topUp scans
-topUp-scans C fs Q p′ = go (ltb (count Q) (length (fieldsOf C p′)))
+topUp-scans C fs Q p′ = go (ltb (countM Q) (length (fieldsOf C p′)))
   where
     go : (b : Bool) → scans (cond b (unary (projection (map bare (select Q fs))) p′) p′) ≡ scans p′
     go true = refl
@@ -112,7 +112,7 @@ unfolding leafLeft leafWalk scans
 leaf-same C h at b R = numbered-heads at (leafScans (leafRule C h R))
 
 merged-same : (r : Option (List Item)) (s : List Item → Left) (go : List Item → Go) → ((ks : List Item) → Same (s ks) (go ks)) → (s′ : Left) (go′ : Go) → Same s′ go′ → Same (mergedScans r s s′) (merged r go go′)
-unfolding mergedScans merged counted
+unfolding mergedScans merged measured
 merged-same none s go g s′ go′ h = h
 merged-same (some ks) s go g s′ go′ h = λ b R. g ks b R
 
@@ -154,9 +154,9 @@ module _ (M : Merge) (C : Catalogue) where
 module _ (C : Catalogue) where
   -- whatever is asked, what is left stands among these
   abbrev Among : Left → List Numbered → Type 0
-  Among s ys = (b : Bool) (R : Mask) → Into (Within C) (s b R) ys
+  Among s ys = (b : Bool) (R : Mask) → Into (NarrowerAt C) (s b R) ys
 
-  job-among : (j : Job) (s : Left) (ys : List Numbered) → Among s ys → Into (Within C) (jobScans j s) ys
+  job-among : (j : Job) (s : Left) (ys : List Numbered) → Among s ys → Into (NarrowerAt C) (jobScans j s) ys
   unfolding jobScans
   job-among (done result K) s ys g = none-into ys
   job-among (ask b Q topped node left) s ys g = g b Q
@@ -213,7 +213,7 @@ rising (binary h p₁ p₂) at =
     rising-++ (omega arith) (omega arith) (rising-from at (omega arith) (subst (λ n. Rising n (suc at) (scansOf p₁ (suc at))) e₁ (rising p₁ (suc at))))
     (subst (λ n. Rising n m (scansOf p₂ m)) e₂ (rising p₂ m))
 
-rising-part : {C : Catalogue} {end least : ℕ} {xs ys : List Numbered} → Into (Within C) xs ys → Rising end least ys → Rising end least xs
+rising-part : {C : Catalogue} {end least : ℕ} {xs ys : List Numbered} → Into (NarrowerAt C) xs ys → Rising end least ys → Rising end least xs
 rising-part i[] r[] = r[]
 rising-part {end} {least} (_i∷_ {x = x} {y = y} {xs = xs} w hs) (k r∷ ks) =
     let e : y .number ≡ x .number = sym (w .same-node) in

@@ -8,24 +8,18 @@ use native.Mathlib.Omega.{arith}
 use lib.Dec.{T, ltb, ltb→lt, leb, leb→le, le→leb}
 use Rattle.cpl.specs.Tests.{anyB, concatMap, sumOf}
 use Rattle.cpl.specs.Lists.{All, a[], _a∷_}
-use Rattle.cpl.specs.Plan.{Pair, eqP, Expr, col, lit, miss, un, bin, Item, itemPair, itemExpr}
+use Rattle.cpl.specs.Plan.{Pair, eqP, Expr, col, lit, miss, un, bin, Item, itemPair, itemExpr, nameless}
 use Rattle.cpl.specs.Exprs.{fits, fitting, known, definite, references}
 use Rattle.cpl.specs.Accept.{allPass}
-use Rattle.cpl.proofs.Bools.{halves, both-T, left-T, right-T}
+use Rattle.cpl.specs.Accepted.{Clear, n[], _n∷_, Resolved}
+use Rattle.cpl.proofs.Bools.{halves, both-T, left-T, right-T, bool-eq}
 use Rattle.cpl.proofs.Lists.{All-map, All-both, All-unmapped, All-++, always}
 use Rattle.cpl.proofs.Pairs.{eqP-eq, eqP-refl}
-use Rattle.cpl.proofs.Clash.{Clear, n[], _n∷_}
-use Rattle.cpl.proofs.Lookup.{nameless, fits-cases, name-fits, fits-self, apart, find-any, fitting-here, fitting-past, none-fits}
-use Rattle.cpl.proofs.Accepted.{Resolved, Sees, each-sees}
-use Rattle.rules.specs.Merge.{occurs, occursIn, pushes, held, defOf}
+use Rattle.cpl.proofs.Lookup.{fits-cases, name-fits, fits-self, apart, find-any, fitting-here, fitting-past, none-fits}
+use Rattle.cpl.proofs.Accepted.{Sees, each-sees}
+use Rattle.rules.specs.Merge.{occurs, occursIn, pushes, held, defOf, stops}
 
 -- ── what passes of a list ───────────────────────────────────────────────────────────────────
-
-pub bool-eq : (a b : Bool) → (T a → T b) → (T b → T a) → a ≡ b
-bool-eq true true f g = refl
-bool-eq true false f g = absurd (f tt)
-bool-eq false true f g = absurd (g tt)
-bool-eq false false f g = refl
 
 -- each of whose elements is as P says
 pub any-as : {A : Type 0} {P : A → Type 0} (p : A → Bool) {R : Type 0} {xs : List A} → All P xs → ((x : A) → P x → T (p x) → R) → T (anyB p xs) → R
@@ -130,10 +124,6 @@ diagonal Q g [] h = a[]
 diagonal Q g (x ∷ xs) h = head-of (h (g x)) a∷ diagonal Q g xs (λ b. tail-of (h b))
 
 -- ── the law ─────────────────────────────────────────────────────────────────────────────────
-
--- an item whose definition does not push to leaves stops the merge where its pair is written more than once, or its name alone is
-abbrev pub stops : (mask : ℕ) (upper : List Item) → Item → Bool
-stops m js i = (ltb 1 (occursIn (itemPair i) js) || ltb 1 (occursIn (nameless (itemPair i)) js)) && not (pushes m (itemExpr i))
 
 -- the item that a reference finds
 to-item : (t : Expr → Bool) (u : Item → Bool) (c : Pair) (is : List Item) → ((i : Item) → fits c (itemPair i) ≡ true → T (t (itemExpr i)) → T (u i)) → T (anyB (fits c) (map itemPair is)) → T (t (defOf c is)) → T (anyB u is)

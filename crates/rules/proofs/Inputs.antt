@@ -7,34 +7,27 @@ use Prim.Native.Nat.{_≤_}
 use native.Mathlib.Omega.{arith}
 use lib.Dec.{T, ltb, nltb→le}
 use lib.ListN.{length, length-map}
-use Rattle.cpl.specs.Limits.{Version}
 use Rattle.cpl.specs.Lists.{All, Fit}
 use Rattle.cpl.specs.Plan.{Pair, bare, projection, Plan, unary, Catalogue, itemExpr}
 use Rattle.cpl.specs.Exprs.{unaryExprs}
 use Rattle.cpl.specs.Accept.{allPass}
 use Rattle.cpl.specs.Fields.{unaryFields, fieldsOf}
 use Rattle.cpl.specs.Writable.{FitList, FitPair, FitItem, FitUnary, FitPlan}
+use Rattle.cpl.specs.Accepted.{Resolved, NodeOk, Accepted}
 use Rattle.cpl.proofs.Lists.{All-mapped}
 use Rattle.cpl.proofs.Versions.{Sound}
-use Rattle.cpl.proofs.Clash.{Clear}
-use Rattle.cpl.proofs.Accepted.{Resolved, NodeOk, Accepted}
-use Rattle.rules.specs.Mask.{Mask, select, count}
+use Rattle.rules.specs.Mask.{Mask, select, countM}
 use Rattle.rules.specs.Rules.{topUp}
 use Rattle.rules.specs.Rewrite.{Walked, Go}
-use Rattle.rules.specs.Kept.{Kept}
+use Rattle.rules.specs.FieldsKept.{FieldsKept}
+use Rattle.rules.specs.Items.{FieldsOk}
 use Rattle.rules.proofs.Masks.{LeM-fit, count-eq, length-select, select-select, select-short, All-select}
 use Rattle.rules.proofs.Known.{own-resolved, bare-fields, clear-select}
 
--- ── what is known of a field list, and of a result ──────────────────────────────────────────
-
--- the fields of an accepted, writable plan
-pub record Fields (v : Version) (fs : List Pair) : Type 0 where
-  pub few : length fs ≤ v .maxFields
-  pub distinct : Clear fs
-  pub pairs : All FitPair fs
+-- ── what is known of a result ───────────────────────────────────────────────────────────────
 
 pub record Result (C : Catalogue) (fs : List Pair) (R : Mask) (w : Walked) : Type 0 where
-  pub kept : Kept C fs R w
+  pub kept : FieldsKept C fs R w
   pub accepted : Accepted C (w .plan)
   pub fit : FitPlan C (w .plan)
 
@@ -54,7 +47,7 @@ bare-fit : {cs : List Pair} → All FitPair cs → All FitItem (map bare cs)
 unfolding FitItem
 bare-fit h = All-mapped bare (λ c k. k) h
 
-module _ (C : Catalogue) (laws : Sound (C .version)) {fs : List Pair} (known-fields : Fields (C .version) fs) {Q : Mask} (fits-fields : Fit Q fs) {w : Walked} (r : Result C fs Q w) where
+module _ (C : Catalogue) (laws : Sound (C .version)) {fs : List Pair} (known-fields : FieldsOk (C .version) fs) {Q : Mask} (fits-fields : Fit Q fs) {w : Walked} (r : Result C fs Q w) where
   -- the requested columns over the input
   topped-fields : unaryFields (projection (map bare (select Q fs))) (fieldsOf C (w .plan)) ≡ select Q fs
   unfolding unaryFields
@@ -83,13 +76,13 @@ module _ (C : Catalogue) (laws : Sound (C .version)) {fs : List Pair} (known-fie
 
   pub topped : Input C fs Q (topUp C fs Q (w .plan))
   unfolding topUp fieldsOf Accepted FitPlan
-  topped = go (ltb (count Q) (length (fieldsOf C (w .plan)))) (λ t. t)
+  topped = go (ltb (countM Q) (length (fieldsOf C (w .plan)))) (λ t. t)
     where
-      go : (b : Bool) → (T (not b) → T (not (ltb (count Q) (length (fieldsOf C (w .plan)))))) → Input C fs Q (cond b (unary (projection (map bare (select Q fs))) (w .plan)) (w .plan))
+      go : (b : Bool) → (T (not b) → T (not (ltb (countM Q) (length (fieldsOf C (w .plan)))))) → Input C fs Q (cond b (unary (projection (map bare (select Q fs))) (w .plan)) (w .plan))
       go true t = record { fields = topped-fields; accepted = (r .accepted, topped-ok); fit = (topped-fit, r .fit) }
       go false t =
-          let h : length (fieldsOf C (w .plan)) ≤ count Q = nltb→le _ _ (t tt) in
-          let l : length (fieldsOf C (w .plan)) ≡ count (w .kept) = ap length (r .kept .fields) ∙ length-select (LeM-fit (r .kept .keeps) fits-fields) in
+          let h : length (fieldsOf C (w .plan)) ≤ countM Q = nltb→le _ _ (t tt) in
+          let l : length (fieldsOf C (w .plan)) ≡ countM (w .kept) = ap length (r .kept .fields) ∙ length-select (LeM-fit (r .kept .keeps) fits-fields) in
           let e : w .kept ≡ Q = count-eq (r .kept .keeps) (omega arith) in
           record { fields = r .kept .fields ∙ ap (λ k. select k fs) e; accepted = r .accepted; fit = r .fit }
 

@@ -8,24 +8,15 @@ use Prim.Native.Nat.{ℕ, zero, suc}
 use lib.Dec.{T, eqb, eqb→eq, eqb-refl}
 use lib.ListN.{take, getD}
 use Rattle.cpl.specs.Tests.{anyB, allB}
-use Rattle.cpl.proofs.Bools.{halves, both-T, left-T, right-T, nor, is-true, is-false}
+use Rattle.cpl.proofs.Bools.{halves, both-T, left-T, right-T, nor, is-true, is-false, bool-eq}
 use Rattle.cpl.proofs.Lists.{map-cong}
 use Rattle.rules.specs.Mask.{Mask, orM, ones}
-use Rattle.rules.specs.Keys.{isPlace, hasAll, firstAt, carried, isKeyPlace, keptGroups}
-
-abbrev pub member : ℕ → List ℕ → Bool
-member k ks = anyB (eqb k) ks
+use Rattle.rules.specs.Keys.{isPlace, hasAll, firstAt, carried, isKeyPlace, keptGroups, member, freshPlace, freshAt}
 
 abbrev pub SameMembers : List ℕ → List ℕ → Type 0
 SameMembers ks ls = (k : ℕ) → member k ks ≡ member k ls
 
 -- ── tests over members ──────────────────────────────────────────────────────────────────────
-
-either-way : (a b : Bool) → (T a → T b) → (T b → T a) → a ≡ b
-either-way true true f g = refl
-either-way true false f g = absurd (f tt)
-either-way false true f g = absurd (g tt)
-either-way false false f g = refl
 
 module _ (p : ℕ → Bool) where
   -- all pass where every member does
@@ -64,11 +55,11 @@ module _ (p : ℕ → Bool) where
 
   all-same : (ks ls : List ℕ) → SameMembers ks ls → allB p ks ≡ allB p ls
   all-same ks ls s =
-      either-way (allB p ks) (allB p ls) (λ t. all-members ls (λ k m. each-member ks t k (subst⁻¹ T (s k) m))) (λ t. all-members ks (λ k m. each-member ls t k (subst T (s k) m)))
+      bool-eq (allB p ks) (allB p ls) (λ t. all-members ls (λ k m. each-member ks t k (subst⁻¹ T (s k) m))) (λ t. all-members ks (λ k m. each-member ls t k (subst T (s k) m)))
 
   any-same : (ks ls : List ℕ) → SameMembers ks ls → anyB p ks ≡ anyB p ls
   any-same ks ls s =
-      either-way (anyB p ks) (anyB p ls) (λ t. let h = some-member ks t in member-some ls (h .0) (subst T (s (h .0)) (h .1)) (h .2)) (λ t. let h = some-member ls t in member-some ks (h .0) (subst⁻¹ T (s (h .0)) (h .1)) (h .2))
+      bool-eq (anyB p ks) (anyB p ls) (λ t. let h = some-member ks t in member-some ls (h .0) (subst T (s (h .0)) (h .1)) (h .2)) (λ t. let h = some-member ls t in member-some ks (h .0) (subst⁻¹ T (s (h .0)) (h .1)) (h .2))
 
 any-map : (p : ℕ → Bool) (f : ℕ → ℕ) (ks : List ℕ) → anyB p (map f ks) ≡ anyB (λ k. p (f k)) ks
 unfolding anyB
@@ -109,17 +100,9 @@ groups-same (k ∷ ks) (l ∷ ls) s ps R = ap₂ (λ b M. cond b (orM R M) (ones
 -- a key held as a place's test: a group is the key's column where its place is a member
 pub key-place : (key : List ℕ) (i : ℕ) → isKeyPlace key (some i) ≡ member i key
 unfolding isKeyPlace isPlace
-key-place key i = either-way _ _ (λ t. let h = some-member (λ k. eqb k i) key t in subst (λ j. T (member j key)) (eqb→eq (h .0) i (h .2)) (h .1)) (λ t. member-some (λ k. eqb k i) key i t (eqb-refl i))
+key-place key i = bool-eq _ _ (λ t. let h = some-member (λ k. eqb k i) key t in subst (λ j. T (member j key)) (eqb→eq (h .0) i (h .2)) (h .1)) (λ t. member-some (λ k. eqb k i) key i t (eqb-refl i))
 
 -- ── a carried key, place by place: what a loop over the items finds ─────────────────────────
-
--- is this a column of the key that none of those before is?
-abbrev pub freshPlace : (key : List ℕ) (before : List (Option ℕ)) → Option ℕ → Bool
-freshPlace key before none = false
-freshPlace key before (some j) = member j key && not (anyB (isPlace j) before)
-
-abbrev pub fresh : (key : List ℕ) → List (Option ℕ) → ℕ → Bool
-fresh key ps m = freshPlace key (take m ps) (getD ps m none)
 
 place-is : (k : ℕ) (p : Option ℕ) → T (isPlace k p) → p ≡ some k
 unfolding isPlace
@@ -148,19 +131,19 @@ stands-first k (p ∷ ps) zero e t = rw (here p e)
 stands-first k (p ∷ ps) (suc m) e t = let h = nor (isPlace k p) (anyB (isPlace k) (take m ps)) t in rw (is-false (isPlace k p) (h .0)) (ap suc (stands-first k ps m e (h .1)))
 
 -- place m of the new key: all of the key is there, and m is fresh
-pub carried-at : (key : List ℕ) (ps : List (Option ℕ)) (m : ℕ) → member m (carried key ps) ≡ (hasAll key ps && fresh key ps m)
+pub carried-at : (key : List ℕ) (ps : List (Option ℕ)) (m : ℕ) → member m (carried key ps) ≡ (hasAll key ps && freshAt key ps m)
 unfolding carried
 carried-at key ps m = go (hasAll key ps) (λ t. t)
   where
     each : T (hasAll key ps) → (k : ℕ) → T (member k key) → T (anyB (isPlace k) ps)
     each t = unfold hasAll in each-member (λ k. anyB (isPlace k) ps) key t
 
-    there : T (hasAll key ps) → T (anyB (λ k. eqb m (firstAt k ps)) key) → T (fresh key ps m)
+    there : T (hasAll key ps) → T (anyB (λ k. eqb m (firstAt k ps)) key) → T (freshAt key ps m)
     there t a =
         let h = some-member (λ k. eqb m (firstAt k ps)) key a in
         let k = h .0 in
         let f = first-stands k ps (each t k (h .1)) in
-        subst⁻¹ (λ i. T (fresh key ps i)) (eqb→eq m (firstAt k ps) (h .2))
+        subst⁻¹ (λ i. T (freshAt key ps i)) (eqb→eq m (firstAt k ps) (h .2))
         (subst⁻¹ (λ p. T (freshPlace key (take (firstAt k ps) ps) p)) (f .0) (both-T (member k key) (not (anyB (isPlace k) (take (firstAt k ps) ps))) (h .1) (f .1)))
 
     back : (p : Option ℕ) → getD ps m none ≡ p → T (freshPlace key (take m ps) p) → T (anyB (λ k. eqb m (firstAt k ps)) key)
@@ -169,6 +152,6 @@ carried-at key ps m = go (hasAll key ps) (λ t. t)
         let h = halves (member j key) (not (anyB (isPlace j) (take m ps))) t in
         member-some (λ k. eqb m (firstAt k ps)) key j (h .0) (subst⁻¹ (λ i. T (eqb m i)) (stands-first j ps m e (h .1)) (eqb-refl m))
 
-    go : (b : Bool) → (T b → T (hasAll key ps)) → member m (cond b (map (λ k. firstAt k ps) key) []) ≡ (b && fresh key ps m)
-    go true t = any-map (eqb m) (λ k. firstAt k ps) key ∙ either-way _ _ (there (t tt)) (back (getD ps m none) refl)
+    go : (b : Bool) → (T b → T (hasAll key ps)) → member m (cond b (map (λ k. firstAt k ps) key) []) ≡ (b && freshAt key ps m)
+    go true t = any-map (eqb m) (λ k. firstAt k ps) key ∙ bool-eq _ _ (there (t tt)) (back (getD ps m none) refl)
     go false t = unfold anyB in refl

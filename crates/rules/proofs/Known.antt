@@ -9,19 +9,19 @@ use Rattle.cpl.specs.Lists.{All, a[], _a∷_}
 use Rattle.cpl.specs.Plan.{Pair, Expr, col, lit, miss, un, bin, bare, itemPair, itemExpr}
 use Rattle.cpl.specs.Exprs.{fits, find, present, fitting, known, definite, references}
 use Rattle.cpl.specs.Accept.{allPass}
+use Rattle.cpl.specs.Accepted.{Clear, n[], _n∷_, Resolved}
 use Rattle.cpl.proofs.Bools.{halves, both-T}
 use Rattle.cpl.proofs.Lists.{All-map, All-both, All-left, All-right, All-mapped, map-map, map-id}
 use Rattle.cpl.proofs.Lookup.{find-here, find-past, present-next, fitting-none, fitting-here, fitting-past, own-found, own-fits}
-use Rattle.cpl.proofs.Clash.{Clear, n[], _n∷_}
-use Rattle.cpl.proofs.Accepted.{Resolved, Sees, each-sees, all-see}
+use Rattle.cpl.proofs.Accepted.{Sees, each-sees, all-see}
 use Rattle.rules.specs.Mask.{Mask, select}
 use Rattle.rules.proofs.Masks.{All-select}
-use Rattle.rules.proofs.Covers.{Holds, h[], here, past, Covers, Cov}
+use Rattle.rules.proofs.Covers.{KeepsFirst, h[], here, past, Covers, Cov}
 
 -- ── references over narrowed fields ─────────────────────────────────────────────────────────
 
 -- what finds a field still finds one where that field is kept
-find-select : (c : Pair) {fs : List Pair} {K : Mask} → Holds c fs K → T (present (find c fs)) → T (present (find c (select K fs)))
+find-select : (c : Pair) {fs : List Pair} {K : Mask} → KeepsFirst c fs K → T (present (find c fs)) → T (present (find c (select K fs)))
 unfolding select
 find-select c h[] t = t
 find-select c (here {f = f} {fs = fs} {ks = K} e fit) t = subst⁻¹ (λ o. T (present o)) (find-here c f (select K fs) e) (unfold present in tt)

@@ -21,7 +21,7 @@ use Rattle.rules.specs.Rules.{Job}
 use Rattle.rules.specs.Rewrite.{rewrite}
 use Rattle.rules.specs.Answer.{Answer, mergeOf, answer, answerAll}
 use Rattle.rules.specs.Success.{sourceOf, Success}
-use Rattle.rules.specs.Scans.{scans, Numbered, Left, jobScans, pendScans, mergedScans, itemsOf, unaryScans, binaryScans, walkScans, scansUnder, leafColumns, survives, readsAt, NoLess, Into, Narrower, narrower, Within}
+use Rattle.rules.specs.Scans.{scans, Numbered, Left, jobScans, pendScans, mergedScans, itemsOf, unaryScans, binaryScans, walkScans, scansUnder, leafColumns, survives, readsAt, NoLess, Into, Narrower, narrower, NarrowerAt}
 use Rattle.rules.specs.Larger.{Contains, scansLeft, FollowedIn, Larger}
 use Rattle.rules.proofs.Parts.{none-into, Into-++, Into-map, any-into, Part-any, mask-more, all-more}
 use Rattle.rules.proofs.AskedMore.{More, not-walked, asks-more, leaf-more, projection-more, unary-more, left-more, right-more}
@@ -33,9 +33,9 @@ use Rattle.rules.proofs.Successes.{read-back}
 module _ (C : Catalogue) where
   -- whatever is beneficial: a larger request leaves no scan less, and of each no column less
   abbrev pub Grows : Left → Type 0
-  Grows s = (b b′ : Bool) (R R′ : Mask) → LeM R R′ → Into (Within C) (s b R) (s b′ R′)
+  Grows s = (b b′ : Bool) (R R′ : Mask) → LeM R R′ → Into (NarrowerAt C) (s b R) (s b′ R′)
 
-  job-grows : {j j′ : Job} → More j j′ → (s : Left) → Grows s → Into (Within C) (jobScans j s) (jobScans j′ s)
+  job-grows : {j j′ : Job} → More j j′ → (s : Left) → Grows s → Into (NarrowerAt C) (jobScans j s) (jobScans j′ s)
   unfolding jobScans
   job-grows (not-walked {j = j}) s g = none-into (jobScans j s)
   job-grows (asks-more {b = b} {b′ = b′} {Q = Q} {Q′ = Q′} l) s g = g b b′ Q Q′ l
@@ -76,7 +76,7 @@ column-within : (C : Catalogue) {h k : Leaf} → Narrower C h k → (i : ℕ) �
 unfolding leafColumns
 column-within C (narrower s) i t = Part-any (eqb i) s t
 
-pub no-less : (C : Catalogue) {xs ys : List Numbered} → Into (Within C) xs ys → NoLess C xs ys
+pub no-less : (C : Catalogue) {xs ys : List Numbered} → Into (NarrowerAt C) xs ys → NoLess C xs ys
 unfolding survives readsAt
 no-less C h =
     record {

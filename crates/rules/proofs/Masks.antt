@@ -6,7 +6,7 @@ use Prim.Native.Nat.{ℕ, suc, _≤_}
 use native.Mathlib.Omega.{arith}
 use lib.ListN.{length, take, drop, take-append-drop}
 use Rattle.cpl.specs.Lists.{All, a[], _a∷_, z[], _z∷_, Fit}
-use Rattle.rules.specs.Mask.{Mask, select, orM, ones, count, LeB, LeM}
+use Rattle.rules.specs.Mask.{Mask, select, orM, ones, countM, LeB, LeM}
 
 -- ── containment ─────────────────────────────────────────────────────────────────────────────
 
@@ -83,8 +83,8 @@ ones-le [] z[] = refl
 ones-le (x ∷ xs) (_z∷_ {y = true} h hs) = ap (true ∷_) (ones-le xs hs)
 ones-le (x ∷ xs) (_z∷_ {y = false} h hs) = absurd h
 
-count-le : {R K : Mask} → LeM R K → count R ≤ count K
-unfolding count
+count-le : {R K : Mask} → LeM R K → countM R ≤ countM K
+unfolding countM
 count-le z[] = omega arith
 count-le (_z∷_ {x = true} {y = true} h hs) = let k = count-le hs in omega arith
 count-le (_z∷_ {x = true} {y = false} h hs) = absurd h
@@ -92,8 +92,8 @@ count-le (_z∷_ {x = false} {y = true} h hs) = let k = count-le hs in omega ari
 count-le (_z∷_ {x = false} {y = false} h hs) = count-le hs
 
 -- a larger mask that has no more is the same
-pub count-eq : {R K : Mask} → LeM R K → count K ≤ count R → K ≡ R
-unfolding count
+pub count-eq : {R K : Mask} → LeM R K → countM K ≤ countM R → K ≡ R
+unfolding countM
 count-eq z[] k = refl
 count-eq (_z∷_ {x = true} {y = true} h hs) k = ap (true ∷_) (count-eq hs (omega arith))
 count-eq (_z∷_ {x = true} {y = false} h hs) k = absurd h
@@ -101,8 +101,8 @@ count-eq (_z∷_ {x = false} {y = true} h hs) k = let l = count-le hs in absurd 
 count-eq (_z∷_ {x = false} {y = false} h hs) k = ap (false ∷_) (count-eq hs k)
 
 module _ {A : Type 0} where
-  pub length-select : {K : Mask} {xs : List A} → Fit K xs → length (select K xs) ≡ count K
-  unfolding select count
+  pub length-select : {K : Mask} {xs : List A} → Fit K xs → length (select K xs) ≡ countM K
+  unfolding select countM
   length-select z[] = refl
   length-select (_z∷_ {x = true} _ hs) = ap suc (length-select hs)
   length-select (_z∷_ {x = false} _ hs) = length-select hs

@@ -12,11 +12,12 @@ use Rattle.cpl.specs.Plan.{Pair, pair, eqP, Expr, col, lit, miss, un, bin, Item
 use Rattle.cpl.specs.Exprs.{fits, known, definite}
 use Rattle.cpl.specs.Accept.{allPass}
 use Rattle.cpl.specs.Writable.{FitPair, FitExpr, FitItem}
+use Rattle.cpl.specs.Accepted.{Resolved}
 use Rattle.cpl.proofs.Bools.{halves, both-T}
 use Rattle.cpl.proofs.Lists.{map-map, map-cong, All-mapped, All-unmapped}
 use Rattle.cpl.proofs.Pairs.{eqP-eq}
 use Rattle.cpl.proofs.Lookup.{find-any}
-use Rattle.cpl.proofs.Accepted.{Resolved, Sees, each-sees, all-see}
+use Rattle.cpl.proofs.Accepted.{Sees, each-sees, all-see}
 use Rattle.rules.specs.Merge.{itemD, eqItems, plain, defOf, replace, define, item, replaceItem, held, usesNone, dropsChild, mergeStep}
 
 -- ── equal lists ─────────────────────────────────────────────────────────────────────────────

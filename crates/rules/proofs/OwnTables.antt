@@ -19,7 +19,7 @@ use Rattle.rules.specs.Mask.{Mask}
 use Rattle.rules.specs.Keys.{declared}
 use Rattle.rules.specs.Merge.{Merge}
 use Rattle.rules.specs.Rewrite.{rewrite}
-use Rattle.rules.specs.Scans.{leafScans, Numbered, numbered, scansOf, scansUnder, Into, i[], _i∷_, pass, Narrower, narrower, Within}
+use Rattle.rules.specs.Scans.{leafScans, Numbered, numbered, scansOf, scansUnder, Into, i[], _i∷_, pass, Narrower, narrower, NarrowerAt}
 use Rattle.rules.specs.OwnTables.{retableLeaf, retable, ownTables, lacking, leafTable, nodeTable, nodes, tableAt, ownKeys, ownCatalogue, Traced}
 use Rattle.rules.proofs.Follow.{walk-same, walk-among}
 use Rattle.rules.proofs.Retable.{walk-retable, left-retable}
@@ -111,7 +111,7 @@ module _ (C : Catalogue) where
   unfolding leafTable
   within-table (narrower s) = refl
 
-  numbers-left : {D : Catalogue} {xs ys : List Numbered} → Into (Within D) xs ys → All (λ x. leafTable C (x .head) ≡ x .number) ys → All (λ x. leafTable C (x .head) ≡ x .number) xs
+  numbers-left : {D : Catalogue} {xs ys : List Numbered} → Into (NarrowerAt D) xs ys → All (λ x. leafTable C (x .head) ≡ x .number) ys → All (λ x. leafTable C (x .head) ≡ x .number) xs
   numbers-left i[] a[] = a[]
   numbers-left (w i∷ hs) (e a∷ es) = (within-table (w .scan-within) ∙ (e ∙ sym (w .same-node))) a∷ numbers-left hs es
   numbers-left (pass hs) (e a∷ es) = numbers-left hs es

@@ -1,7 +1,7 @@
 -- A request to which columns are added, one list or one reference after the other: what code that builds requests goes by.
 use mathlib.Core.Path.{_≡_, refl, sym, _∙_, ap, ap₂}
 use mathlib.Core.List.{List, [], _∷_, _++_, append-assoc, append-nil}
-use mathlib.Core.Bool.{Bool, true, false, _||_}
+use mathlib.Core.Bool.{false, _||_}
 use mathlib.Core.Option.{none, some}
 use Prim.Native.Nat.{ℕ}
 use lib.ListN.{length}
@@ -10,6 +10,7 @@ use Rattle.cpl.specs.Lists.{All, a[], _a∷_, z[], _z∷_, Fit}
 use Rattle.cpl.specs.Plan.{Pair, Op1, Op2, Expr, col, un, bin}
 use Rattle.cpl.specs.Exprs.{find, found, places}
 use Rattle.cpl.proofs.Lists.{All-mapped, always, Fit-trans, Fit-sym}
+use Rattle.cpl.proofs.Bools.{or-false, or-assoc}
 use Rattle.rules.specs.Mask.{Mask, orM}
 use Rattle.rules.specs.Request.{maskOf}
 use Rattle.rules.specs.Rules.{used, plus}
@@ -22,10 +23,6 @@ or-nothing : {R M : Mask} → Fit R M → All (λ b. b ≡ false) M → orM R M 
 unfolding orM
 or-nothing z[] a[] = refl
 or-nothing (_z∷_ {x = r} _ fs) (h a∷ hs) = ap₂ _∷_ (ap (r ||_) h ∙ or-false r) (or-nothing fs hs)
-  where
-    or-false : (b : Bool) → b || false ≡ b
-    or-false true = refl
-    or-false false = refl
 
 or-twice : (R M N : Mask) → orM (orM R M) N ≡ orM R (orM M N)
 unfolding orM
@@ -33,10 +30,6 @@ or-twice [] M N = refl
 or-twice (r ∷ R) [] N = refl
 or-twice (r ∷ R) (m ∷ M) [] = refl
 or-twice (r ∷ R) (m ∷ M) (n ∷ N) = ap₂ _∷_ (or-assoc r m n) (or-twice R M N)
-  where
-    or-assoc : (a b c : Bool) → (a || b) || c ≡ a || (b || c)
-    or-assoc true b c = refl
-    or-assoc false b c = refl
 
 no-index : (fs : List Pair) → All (λ b. b ≡ false) (maskOf (length fs) [])
 unfolding maskOf anyB

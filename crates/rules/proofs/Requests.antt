@@ -12,7 +12,7 @@ use borrow.Author.Tests.{ne-eqb, eq-eqb}
 use Rattle.cpl.specs.Tests.{anyB, iota}
 use Rattle.cpl.specs.Lists.{All, a[], _a∷_, z[], _z∷_, Fit}
 use Rattle.cpl.specs.Read.{pick}
-use Rattle.cpl.proofs.Bools.{halves}
+use Rattle.cpl.proofs.Bools.{halves, or-assoc}
 use Rattle.cpl.proofs.Lists.{All-map, map-cong, map-congA, Fit-map, Fit-trans}
 use Rattle.rules.specs.Mask.{Mask, orM}
 use Rattle.rules.proofs.Masks.{or-map}
@@ -100,10 +100,6 @@ unfolding maskOf
 fit-mask is xs = Fit-trans (Fit-map (λ i. anyB (eqb i) is) (iota 0 (length xs))) (fit-iota 0 xs)
 
 -- ── two requests ────────────────────────────────────────────────────────────────────────────
-
-or-assoc : (a b c : Bool) → (a || b) || c ≡ a || (b || c)
-or-assoc true b c = refl
-or-assoc false b c = refl
 
 any-both : (i : ℕ) (is js : List ℕ) → anyB (eqb i) (is ++ js) ≡ anyB (eqb i) is || anyB (eqb i) js
 unfolding anyB

@@ -8,34 +8,30 @@ use native.Mathlib.Omega.{arith}
 use lib.ListN.{length, length-map}
 use Rattle.cpl.specs.Limits.{Version}
 use Rattle.cpl.specs.Lists.{Fit}
-use Rattle.cpl.specs.Plan.{Pair, Item, Leaf, scan, empty, Unary, projection, filter, sort, limit, aggregate, window, subqueryAlias, distinct, Plan, leaf, unary, binary, Catalogue, namesOf, itemPair, itemExpr}
+use Rattle.cpl.specs.Plan.{Pair, Item, Leaf, scan, empty, Unary, projection, filter, sort, limit, aggregate, window, subqueryAlias, distinct, Plan, leaf, unary, binary, Catalogue, namesOf, itemPair}
 use Rattle.cpl.specs.Exprs.{leafExprs, unaryExprs}
 use Rattle.cpl.specs.Accept.{allPass}
 use Rattle.cpl.specs.Fields.{columnsOf, scanField, leafFields, leafInput, unaryFields, fieldsOf}
-use Rattle.cpl.specs.Writable.{FitList, FitItem, FitColumns, FitLeaf, FitUnary, FitPlan, FitCatalogue}
+use Rattle.cpl.specs.Writable.{FitList, FitColumns, FitLeaf, FitUnary, FitPlan, FitCatalogue}
+use Rattle.cpl.specs.Accepted.{Resolved, Accepted}
 use Rattle.cpl.proofs.Versions.{Sound, sound}
 use Rattle.cpl.proofs.Lists.{fit-self}
-use Rattle.cpl.proofs.Accepted.{Resolved, Accepted, few-fields, distinct-fields}
+use Rattle.cpl.proofs.Accepted.{few-fields, distinct-fields}
 use Rattle.cpl.proofs.FitFields.{unary-pairs, field-pairs, columns-below, columns-few}
 use Rattle.rules.specs.Mask.{Mask}
 use Rattle.rules.specs.Keys.{keyOf}
 use Rattle.rules.specs.Merge.{mergeStep}
 use Rattle.rules.specs.Rules.{leafRule, leafKept}
-use Rattle.rules.specs.Rewrite.{Walked, Go, pend, counted, merged, leafWalk, nodeWalk, unaryWalk, walk}
+use Rattle.rules.specs.Rewrite.{Walked, Go, pend, measured, merged, leafWalk, nodeWalk, unaryWalk, walk}
+use Rattle.rules.specs.Items.{FieldsOk, Items}
 use Rattle.rules.proofs.Masks.{LeM-refl, fit-ones, select-map, select-ones, select-short, All-select}
 use Rattle.rules.proofs.Known.{clear-select}
-use Rattle.rules.proofs.Inputs.{Fields, Result, Good}
+use Rattle.rules.proofs.Inputs.{Result, Good}
 use Rattle.rules.proofs.UnaryKinds.{projection-good, unary-good}
 use Rattle.rules.proofs.BinaryKinds.{binary-good}
 use Rattle.rules.proofs.MergeTidy.{Step, step, step-pairs, step-resolved, step-fits}
 
 -- ── what is asked of a projection that is still to be put on top ─────────────────────────────
-
--- over these fields: its references are resolved, its pairs few and distinct, its items writable
-pub record Items (v : Version) (fs : List Pair) (is : List Item) : Type 0 where
-  pub resolved : Resolved (allPass (map itemExpr is) fs)
-  pub own : Fields v (map itemPair is)
-  pub fit : FitList FitItem (v .maxItems) is
 
 abbrev pub Pending : Version → List Pair → Option (List Item) → Type 0
 Pending v fs none = Unit {0}
@@ -54,7 +50,7 @@ pend-good C (some is) k go g = λ b R f. projection-good C is (k .resolved) (k .
 -- ── nodes ───────────────────────────────────────────────────────────────────────────────────
 
 -- the fields of a plan that is accepted and can be written
-pub plan-fields : (C : Catalogue) → FitCatalogue C → (p : Plan) → Accepted C p → FitPlan C p → Fields (C .version) (fieldsOf C p)
+pub plan-fields : (C : Catalogue) → FitCatalogue C → (p : Plan) → Accepted C p → FitPlan C p → FieldsOk (C .version) (fieldsOf C p)
 plan-fields C k p o f = record { few = few-fields C p o; distinct = distinct-fields C p o; pairs = field-pairs C k p f }
 
 pub leaf-good : (C : Catalogue) → FitCatalogue C → (h : Leaf) → Accepted C (leaf h) → FitLeaf C h → Good C (leafFields C h) (leafWalk C h)
@@ -81,16 +77,16 @@ unfolding FitList
 merged-items {v = v} {fs} {js} {is} {ks} u l s =
     record {
       resolved = step-resolved fs (u .resolved) (l .resolved) s;
-      own = subst⁻¹ (Fields v) (step-pairs s) (u .own);
+      own = subst⁻¹ (FieldsOk v) (step-pairs s) (u .own);
       fit = (let e = ap length (step-pairs s) in let m = u .fit .0 in omega (arith, length-map ks itemPair, length-map js itemPair), step-fits (u .fit .1) (l .fit .1) s);
     }
 
-counted-result : (C : Catalogue) {fs : List Pair} {R : Mask} (ks : List Item) {w : Walked} → Result C fs R w → Result C fs R (counted ks w)
-unfolding counted
-counted-result C ks r = record { kept = record { keeps = r .kept .keeps; fields = r .kept .fields }; accepted = r .accepted; fit = r .fit }
+measured-result : (C : Catalogue) {fs : List Pair} {R : Mask} (ks : List Item) {w : Walked} → Result C fs R w → Result C fs R (measured ks w)
+unfolding measured
+measured-result C ks r = record { kept = record { keeps = r .kept .keeps; fields = r .kept .fields }; accepted = r .accepted; fit = r .fit }
 
 -- a node that is no projection
-node-good : (C : Catalogue) → Sound (C .version) → (h : Unary) (key : List ℕ) {fs : List Pair} → Fields (C .version) fs → Resolved (allPass (unaryExprs h) fs) → Fields (C .version) (unaryFields h fs) → FitUnary (C .version) h
+node-good : (C : Catalogue) → Sound (C .version) → (h : Unary) (key : List ℕ) {fs : List Pair} → FieldsOk (C .version) fs → Resolved (allPass (unaryExprs h) fs) → FieldsOk (C .version) (unaryFields h fs) → FitUnary (C .version) h
     → (go : Option (List Item) → Go) → Good C fs (go none) → (q : Option (List Item)) → Pending (C .version) (unaryFields h fs) q → Good C (pendingFields (unaryFields h fs) q) (nodeWalk C h key fs go q)
 unfolding nodeWalk
 node-good C laws h key below k own fit go g q pq = pend-good C q pq _ (unary-good C laws key below (go none) g h k own fit)
@@ -104,9 +100,9 @@ module _ (house : Bool) (m : ℕ) (C : Catalogue) where
   merged-good js is u l go g none e = pend-good C (some js) u (go (some is)) (g is l)
   merged-good js is {fs} u l go g (some ks) e = λ b R f.
       let s = step house m js is ks e in
-      counted-result C ks (subst (λ fs′. Result C fs′ R (go (some ks) b R)) (step-pairs s) (g ks (merged-items u l s) b R (subst⁻¹ (Fit R) (step-pairs s) f)))
+      measured-result C ks (subst (λ fs′. Result C fs′ R (go (some ks) b R)) (step-pairs s) (g ks (merged-items u l s) b R (subst⁻¹ (Fit R) (step-pairs s) f)))
 
-  unary-walk : Sound (C .version) → (h : Unary) (key : List ℕ) {fs : List Pair} → Fields (C .version) fs → Resolved (allPass (unaryExprs h) fs) → Fields (C .version) (unaryFields h fs) → FitUnary (C .version) h
+  unary-walk : Sound (C .version) → (h : Unary) (key : List ℕ) {fs : List Pair} → FieldsOk (C .version) fs → Resolved (allPass (unaryExprs h) fs) → FieldsOk (C .version) (unaryFields h fs) → FitUnary (C .version) h
       → (go : Option (List Item) → Go) → ((q : Option (List Item)) → Pending (C .version) fs q → Good C (pendingFields fs q) (go q))
       → (q : Option (List Item)) → Pending (C .version) (unaryFields h fs) q → Good C (pendingFields (unaryFields h fs) q) (unaryWalk (mergeStep house m) C h key fs go q)
   unfolding unaryWalk unaryFields unaryExprs FitUnary

@@ -11,11 +11,11 @@ use Rattle.cpl.specs.Exprs.{planNodes}
 use Rattle.cpl.specs.Fields.{columnsOf, scanField, leafFields, unaryFields, binaryFields, fieldsOf}
 use Rattle.cpl.proofs.Bools.{cond-ap}
 use Rattle.cpl.proofs.Lists.{map-++}
-use Rattle.rules.specs.Mask.{Mask, select, count}
+use Rattle.rules.specs.Mask.{Mask, select, countM}
 use Rattle.rules.specs.Keys.{carried, declared, leafKey, unaryKey, keyOf}
 use Rattle.rules.specs.Merge.{Merge}
 use Rattle.rules.specs.Rules.{topUp, sameColumns, overChild, leafRule, leafKept, Job, done, ask, projectionJob, aggregateJob, windowJob, unaryJob, leftAsk, rightAsk, binaryKept}
-use Rattle.rules.specs.Rewrite.{Walked, Go, input, runJob, pend, counted, merged, leafWalk, nodeWalk, unaryWalk, binaryWalk, walk}
+use Rattle.rules.specs.Rewrite.{Walked, Go, input, runJob, pend, measured, merged, leafWalk, nodeWalk, unaryWalk, binaryWalk, walk}
 use Rattle.rules.specs.Scans.{leafScans, Numbered, numbered, Left, jobScans, pendScans, mergedScans, leafLeft, itemsOf, unaryScans, binaryScans, walkScans}
 use Rattle.rules.specs.OwnTables.{retableLeaf, retable}
 
@@ -63,7 +63,7 @@ module _ (u : ℕ → ℕ) (C D : Catalogue) (names : (t : ℕ) → namesOf C (u
   unfolding topUp retable
   top-up fs Q p′ =
       let h = projection (map bare (select Q fs)) in
-      ap (λ gs. cond (ltb (count Q) (length gs)) (unary h (retable u p′)) (retable u p′)) (fields p′) ∙ cond-ap (retable u) (ltb (count Q) (length (fieldsOf D p′))) (unary h p′) p′
+      ap (λ gs. cond (ltb (countM Q) (length gs)) (unary h (retable u p′)) (retable u p′)) (fields p′) ∙ cond-ap (retable u) (ltb (countM Q) (length (fieldsOf D p′))) (unary h p′) p′
 
   put-in : (fs : List Pair) (topped : Bool) (Q : Mask) (p′ : Plan) → input C fs topped Q (retable u p′) ≡ retable u (input D fs topped Q p′)
   unfolding input
@@ -125,9 +125,9 @@ module _ (u : ℕ → ℕ) (C D : Catalogue) (names : (t : ℕ) → namesOf C (u
   pend-go (some is) fs go go′ g = λ b R. run-same fs (projection-like is fs R) go go′ g
 
   merged-go : (r : Option (List Item)) (go go′ : List Item → Go) (stop stop′ : Go) → ((ks : List Item) → SameGo (go ks) (go′ ks)) → SameGo stop stop′ → SameGo (merged r go stop) (merged r go′ stop′)
-  unfolding merged counted
+  unfolding merged measured
   merged-go none go go′ stop stop′ g h = h
-  merged-go (some ks) go go′ stop stop′ g h = λ b R. ap (counted ks) (g ks b R)
+  merged-go (some ks) go go′ stop stop′ g h = λ b R. ap (measured ks) (g ks b R)
 
   leaf-go : (h : Leaf) → SameGo (leafWalk C (retableLeaf u h)) (leafWalk D h)
   unfolding leafWalk retable

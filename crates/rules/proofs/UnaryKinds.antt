@@ -13,26 +13,27 @@ use Rattle.cpl.specs.Exprs.{leafExprs, aggExprs, winExprs, unaryExprs}
 use Rattle.cpl.specs.Accept.{allPass}
 use Rattle.cpl.specs.Fields.{leafFields, unaryFields, requalify, fieldsOf}
 use Rattle.cpl.specs.Writable.{FitList, FitItem, FitAgg, FitWin, FitLeaf, FitUnary, FitPlan}
+use Rattle.cpl.specs.Accepted.{n[], Resolved, Accepted}
 use Rattle.cpl.proofs.Bools.{halves}
 use Rattle.cpl.proofs.Lists.{All-left, All-right, All-++, Fit-map, Fit-trans, take-fit}
 use Rattle.cpl.proofs.Pairs.{eqP-eq}
 use Rattle.cpl.proofs.Versions.{Sound}
-use Rattle.cpl.proofs.Clash.{n[]}
-use Rattle.cpl.proofs.Accepted.{Resolved, Sees, each-sees, all-see, Accepted}
+use Rattle.cpl.proofs.Accepted.{Sees, each-sees, all-see}
 use Rattle.rules.specs.Mask.{Mask, select, ones, LeM}
 use Rattle.rules.specs.Keys.{placesOf}
 use Rattle.rules.specs.Rules.{used, plus, sameColumns, overChild, ask, projectionJob, aggregateJob, windowJob, unaryJob}
 use Rattle.rules.specs.Rewrite.{Walked, Go, input, runJob}
+use Rattle.rules.specs.Items.{FieldsOk}
 use Rattle.rules.proofs.Masks.{LeM-refl, LeM-trans, LeM-fit, LeM-parts, fit-ones, select-map, select-short, All-select}
 use Rattle.rules.proofs.Asked.{used-fit, plus-fit, plus-cov, plus-keeps, groups-fit, places-fit, groups-keep, aggregate-fields, window-fields}
 use Rattle.rules.proofs.Covers.{used-cov}
 use Rattle.rules.proofs.Known.{resolved-select, bare-fields, clear-select}
-use Rattle.rules.proofs.Inputs.{Fields, Result, Good, Input, topped, as-it-is}
+use Rattle.rules.proofs.Inputs.{Result, Good, Input, topped, as-it-is}
 
 -- ── a node over a rewritten input ───────────────────────────────────────────────────────────
 
 -- the node h′ over an input with the fields fs at K stands for the old node h, whose fields are left at L
-module _ (C : Catalogue) {fs : List Pair} (h h′ : Unary) (own : Fields (C .version) (unaryFields h fs)) {K : Mask} (L : Mask) {p′ : Plan} (i : Input C fs K p′)
+module _ (C : Catalogue) {fs : List Pair} (h h′ : Unary) (own : FieldsOk (C .version) (unaryFields h fs)) {K : Mask} (L : Mask) {p′ : Plan} (i : Input C fs K p′)
     (same : unaryFields h′ (select K fs) ≡ select L (unaryFields h fs)) where
   node-fields : unaryFields h′ (fieldsOf C p′) ≡ select L (unaryFields h fs)
   node-fields = ap (unaryFields h′) (i .fields) ∙ same
@@ -89,7 +90,7 @@ same-columns (named c e ∷ is) (f ∷ fs) t = absurd t
 selected-resolved : (R : Mask) (is : List Item) (fs : List Pair) → Resolved (allPass (map itemExpr is) fs) → Resolved (allPass (map itemExpr (select R is)) fs)
 selected-resolved R is fs t = all-see fs (subst (All (Sees fs)) (select-map itemExpr R is) (All-select R (each-sees (map itemExpr is) fs t)))
 
-module _ (C : Catalogue) (is : List Item) {fs : List Pair} (resolved-items : Resolved (allPass (map itemExpr is) fs)) (own : Fields (C .version) (map itemPair is)) (few : FitList FitItem (C .version .maxItems) is)
+module _ (C : Catalogue) (is : List Item) {fs : List Pair} (resolved-items : Resolved (allPass (map itemExpr is) fs)) (own : FieldsOk (C .version) (map itemPair is)) (few : FitList FitItem (C .version .maxItems) is)
     (go : Go) (g : Good C fs go) (R : Mask) (f : Fit R (map itemPair is)) where
   pub projection-good : Result C (map itemPair is) R (runJob C fs (projectionJob C is fs R) go)
   unfolding projectionJob runJob input overChild unaryFields unaryExprs FitUnary fieldsOf
@@ -122,8 +123,8 @@ module _ (C : Catalogue) (is : List Item) {fs : List Pair} (resolved-items : Res
 -- ── Aggregate ───────────────────────────────────────────────────────────────────────────────
 
 -- G: the groups that are kept, A: the aggregates
-module _ (C : Catalogue) (laws : Sound (C .version)) {fs : List Pair} (below : Fields (C .version) fs) (gs : List Item) (vs : List Agg) (resolved-exprs : Resolved (allPass (unaryExprs (aggregate gs vs)) fs))
-    (own : Fields (C .version) (unaryFields (aggregate gs vs) fs)) (fit : FitUnary (C .version) (aggregate gs vs)) (go : Go) (g : Good C fs go) {R G : Mask} (A : Mask) (f : Fit G gs) (keeps : LeM R (G ++ A)) where
+module _ (C : Catalogue) (laws : Sound (C .version)) {fs : List Pair} (below : FieldsOk (C .version) fs) (gs : List Item) (vs : List Agg) (resolved-exprs : Resolved (allPass (unaryExprs (aggregate gs vs)) fs))
+    (own : FieldsOk (C .version) (unaryFields (aggregate gs vs) fs)) (fit : FitUnary (C .version) (aggregate gs vs)) (go : Go) (g : Good C fs go) {R G : Mask} (A : Mask) (f : Fit G gs) (keeps : LeM R (G ++ A)) where
   kept-resolved : Resolved (allPass (unaryExprs (aggregate (select G gs) (select A vs))) fs)
   unfolding unaryExprs
   kept-resolved =
@@ -160,8 +161,8 @@ module _ (C : Catalogue) (laws : Sound (C .version)) {fs : List Pair} (below : F
 
 -- ── Window ──────────────────────────────────────────────────────────────────────────────────
 
-module _ (C : Catalogue) (laws : Sound (C .version)) {fs : List Pair} (below : Fields (C .version) fs) (ws : List Win) (resolved-exprs : Resolved (allPass (unaryExprs (window ws)) fs))
-    (own : Fields (C .version) (unaryFields (window ws) fs)) (fit : FitUnary (C .version) (window ws)) (go : Go) (g : Good C fs go) (b : Bool) (R : Mask) (f : Fit R (unaryFields (window ws) fs)) where
+module _ (C : Catalogue) (laws : Sound (C .version)) {fs : List Pair} (below : FieldsOk (C .version) fs) (ws : List Win) (resolved-exprs : Resolved (allPass (unaryExprs (window ws)) fs))
+    (own : FieldsOk (C .version) (unaryFields (window ws) fs)) (fit : FitUnary (C .version) (window ws)) (go : Go) (g : Good C fs go) (b : Bool) (R : Mask) (f : Fit R (unaryFields (window ws) fs)) where
   -- the pass-through part, and the windows' part
   abbrev R₀ : Mask
   R₀ = take (length fs) R
@@ -203,8 +204,8 @@ module _ (C : Catalogue) (laws : Sound (C .version)) {fs : List Pair} (below : F
 
 -- ── every kind ──────────────────────────────────────────────────────────────────────────────
 
-module _ (C : Catalogue) (laws : Sound (C .version)) (key : List ℕ) {fs : List Pair} (below : Fields (C .version) fs) (go : Go) (g : Good C fs go) where
-  pub unary-good : (h : Unary) → Resolved (allPass (unaryExprs h) fs) → Fields (C .version) (unaryFields h fs) → FitUnary (C .version) h → (b : Bool) (R : Mask) → Fit R (unaryFields h fs)
+module _ (C : Catalogue) (laws : Sound (C .version)) (key : List ℕ) {fs : List Pair} (below : FieldsOk (C .version) fs) (go : Go) (g : Good C fs go) where
+  pub unary-good : (h : Unary) → Resolved (allPass (unaryExprs h) fs) → FieldsOk (C .version) (unaryFields h fs) → FitUnary (C .version) h → (b : Bool) (R : Mask) → Fit R (unaryFields h fs)
       → Result C (unaryFields h fs) R (runJob C fs (unaryJob C h key fs b R) go)
   unfolding unaryJob runJob input unaryFields unaryExprs allB
   unary-good (projection is) k own fit b R f = projection-good C is k own (unfold FitUnary in fit) go g R f

@@ -7,7 +7,7 @@ use Prim.Native.Nat.{ℕ}
 use lib.Dec.{eqb, ltb, leb}
 use lib.ListN.{length, drop}
 use Rattle.cpl.specs.Tests.{iota}
-use Rattle.cpl.specs.Limits.{maxNodes, maxTags}
+use Rattle.cpl.specs.Limits.{maxNodes, maxTags, maxMask}
 use Rattle.cpl.specs.Codes.{SETTING, REQUEST, LARGE, ROOM}
 use Rattle.cpl.specs.Plan.{Plan, Catalogue, Source}
 use Rattle.cpl.specs.Exprs.{planNodes, planTags}
@@ -16,7 +16,7 @@ use Rattle.cpl.specs.ReadPlan.{readFile}
 use Rattle.cpl.specs.Bytes.{bytesOf}
 use Rattle.cpl.specs.Fields.{fieldsOf}
 use Rattle.cpl.specs.Accept.{Fault, check}
-use Rattle.rules.specs.Check.{Finding, accepted, faulty, found}
+use Rattle.rules.specs.Check.{Finding, accepted, faulty, findingOf}
 use Rattle.rules.specs.Request.{requestFault, maskOf}
 use Rattle.rules.specs.Merge.{Merge, mergeStep}
 use Rattle.rules.specs.Rewrite.{Walked, rewrite}
@@ -28,7 +28,7 @@ pub data Verdict : Type 0 where
 
 -- "SETTING: mode above 1 (0 crate, 1 house) or push mask above 4,095"
 unfoldable pub settingsOk : (mode mask : ℕ) → Bool
-settingsOk mode mask = leb mode 1 && leb mask 4095
+settingsOk mode mask = leb mode 1 && leb mask maxMask
 
 unfoldable pub mergeOf : (mode mask : ℕ) → Merge
 mergeOf mode mask = mergeStep (eqb mode 1) mask
@@ -52,7 +52,7 @@ passedOn M request (faulty code place) = refused code place
 
 -- a plan that was read
 unfoldable pub checked : Merge → Catalogue → Plan → (ℕ → List ℕ) → Option Fault → Verdict
-checked M C p request f = passedOn M request (found C p f)
+checked M C p request f = passedOn M request (findingOf C p f)
 
 unfoldable pub judged : Merge → (ℕ → List ℕ) → Res Source → Verdict
 judged M request (ok s next tags nodes) = checked M (s .catalogue) (s .plan) request (check (s .catalogue) (s .plan) 0)

@@ -16,12 +16,12 @@ pub data Finding : Type 0 where
   faulty : (code place : ℕ) → Finding
 
 -- of a plan that was read, with its first fault
-abbrev pub found : Catalogue → Plan → Option Fault → Finding
-found C p none = accepted C p
-found C p (some (fault code node)) = faulty code node
+abbrev pub findingOf : Catalogue → Plan → Option Fault → Finding
+findingOf C p none = accepted C p
+findingOf C p (some (fault code node)) = faulty code node
 
 unfoldable pub finding : Res Source → Finding
-finding (ok s next tags nodes) = found (s .catalogue) (s .plan) (check (s .catalogue) (s .plan) 0)
+finding (ok s next tags nodes) = findingOf (s .catalogue) (s .plan) (check (s .catalogue) (s .plan) 0)
 finding (bad code place) = faulty code place
 
 -- "answering the node count and root field count or codes 2 to 10"

@@ -1,10 +1,11 @@
 -- Keys, document 02's request 5: which fields of a plan are a key of its rows, and which groups an Aggregate keeps by it. "All this is judged on the old plan."
 -- A key is given by places, among a table's columns or a plan's fields. It is a nonempty list, so that no key is the empty one.
 use mathlib.Core.List.{List, [], _∷_, map}
-use mathlib.Core.Bool.{Bool, false, cond}
+use mathlib.Core.Bool.{Bool, false, cond, not, _&&_}
 use mathlib.Core.Option.{Option, none, some}
 use Prim.Native.Nat.{ℕ, suc}
 use lib.Dec.{eqb}
+use lib.ListN.{take, getD}
 use Rattle.cpl.specs.Tests.{anyB, allB}
 use Rattle.cpl.specs.Plan.{Pair, Expr, col, lit, miss, un, bin, Item, Leaf, scan, empty, Unary, projection, filter, sort, limit, aggregate, window, subqueryAlias, distinct, Plan, leaf, unary, binary, TableKey, Catalogue, namesOf, itemExpr}
 use Rattle.cpl.specs.Exprs.{find}
@@ -41,6 +42,20 @@ firstAt k (p ∷ ps) = cond (isPlace k p) 0 (suc (firstAt k ps))
 -- a key carried on to a list of items: of each column the first item that is it; no key where one lacks
 unfoldable pub carried : (key : List ℕ) → List (Option ℕ) → List ℕ
 carried key ps = cond (hasAll key ps) (map (λ k. firstAt k ps) key) []
+
+-- ── a key as a set of places, and what a loop over items finds of it ────────────────────────
+
+abbrev pub member : ℕ → List ℕ → Bool
+member k ks = anyB (eqb k) ks
+
+-- is this a column of the key that none of those before is?
+abbrev pub freshPlace : (key : List ℕ) (before : List (Option ℕ)) → Option ℕ → Bool
+freshPlace key before none = false
+freshPlace key before (some j) = member j key && not (anyB (isPlace j) before)
+
+-- is the item at place m the first that is some column of the key?
+abbrev pub freshAt : (key : List ℕ) → List (Option ℕ) → (m : ℕ) → Bool
+freshAt key ps m = freshPlace key (take m ps) (getD ps m none)
 
 -- ── the key of a plan ───────────────────────────────────────────────────────────────────────
 

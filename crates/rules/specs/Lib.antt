@@ -6,7 +6,8 @@ pub mod Merge
 pub mod Rules
 pub mod Check
 pub mod Rewrite
-pub mod Kept
+pub mod Items
+pub mod FieldsKept
 pub mod Answer
 pub mod Success
 pub mod Scans

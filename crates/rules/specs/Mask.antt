@@ -29,10 +29,10 @@ unfoldable pub zeros : {A : Type 0} → List A → Mask
 zeros xs = map (λ x. false) xs
 
 -- how many
-unfoldable pub count : Mask → ℕ
-count [] = 0
-count (true ∷ ks) = suc (count ks)
-count (false ∷ ks) = count ks
+unfoldable pub countM : Mask → ℕ
+countM [] = 0
+countM (true ∷ ks) = suc (countM ks)
+countM (false ∷ ks) = countM ks
 
 -- b implies k
 abbrev pub LeB : Bool → Bool → Type 0

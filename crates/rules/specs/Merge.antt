@@ -10,7 +10,7 @@ use native.Mathlib.Decide.{ℕ-discrete}
 use Prim.Native.Nat.{ℕ, zero, suc, _+_, _/_, _%_, _^_}
 use Rattle.cpl.specs.Tests.{anyB, allB, concatMap, sumOf}
 use Rattle.cpl.specs.Codes.{tagOf}
-use Rattle.cpl.specs.Plan.{Pair, pair, eqP, Expr, col, lit, miss, un, bin, Item, bare, named, itemPair, itemExpr, Item-discrete, Expr-discrete, Pair-discrete, Op1-discrete, Op2-discrete}
+use Rattle.cpl.specs.Plan.{Pair, pair, eqP, Expr, col, lit, miss, un, bin, Item, bare, named, itemPair, itemExpr, Item-discrete, Expr-discrete, Pair-discrete, Op1-discrete, Op2-discrete, nameless}
 use Rattle.cpl.specs.Exprs.{fits, references, columns?}
 
 -- what a step makes of the upper and the lower list; none: stop
@@ -104,6 +104,11 @@ replaceItem is (named (pair (suc q) n) e) = named (pair (suc q) n) (define is e)
 -- some pair is written more than once, and the definition that it finds does not push to leaves
 unfoldable pub held : (mask : ℕ) (upper lower : List Item) → Bool
 held m js is = anyB (λ c. ltb 1 (occursIn c js) && not (pushes m (defOf c is))) (concatMap (λ j. references (itemExpr j)) js)
+
+-- the same, item by item of the lower list: an item whose definition does not push to leaves stops the merge where its pair is written more than once, or
+-- its name alone is
+abbrev pub stops : (mask : ℕ) (upper : List Item) → Item → Bool
+stops m js i = (ltb 1 (occursIn (itemPair i) js) || ltb 1 (occursIn (nameless (itemPair i)) js)) && not (pushes m (itemExpr i))
 
 -- ── the step ────────────────────────────────────────────────────────────────────────────────
 

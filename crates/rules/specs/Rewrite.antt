@@ -44,13 +44,13 @@ pend C (some is) fs go = λ b R. runJob C fs (projectionJob C is fs R) go
 unfoldable pub tooLong : List Item → Bool
 tooLong is = ltb maxTags (sumOf itemTags is)
 
-unfoldable pub counted : List Item → Walked → Walked
-counted ks w = record { plan = w .plan; kept = w .kept; overlong = tooLong ks || w .overlong }
+unfoldable pub measured : List Item → Walked → Walked
+measured ks w = record { plan = w .plan; kept = w .kept; overlong = tooLong ks || w .overlong }
 
 -- the merged list goes on down, or the upper list stops over the lower one
 unfoldable pub merged : Option (List Item) → (List Item → Go) → Go → Go
 merged none on-down stop = stop
-merged (some ks) on-down stop = λ b R. counted ks (on-down ks b R)
+merged (some ks) on-down stop = λ b R. measured ks (on-down ks b R)
 
 -- ── one node ────────────────────────────────────────────────────────────────────────────────
 

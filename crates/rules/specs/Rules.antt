@@ -10,7 +10,7 @@ use Rattle.cpl.specs.Plan.{Pair, eqP, Expr, Item, bare, named, Agg, Win, JoinTy
 use Rattle.cpl.specs.Tests.{concatMap}
 use Rattle.cpl.specs.Exprs.{places, unaryExprs, condExprs}
 use Rattle.cpl.specs.Fields.{columnsOf, fieldsOf, joinFields}
-use Rattle.rules.specs.Mask.{Mask, select, orM, ones, zeros, count}
+use Rattle.rules.specs.Mask.{Mask, select, orM, ones, zeros, countM}
 use Rattle.rules.specs.Keys.{placesOf, keptGroups}
 use Rattle.rules.specs.Request.{maskOf}
 
@@ -18,7 +18,7 @@ use Rattle.rules.specs.Request.{maskOf}
 
 -- "Top-up: a child with more fields than were requested of it gets a Projection of the requested columns."
 unfoldable pub topUp : Catalogue → (fields : List Pair) → Mask → Plan → Plan
-topUp C fs R p′ = cond (ltb (count R) (length (fieldsOf C p′))) (unary (projection (map bare (select R fs))) p′) p′
+topUp C fs R p′ = cond (ltb (countM R) (length (fieldsOf C p′))) (unary (projection (map bare (select R fs))) p′) p′
 
 -- the fields that the references of the expressions find, each the first that fits; and a request with them
 unfoldable pub used : List Expr → List Pair → Mask

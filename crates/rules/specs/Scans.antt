@@ -139,7 +139,7 @@ Part {A} xs ys = Into {A = A} {B = A} (λ x y. x ≡ y) xs ys
 pub data Narrower (C : Catalogue) : Leaf → Leaf → Type 0 where
   narrower : {t q : ℕ} {is js : Option (List ℕ)} {es : List Expr} → Part (columnsOf (namesOf C t) is) (columnsOf (namesOf C t) js) → Narrower C (scan t q is es) (scan t q js es)
 
-pub record Within (C : Catalogue) (x y : Numbered) : Type 0 where
+pub record NarrowerAt (C : Catalogue) (x y : Numbered) : Type 0 where
   pub same-node : x .number ≡ y .number
   pub scan-within : Narrower C (x .head) (y .head)
 
@@ -153,5 +153,5 @@ infixr 30 _r∷_
 -- part; and no number comes twice
 pub record Followed (C : Catalogue) (old new : Plan) (xs : List Numbered) : Type 0 where
   pub new-scans : map (λ x. x .head) xs ≡ scans new
-  pub old-scans : Into (Within C) xs (scansOf old 0)
+  pub old-scans : Into (NarrowerAt C) xs (scansOf old 0)
   pub numbers-rise : Rising (planNodes old) 0 xs

@@ -14,7 +14,7 @@ use Rattle.cpl.specs.Accept.{check}
 use Rattle.rules.specs.Mask.{Mask}
 use Rattle.rules.specs.Request.{requestFault, maskOf}
 use Rattle.rules.specs.Rewrite.{Walked, rewrite}
-use Rattle.rules.specs.Kept.{Kept}
+use Rattle.rules.specs.FieldsKept.{FieldsKept}
 use Rattle.rules.specs.Answer.{Answer, mergeOf}
 
 -- the file reads as the source, to its last byte
@@ -40,4 +40,4 @@ pub record Success (mode mask : ℕ) (file : List ℕ) (request : ℕ → List �
   pub by-the-rules : walked ≡ rewrite (mergeOf mode mask) catalogue old R
   pub reads-back : ReadsAs (wrote a) (sourceOf catalogue (walked .plan))
   pub accepted-back : check catalogue (walked .plan) 0 ≡ none
-  pub kept : Kept catalogue (fieldsOf catalogue old) R walked
+  pub kept : FieldsKept catalogue (fieldsOf catalogue old) R walked

@@ -7,7 +7,7 @@ use Prim.Native.Nat.{ℕ}
 use lib.Dec.{T, eqb}
 use lib.ListN.{length}
 use Rattle.cpl.specs.Tests.{concatMap, anyB, allB}
-use Rattle.cpl.specs.Plan.{Pair, namesOf}
+use Rattle.cpl.specs.Plan.{Pair, namesOf, scan, empty, Plan, leaf, unary, binary}
 use Rattle.cpl.specs.Fields.{columnsOf, tableFields}
 use Rattle.cpl.specs.Accept.{check}
 use Rattle.rules.specs.Mask.{select}
@@ -17,9 +17,10 @@ use Rattle.meaning.specs.Value.{Row, Log}
 use Rattle.meaning.specs.Lists.{filterB}
 use Rattle.meaning.specs.Operators.{unaryRows}
 use Rattle.meaning.specs.Meaning.{tableRows, rowAt, passes, scanRows, leafRows, meaning}
-use Rattle.meaning.specs.Reads.{filterColumns, leafReads, reads, Agree}
+use Rattle.meaning.specs.Reads.{filterColumns, leafReads, reads}
 use Rattle.meaning.specs.Narrowing.{Narrowing}
-use Rattle.meaning.proofs.Demand3.{housePass, demand3-plain, demand3-plain-logs}
+use Rattle.meaning.proofs.Demand3.{housePass, demand3-plain}
+use Rattle.meaning.proofs.Logs.{ScansIn, reads-in}
 use Rattle.version1.specs.Language.{Leaf as Leaf1, scan as scan1, empty as empty1, Plan as Plan1, leaf as leaf1, unary as unary1, binary as binary1, Catalogue as Catalogue1, fieldsOf as fieldsOf1, check as check1}
 use Rattle.version1.specs.Rewriting.{Walked as Walked1, rewrite as rewrite1}
 use Rattle.version1.specs.Rows.{leafRows as leafRows1, meaning as meaning1, leafReads as leafReads1, reads as reads1, Agree as Agree1, Narrowing as Narrowing1}
@@ -60,6 +61,14 @@ module _ (C : Catalogue1) where
   reads-same (unary1 h p) t i = reads-same p t i
   reads-same (binary1 h p₁ p₂) t i = ap₂ _||_ (reads-same p₁ t i) (reads-same p₂ t i)
 
+-- no table is asked about
+every-scan : (p : Plan) → ScansIn (λ t. Unit {0}) p
+unfolding ScansIn
+every-scan (leaf (scan t q is es)) = tt
+every-scan (leaf (empty b cs)) = tt
+every-scan (unary h p) = every-scan p
+every-scan (binary h p₁ p₂) = (every-scan p₁, every-scan p₂)
+
 -- ── demand 3 ────────────────────────────────────────────────────────────────────────────────
 
 abbrev pub housePass1 : (mask : ℕ) → Catalogue1 → Plan1 → (request : List ℕ) → Walked1
@@ -86,8 +95,10 @@ module _ (mask : ℕ) (C : Catalogue1) (p : Plan1) (ok : check1 C p 0 ≡ none) 
         rows = λ D. sym (rows-same C D (w .plan)) ∙ (narrows .rows D ∙ ap (map (select (w .kept))) (rows-same C D p));
       }
 
+  logs-same : (D E : Log) → Agree1 C (w .plan) D E → meaning (upCatalogue C) D (up (w .plan)) ≡ meaning (upCatalogue C) E (up (w .plan))
+  logs-same D E a = reads-in (upCatalogue C) D E {In = λ t. Unit {0}} (λ t u. a .counts t) (up (w .plan)) (every-scan (up (w .plan))) (λ t i k. a .columns t i (subst T (reads-same C (w .plan) t i) k))
+
   pub demand3-logs-before : (D E : Log) → Agree1 C (w .plan) D E → map (select (w .kept)) (meaning1 C D p) ≡ map (select (w .kept)) (meaning1 C E p)
   demand3-logs-before D E a =
-      let agree : Agree (upCatalogue C) (up (w .plan)) D E = record { counts = a .counts; columns = λ t i k. a .columns t i (subst T (reads-same C (w .plan) t i) k) } in
-      let logs = rw (pass-same) at (demand3-plain-logs mask (upCatalogue C) (up p) accepted is refl D E (rw (pass-same) agree)) in
+      let logs = sym (narrows .rows D) ∙ (logs-same D E a ∙ narrows .rows E) in
       ap (map (select (w .kept))) (sym (rows-same C D p)) ∙ (logs ∙ ap (map (select (w .kept))) (rows-same C E p))

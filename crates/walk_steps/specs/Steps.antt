@@ -5,7 +5,7 @@ use mathlib.Core.List.{List, map}
 use Prim.Native.Nat.{ℕ, _+_, _*_, _/_, _<_, _≤_}
 use lib.ListN.{length}
 use Rattle.cpl.specs.Exprs.{itemTags}
-use Rattle.cpl.specs.Limits.{maxNodes, maxTags}
+use Rattle.cpl.specs.Limits.{maxNodes, maxTags, maxWide}
 use Rattle.cpl.specs.Plan.{Item, Pair, itemExpr}
 use Rattle.cpl.specs.Tests.{allB, sumOf}
 use Rattle.rules.specs.Rules.{used}
@@ -52,11 +52,11 @@ keptPending l r rows cells arows acells = keptItems (side (l .scratch) arows row
 pub record ListOk (l : Pending) (rows cells arows acells : List ℕ) : Type 0 where
   pub rows-ok : RowsOk (side (l .scratch) arows rows) (side (l .scratch) acells cells) (l .first) (l .n)
   pub tags : sumOf itemTags (pendingItems l rows cells arows acells) ≤ maxTags
-  pub few : l .n ≤ 512
+  pub few : l .n ≤ maxWide
 
 -- room for a list of 512 items, the most of every version, and for 4,096 nodes; a row names a node in 16 bits
 pub record Scratch (rows cells : List ℕ) : Type 0 where
-  pub rows-long : 512 * 4 ≤ length rows
+  pub rows-long : maxWide * 4 ≤ length rows
   pub cells-long : maxTags * 3 ≤ length cells
   pub cells-short : length cells ≤ 196608
 

@@ -6,6 +6,6 @@ use Rattle.cpl.specs.Fields.{fieldsOf}
 use Rattle.rules.specs.Mask.{Mask, select, LeM}
 use Rattle.rules.specs.Rewrite.{Walked}
 
-pub record Kept (C : Catalogue) (fields-before : List Pair) (R : Mask) (w : Walked) : Type 0 where
+pub record FieldsKept (C : Catalogue) (fields-before : List Pair) (R : Mask) (w : Walked) : Type 0 where
   pub keeps : LeM R (w .kept)
   pub fields : fieldsOf C (w .plan) ≡ select (w .kept) fields-before
