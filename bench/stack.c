@@ -109,11 +109,15 @@ static void *check(void *_) {
     simmerroof_check(file, length, answer);
     return _;
 }
+static void *list(void *_) {
+    simmerroof_list_plan(file, length, out, OUT, answer);
+    return _;
+}
 /* the thread's own need */
 static void *nothing(void *_) { return _; }
 
 static const struct { const char *name; void *(*call)(void *); } forms[] = {
-    {"plain form", plain}, {"lent form", lent}, {"check", check},
+    {"plain form", plain}, {"lent form", lent}, {"check", check}, {"list", list},
 };
 
 static void measure(uint8_t *stack, void *(*call)(void *), size_t *depth, size_t *touched) {

@@ -107,6 +107,12 @@ void simmerroof_prune_all(uint8_t mode, uint16_t mask, const uint8_t *file, size
  * number of its root's fields, both 0 on a refusal. The working arrays are on the stack: 4 MiB are enough for both versions. */
 void simmerroof_check(const uint8_t *file, size_t file_len, uint64_t answer[4]);
 
+/* The plan of a file as an indented text, one node a line, two spaces a level, each line ended by a newline (docs/FORMAT.md,
+ * "A plan as text"); no zero byte is added. The codes are those of simmerroof_check, then 13 with the length needed; the
+ * text of a plan can be many times as long as its file. No two plans have one text. The working arrays are on the stack, as
+ * those of simmerroof_check. */
+void simmerroof_list_plan(const uint8_t *file, size_t file_len, uint8_t *out, size_t out_len, uint64_t answer[3]);
+
 /* ---- Keys out of a predicate ----------------------------------------------------------------------------------------
  * A predicate is one expression in the file's form (docs/FORMAT.md) and nothing after it. The codes are 3 to 6 at offsets
  * within the argument at fault, the predicate before the keys; then 18; then 13.

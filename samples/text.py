@@ -1,6 +1,7 @@
-"""Plans as people read them: one node a line, two spaces a level. See plans.txt for the forms.
+"""Plans as people read them: the listing that the library writes (docs/FORMAT.md), with words for numbers.
 
-A Names holds what qualifiers and names are called; a number that has no word is written q7 or c7."""
+A Names holds what qualifiers and names are called; a number that has no word is written q7 or c7, and a column of a scan as its
+index. With no words at all the text is what the library writes, letter by letter."""
 import re
 
 from cpl import NO_FETCH, OPERATORS, Catalogue, children
@@ -33,6 +34,11 @@ class Names:
     def name(self, n):
         return next((w for w, m in self.names.items() if m == n), f"c{n}")
 
+    def column(self, table, i):
+        """What column i of a table is called in a scan."""
+        words = [w for w, n in self.names.items() if n == self.tables[table][i]] if self.names else []
+        return words[0] if words else str(i)
+
     def number(self, words, word, letter):
         if word in words:
             return words[word]
@@ -58,7 +64,7 @@ def show_expr(e, names):
     if e[0] == "missing":
         return "missing"
     if e[0] in ("not", "is-missing"):
-        return f"{e[0]} {show_expr(e[1], names)}"
+        return f"({e[0]} {show_expr(e[1], names)})"
     return f"({show_expr(e[1], names)} {SIGNS[OPERATORS.index(e[0])]} {show_expr(e[2], names)})"
 
 
@@ -102,7 +108,7 @@ def show_head(p, names):
         on = show_list([f"{show_expr(l, names)} = {show_expr(r, names)}" for l, r in p[2]])
         return f"join {JOINS[p[1]]} on {on}" + ("" if p[3] is None else f" if {show_expr(p[3], names)}")
     if kind == "scan":
-        columns = "" if p[3] is None else " " + show_list([names.name(names.tables[p[1]][i]) for i in p[3]])
+        columns = "" if p[3] is None else " " + show_list([names.column(p[1], i) for i in p[3]])
         return f"scan {p[1]} as {names.qualifier(p[2])}{columns}" + (f" where {show_exprs(p[4], names)}" if p[4] else "")
     if kind == "empty":
         return f"empty {'one-row ' if p[1] else ''}{show_list([show_pair(q, names) for q in p[2]])}"
@@ -164,6 +170,10 @@ class Line:
     def expr(self):
         word = self.peek()
         if self.skip("("):
+            if self.peek() in ("not", "is-missing"):
+                e = (self.next(), self.expr())
+                self.need(")")
+                return e
             left = self.expr()
             sign = self.next()
             right = self.expr()
@@ -171,9 +181,6 @@ class Line:
             return (OPERATORS[SIGNS.index(sign)], left, right)
         if self.skip("missing"):
             return ("missing",)
-        if word in ("not", "is-missing"):
-            self.next()
-            return (word, self.expr())
         if re.fullmatch(r"-?\d+", word):
             return ("literal", int(self.next()))
         return ("column", self.pair())
@@ -214,6 +221,8 @@ class Line:
         return (left, self.expr())
 
     def column(self, table):
+        if self.peek().isdigit():
+            return int(self.next())
         return self.names.tables[table].index(self.name())
 
     def head(self):

@@ -51,7 +51,7 @@ def replayed(path, program):
                 codes[code] = codes.get(code, 0) + int(words[2])
             elif words[0] == 'line':
                 at = first + int(words[1]) - 1
-                wanted = ' '.join(lines[at - 1].partition(' => ')[2].split(' ')[:-1])
+                wanted = ' '.join(lines[at - 1].partition(' => ')[2].split(' ')[:3])
                 print(f'{path.name} line {at}', *words[2:], f'(wanted {wanted})')
             else:
                 sys.exit(f'{program}: {said}')
@@ -96,6 +96,7 @@ FILES = [
     ('check-v2.txt', 'replay', replayed),
     ('join_keys.txt', 'key_vectors', replayed),
     ('without_keys.txt', 'key_vectors', replayed),
+    ('list_plan.txt', 'list_vectors', replayed),
 ]
 
 

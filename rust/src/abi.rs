@@ -150,6 +150,17 @@ pub fn check(file: &[u8]) -> [u64; 4] {
 }
 
 unsafe extern "C" {
+    fn simmerroof_list_plan(file: *const u8, file_len: usize, out: *mut u8, out_len: usize, answer: *mut Answer);
+}
+
+pub fn list_plan(file: &[u8], out: &mut [u8]) -> Answer {
+    let mut answer = [0; 3];
+    // SAFETY: as in `prune`
+    unsafe { simmerroof_list_plan(file.as_ptr(), file.len(), out.as_mut_ptr(), out.len(), &mut answer) }
+    answer
+}
+
+unsafe extern "C" {
     fn simmerroof_join_keys(
         predicate: *const u8,
         predicate_len: usize,

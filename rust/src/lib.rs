@@ -80,6 +80,34 @@ pub fn prune_all(mode: Mode, mask: u16, file: &[u8], out: &mut [u8]) -> Result<u
     result(abi::prune(mode as u8, mask, file, None, out))
 }
 
+/// The plan of a file as text that people can read: one node a line, two spaces a level, each line ended by a newline
+/// (docs/FORMAT.md). No two plans have one text. A refusal is that of [`check`], and the working arrays are on the stack as there.
+///
+/// ```
+/// // Projection[a] over a scan of (a, b, c)
+/// let file = b"CPL\x01\0\x01\x03\x01\0\x02\0\x03\0\x01\x01\0\x01\0\x01\0\x0b\0\x01\0\0";
+/// assert_eq!(simmerroof::list(file)?, "projection [q1.c1]\n  scan 0 as q1\n");
+/// # Ok::<(), simmerroof::Refusal>(())
+/// ```
+pub fn list(file: &[u8]) -> Result<String, Refusal> {
+    let mut out = vec![0; 8 * file.len() + 256];
+    loop {
+        match list_into(file, &mut out) {
+            Err(Refusal { kind: Kind::Room, place }) => out.resize(place, 0),
+            Err(refusal) => return Err(refusal),
+            Ok(length) => {
+                out.truncate(length);
+                return Ok(String::from_utf8(out).expect("a listing has small letters, digits and signs alone"));
+            }
+        }
+    }
+}
+
+/// As [`list`], written to the front of `out`; returns the length, or [`Kind::Room`] with the length needed.
+pub fn list_into(file: &[u8], out: &mut [u8]) -> Result<usize, Refusal> {
+    result(abi::list_plan(file, out))
+}
+
 /// The join keys of a predicate: the pairs of expressions that are both present and equal on every row where it is yes, as one
 /// byte n (at most 64) and n times two expressions. A predicate is one expression in the file's form and nothing after it.
 /// Writes to the front of `out` and returns the length; an output as long as the predicate always has room.

@@ -1,4 +1,4 @@
--- An answer over plan files or over predicates, and the output that it leaves: code, length, place and bytes are what a call writes. Assumes nothing.
+-- An answer over plan files, as plans or as text, or over predicates, and the output that it leaves: code, length, place and bytes are what a call writes. Assumes nothing.
 use mathlib.Core.Path.{_≡_, ap, ap₂, _∙_}
 use mathlib.Core.Bool.{Bool, true, false}
 use mathlib.Core.List.{List, [], _∷_, _++_}
@@ -14,6 +14,8 @@ use Rattle.rules.specs.Answer as rules
 use Rattle.rules.specs.Answer.{Verdict, deliver, narrowed, refusal, refused, reply, success, verdict, written}
 use Rattle.join_keys.specs.Entries as keys
 use Rattle.join_keys.specs.Entries.{answered}
+use Rattle.plan_text.specs.Answers as texts
+use Rattle.plan_text.specs.Answers.{delivered, listAnswer, listOf}
 use Rattle.answers.specs.Answers.{AnswerIs}
 use Rattle.answers.specs.declared.Answer.{Answer}
 use Rattle.listing.specs.Lines.{Counts}
@@ -51,6 +53,16 @@ pub answered-inside : (o : keys.Outcome) (out : List ℕ) → Inside (answered o
 unfolding answered
 answered-inside (keys.refused code place) out = refusal-inside code place out
 answered-inside (keys.result bytes) out = written-inside bytes out
+
+-- over plan files as text
+delivered-inside : (o : texts.Outcome) (out : List ℕ) → Inside (delivered o out)
+unfolding delivered
+delivered-inside (texts.refuses code place) out = refusal-inside code place out
+delivered-inside (texts.yields bytes) out = written-inside bytes out
+
+pub list-inside : (file out : List ℕ) → Inside (listAnswer file out)
+unfolding listAnswer
+list-inside file out = delivered-inside (listOf file) out
 
 abbrev answerText : (code size place : ℕ) (out : List ℕ) → List ℕ
 answerText code size place out = numbersText (code ∷ size ∷ place ∷ []) ++ take size out

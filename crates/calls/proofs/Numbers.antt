@@ -9,7 +9,8 @@ use lib.Seq.{take-all, take-suc}
 use Rattle.cpl.specs.Tests.{concatMap}
 use Rattle.writer_parts.specs.Wrote.{Wrote}
 use Rattle.writer_parts.proofs.Over.{part, so, start, then}
-use Rattle.listing.specs.Text.{decimal, newline, space}
+use Rattle.plan_text.specs.Decimal.{decimal}
+use Rattle.listing.specs.Text.{newline, space}
 use Rattle.listing.specs.Lines.{Puts}
 use Rattle.calls.specs.Calls.{joined, numbersText, spaced}
 

@@ -4,6 +4,7 @@ use mathlib.Core.List.{List, [], _∷_, _++_}
 use Prim.Native.Nat.{ℕ}
 use Rattle.join_keys.specs.Computes.{keys-compute}
 use Rattle.listing.specs.Computes.{listing-computes}
+use Rattle.plan_text.specs.Computes.{answers-compute}
 use Rattle.calls.specs.Calls.{callText, numbersText}
 use Rattle.calls.specs.Computes.{calls-compute}
 
@@ -36,6 +37,17 @@ listing = refl
 unlisted : callText (5 ∷ []) ≡ 50 ∷ 32 ∷ 48 ∷ 32 ∷ 48 ∷ 10 ∷ []
 unfolding listing-computes keys-compute calls-compute
 unlisted = refl
+
+-- its plan as text: 0 34 0, projection [q1.c1], scan 0 as q1
+told : callText ((6 ∷ 25 ∷ 0 ∷ 0 ∷ 0 ∷ s1) ++ (34 ∷ []))
+    ≡ 48 ∷ 32 ∷ 51 ∷ 52 ∷ 32 ∷ 48 ∷ 10 ∷ 112 ∷ 114 ∷ 111 ∷ 106 ∷ 101 ∷ 99 ∷ 116 ∷ 105 ∷ 111 ∷ 110 ∷ 32 ∷ 91 ∷ 113 ∷ 49 ∷ 46 ∷ 99 ∷ 49 ∷ 93 ∷ 10 ∷ 32 ∷ 32 ∷ 115 ∷ 99 ∷ 97 ∷ 110 ∷ 32 ∷ 48 ∷ 32 ∷ 97 ∷ 115 ∷ 32 ∷ 113 ∷ 49 ∷ 10 ∷ []
+unfolding listing-computes keys-compute calls-compute answers-compute s1
+told = refl
+
+-- in an output of 33 bytes: 13 0 34
+untold : callText ((6 ∷ 25 ∷ 0 ∷ 0 ∷ 0 ∷ s1) ++ (33 ∷ [])) ≡ 49 ∷ 51 ∷ 32 ∷ 48 ∷ 32 ∷ 51 ∷ 52 ∷ 10 ∷ []
+unfolding listing-computes keys-compute calls-compute answers-compute s1
+untold = refl
 
 -- all fields of S1: 0 20 0, and the 20 bytes of the narrowed plan
 narrowed : callText ((1 ∷ 0 ∷ 0 ∷ 0 ∷ 25 ∷ 0 ∷ 0 ∷ 0 ∷ s1) ++ (32 ∷ []))

@@ -11,6 +11,7 @@ use Rattle.rules.specs.Answer as rules
 use Rattle.rules.specs.Answer.{answer, answerAll}
 use Rattle.rules.specs.Check.{checkFile, finding}
 use Rattle.join_keys.specs.Entries.{joinKeys, joinKeysAnswer, withoutKeys, withoutKeysAnswer}
+use Rattle.plan_text.specs.Answers.{listAnswer}
 use Rattle.acceptance.specs.Readings.{CheckedIs}
 use Rattle.acceptance.specs.declared.Checked.{Checked}
 use Rattle.answers.specs.Answers.{AnswerIs}
@@ -18,9 +19,9 @@ use Rattle.answers.specs.declared.Answer.{Answer}
 use Rattle.writer_parts.specs.Wrote.{Wrote}
 use Rattle.writer_parts.proofs.Over.{so, start, then}
 use Rattle.listing.specs.Lines.{Puts}
-use Rattle.calls.specs.Calls.{behindFile, behindRequest, callText, checkText, checkedText, entries, entryText, fileIn, joinKeysText, listCallText, listed}
+use Rattle.calls.specs.Calls.{behindFile, behindRequest, callText, checkText, checkedText, entries, entryText, fileIn, joinKeysText, listCallText, listPlanText, listed}
 use Rattle.calls.specs.Calls.{mostAsked, noText, numbersText, outIn, pruneAllText, pruneText, requestIn, said, textOf, withoutKeysText}
-use Rattle.calls.proofs.Answers.{answer-text, answered-inside, reply-inside}
+use Rattle.calls.proofs.Answers.{answer-text, answered-inside, list-inside, reply-inside}
 use Rattle.calls.proofs.Requests.{first-asked}
 
 -- the line, and then the bytes
@@ -67,6 +68,13 @@ module _ (input : List ℕ) {predicate out out′ : List ℕ} (rest : List ℕ) 
       answer-text h (answered-inside (withoutKeys predicate keys) out) rest
       ∙ ap₂ (λ (xs : List ℕ) (ys : List ℕ). said (withoutKeysAnswer predicate xs ys)) k o
       ∙ ap₂ (λ (xs : List ℕ) (i : ℕ). said (withoutKeysAnswer xs (fileIn input i) (outIn input (behindFile input i)))) e d
+
+-- the plan of the file that the input has, as text
+module _ (input : List ℕ) {file out out′ : List ℕ} (rest : List ℕ) {r : Answer} (e : file ≡ fileIn input 1) where
+  pub list-plan-text : out ≡ outIn input (behindFile input 1) → AnswerIs (listAnswer file out) r out′
+      → textOf (r .code) (r .place) (take (r .length) (out′ ++ rest)) ≡ listPlanText input
+  unfolding listPlanText
+  list-plan-text o h = answer-text h (list-inside file out) rest ∙ ap₂ (λ (xs : List ℕ) (ys : List ℕ). said (listAnswer xs ys)) e o
 
 -- what is said of the file that the input has, and its listing
 module _ (input : List ℕ) {file : List ℕ} (e : file ≡ fileIn input 1) where
@@ -118,10 +126,14 @@ module _ (input : List ℕ) {n : ℕ} (e : n ≡ getD input 0 0) where
   unfolding entries entryText
   list-named d = entry-is d
 
-  pub none-named : (n ≡ 0 → ⊥) → (n ≡ 1 → ⊥) → (n ≡ 2 → ⊥) → (n ≡ 3 → ⊥) → (n ≡ 4 → ⊥) → (n ≡ 5 → ⊥) → [] ≡ callText input
+  pub list-plan-named : n ≡ 6 → listPlanText input ≡ callText input
+  unfolding entries entryText
+  list-plan-named d = entry-is d
+
+  pub none-named : (n ≡ 0 → ⊥) → (n ≡ 1 → ⊥) → (n ≡ 2 → ⊥) → (n ≡ 3 → ⊥) → (n ≡ 4 → ⊥) → (n ≡ 5 → ⊥) → (n ≡ 6 → ⊥) → [] ≡ callText input
   unfolding entries entryText noText
-  none-named a b c d f g =
-      let l : length entries ≤ n = past 5 n (past 4 n (past 3 n (past 2 n (past 1 n (some n a) b) c) d) f) g in
+  none-named a b c d f g h =
+      let l : length entries ≤ n = past 6 n (past 5 n (past 4 n (past 3 n (past 2 n (past 1 n (some n a) b) c) d) f) g) h in
       sym (ap (λ (text : List ℕ → List ℕ). text input) (List·getD-eq-default entries noText l)) ∙ entry-is refl
 
 -- the same bytes by another name

@@ -10,7 +10,9 @@ use Rattle.rules.specs.Answer.{Answer, answer, answerAll, refusal, success}
 use Rattle.rules.specs.Check.{Checked, Finding, accepted, checkFile, faulty, finding}
 use Rattle.rules.specs.Success.{wrote}
 use Rattle.join_keys.specs.Entries.{joinKeysAnswer, withoutKeysAnswer}
-use Rattle.listing.specs.Text.{decimal, mostRead, newline, planText, space}
+use Rattle.plan_text.specs.Answers.{listAnswer}
+use Rattle.plan_text.specs.Decimal.{decimal}
+use Rattle.listing.specs.Text.{mostRead, newline, planText, space}
 
 -- ── arguments ───────────────────────────────────────────────────────────────────────────────
 
@@ -103,13 +105,17 @@ listed (faulty code place) = refusal code place []
 unfoldable pub listCallText : (input : List ℕ) → List ℕ
 listCallText input = said (listed (finding (readFile (fileIn input 1))))
 
+-- file, length of the output
+unfoldable pub listPlanText : (input : List ℕ) → List ℕ
+listPlanText input = said (listAnswer (fileIn input 1) (outIn input (behindFile input 1)))
+
 -- no entry
 unfoldable pub noText : (input : List ℕ) → List ℕ
 noText input = []
 
 -- the entries, each at its number
 unfoldable pub entries : List (List ℕ → List ℕ)
-entries = pruneText ∷ pruneAllText ∷ checkText ∷ joinKeysText ∷ withoutKeysText ∷ listCallText ∷ []
+entries = pruneText ∷ pruneAllText ∷ checkText ∷ joinKeysText ∷ withoutKeysText ∷ listCallText ∷ listPlanText ∷ []
 
 -- the entry of a number
 unfoldable pub entryText : (number : ℕ) (input : List ℕ) → List ℕ

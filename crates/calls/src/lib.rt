@@ -1,8 +1,8 @@
 //! calls: an entry of the library for a caller that has only bytes. The input names the entry and has its arguments; the text has its answer.
 //!
-//! Input: the entry's number in a byte (0 `prune`, 1 `prune_all`, 2 `check`, 3 `join_keys`, 4 `without_keys`, 5 `list`), then its arguments in the
+//! Input: the entry's number in a byte (0 `prune`, 1 `prune_all`, 2 `check`, 3 `join_keys`, 4 `without_keys`, 5 `list`, 6 `list_plan`), then its arguments in the
 //! order of its signature, numbers little-endian: mode (1 byte), mask (2), the file, the predicate or the keys (the length in 4 bytes, the bytes),
-//! the request (its length in 4, each index in 2), the length of the output (4). `list` takes a file and is answered by its listing. Where the input
+//! the request (its length in 4, each index in 2), the length of the output (4). `list` takes a file and is answered by its nodes, `list_plan` by its plan as text. Where the input
 //! is cut off, numbers are 0, files and requests shorter. Of a file the first 65,536 bytes are looked at, and an output is at most as long. Text: a
 //! line with the numbers of the answer (code, length, place) and, behind it, `length` bytes; of `check` the line `code place nodes fields` alone.
 //! Another number is no entry: the text is empty.
@@ -16,7 +16,7 @@ ghost use Rattle.cpl.specs.ReadPlan.{readFile};
 ghost use Rattle.rules.specs.Check.{finding};
 ghost use Rattle.writer_parts.specs.Wrote.{Wrote};
 ghost use Rattle.listing.specs.Lines.{Counts};
-ghost use Rattle.calls.specs.Calls.{callText, checkText, countIn, fileIn, joinKeysText, listCallText, listed, mostAsked, mostLent, numbersText, pruneAllText, pruneText, requestIn, said, spaced, textOf, withoutKeysText};
+ghost use Rattle.calls.specs.Calls.{callText, checkText, countIn, fileIn, joinKeysText, listCallText, listPlanText, listed, mostAsked, mostLent, numbersText, pruneAllText, pruneText, requestIn, said, spaced, textOf, withoutKeysText};
 
 // The bytes of the input from an offset up to another.
 struct Span {
@@ -266,6 +266,21 @@ fn list(input: &[u8], text: &mut [u8; 65600]) -> usize
     list_file(&input[from..to], &mut lines, text)
 }
 
+// 6: file, length of the output.
+fn list_plan(input: &[u8], text: &mut [u8; 65600]) -> usize
+    ensures { λ r. ⌜ Wrote (listPlanText (now (input .entry))) (now (text .entry)) r (now (text .exit)) ⌝ }
+    ensures { λ r. ⌜ Counts r (now (text .exit)) ⌝ }
+{
+    let file = file_at(input, 1);
+    let from = file.from;
+    let to = file.to;
+    let room = room_at(input, 5 + word_at(input, 1));
+    let mut out = [0u8; 65536];
+    let a = list_plan::list_plan(&input[from..to], &mut out[..room]);
+    let length = a.length;
+    write_answer(text, a.code, a.place, &out[..length])
+}
+
 /// The answer to a call, at the front of `text`; how many bytes it takes. The bytes of `text` behind them stay.
 pub fn run(input: &[u8], text: &mut [u8; 65600]) -> usize
     ensures { λ r. ⌜ Wrote (callText (now (input .entry))) (now (text .entry)) r (now (text .exit)) ⌝ }
@@ -278,6 +293,7 @@ pub fn run(input: &[u8], text: &mut [u8; 65600]) -> usize
         3 => join_keys(input, text),
         4 => without_keys(input, text),
         5 => list(input, text),
+        6 => list_plan(input, text),
         _ => 0,
     }
 }

@@ -9,9 +9,11 @@ use Rattle.writer_parts.specs.Wrote.{over, Wrote, Laid}
 use Rattle.writer_parts.proofs.Over.{kept, laid, over-over, part, so, start, then}
 use Rattle.tree.specs.declared.Node.{Node}
 use Rattle.tree.specs.declared.Node.the-variants.{Projection, Filter, Sort, Limit, Aggregate, Window, SubqueryAlias, Union, Distinct, Join, Scan, Empty}
-use Rattle.listing.specs.Text.{countText, decimal, lineText, newline, refusedText, space}
+use Rattle.listing.specs.Text.{countText, lineText, newline, refusedText, space}
 use Rattle.listing.specs.Lines.{Counts, Puts, nodeText}
-use Rattle.listing.proofs.Digits.{short, small, step, step-length}
+use Rattle.plan_text.specs.Decimal.{decimal}
+use Rattle.plan_text.proofs.Digits.{small, step}
+use Rattle.listing.proofs.Digits.{short, step-length}
 
 -- all of s was copied over the start of xs
 pub copied : {xs out : List ℕ} {a : ℕ} (s : List ℕ) → a ≡ length s → out ≡ take (length s) s ++ drop (length s) xs → Wrote s xs a out

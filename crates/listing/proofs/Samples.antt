@@ -3,7 +3,8 @@ use mathlib.Core.Path.{_≡_, refl}
 use mathlib.Core.List.{List, [], _∷_}
 use Prim.Native.Nat.{ℕ}
 use Rattle.rules.specs.Computes.{rules-computes}
-use Rattle.listing.specs.Text.{decimal, digitsTo, programText}
+use Rattle.plan_text.specs.Decimal.{decimal, digitsTo}
+use Rattle.listing.specs.Text.{programText}
 use Rattle.listing.specs.Computes.{listing-computes}
 
 nothing : decimal 0 ≡ 48 ∷ []

@@ -1,8 +1,8 @@
 -- The text that the program of document 01 prints, byte by byte. "First line `PLAN` and the node count; then for each node its number, kind in small
 -- letters, field count. A refusal prints one line: `REFUSED`, code, place." A text is a list of the numbers of its letters.
 use mathlib.Core.List.{List, [], _∷_, _++_}
-use Prim.Native.Nat.{ℕ, zero, suc, _+_, _*_, _/_, _%_}
-use lib.Dec.{eqb, ltb}
+use Prim.Native.Nat.{ℕ, _+_, _*_}
+use lib.Dec.{eqb}
 use lib.ListN.{length, getD, take, drop, replicate}
 use Rattle.cpl.specs.Exprs.{planNodes}
 use Rattle.cpl.specs.Fields.{fieldsOf}
@@ -13,19 +13,7 @@ use Rattle.cpl.specs.ReadPlan.{readFile}
 use Rattle.cpl.specs.Tests.{iota}
 use Rattle.rules.specs.Check.{Finding, accepted, faulty, finding}
 use Rattle.rules.specs.Answer.{Answer, Verdict, answerAll, narrowed, refused, verdict}
-
--- ── numbers ─────────────────────────────────────────────────────────────────────────────────
-
--- the last digits of n, at most as many as `most`, without leading zeros; 0 is one digit
-unfoldable pub digitsTo : (most n : ℕ) → List ℕ
-digitsTo zero n = []
-digitsTo (suc most) n =
-    let before = digitsTo most (n / 10) in
-    pick (ltb n 10) [] before ++ ((48 + n % 10) ∷ [])
-
--- the decimal digits of n: no number has more digits than itself and one
-unfoldable pub decimal : ℕ → List ℕ
-decimal n = digitsTo (suc n) n
+use Rattle.plan_text.specs.Decimal.{decimal}
 
 -- ── words ───────────────────────────────────────────────────────────────────────────────────
 

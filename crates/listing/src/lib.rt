@@ -7,7 +7,8 @@ ghost use mathlib.Core.Path.{_≡_};
 ghost use Prim.Native.Nat.{_+_, _*_, _-_, _<_, _≤_};
 ghost use lib.ListN.{drop, getD, length, take};
 ghost use Rattle.writer_parts.specs.Wrote.{Wrote};
-ghost use Rattle.listing.specs.Text.{countText, decimal, lineText, listText, maskIn, mostRead, printedText, programText, refusedText};
+ghost use Rattle.plan_text.specs.Decimal.{decimal};
+ghost use Rattle.listing.specs.Text.{countText, lineText, listText, maskIn, mostRead, printedText, programText, refusedText};
 ghost use Rattle.listing.specs.Lines.{Counts, Listable, Puts, lineAt, nodeText, span};
 use tree::Node;
 

@@ -10,13 +10,14 @@ use Rattle.pruner.specs.Answers.{Promised}
 use Rattle.pruner.proofs.Entries.{Meets}
 use Rattle.simmerroof.specs.Numbers.{NumbersAre, codeIn}
 
--- an answer put into an array, with what is known of its code
+-- an answer put into an array
+pub put-numbers : {a : rules.Answer} {r : Answer} {out′ three : List ℕ} → AnswerIs a r out′ → three ≡ r .code ∷ r .length ∷ r .place ∷ [] → NumbersAre a three out′
+put-numbers h e = record { numbers-are = rw (← h .code-is, ← h .length-is, ← h .place-is) e; out-is = h .out-is }
+
+-- the same, with what is known of its code
 put-into : {a : rules.Answer} {r : Answer} {out′ three : List ℕ} (P : ℕ → Type 0) → AnswerIs a r out′ × P (r .code) → three ≡ r .code ∷ r .length ∷ r .place ∷ []
     → NumbersAre a three out′ × P (codeIn three)
-put-into P h e = (
-  record { numbers-are = rw (← h .0 .code-is, ← h .0 .length-is, ← h .0 .place-is) e; out-is = h .0 .out-is },
-  subst P (sym (ap codeIn e)) (h .1),
-)
+put-into P h e = (put-numbers (h .0) e, subst P (sym (ap codeIn e)) (h .1))
 
 -- of an entry over plan files
 pub numbers : (mode mask : ℕ) (file : List ℕ) (request : ℕ → List ℕ) (out : List ℕ) {r : Answer} {out′ three : List ℕ} → Meets mode mask file request out r out′

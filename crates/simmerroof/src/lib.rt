@@ -1,4 +1,4 @@
-//! simmerroof: the functions that C and Rust programs link, and nothing else: those of pruner, acceptance and predicate_keys, with the answer as
+//! simmerroof: the functions that C and Rust programs link, and nothing else: those of pruner, acceptance, list_plan and predicate_keys, with the answer as
 //! numbers in a lent array.
 ghost use mathlib.Core.Path.{_≡_};
 ghost use mathlib.Core.List.{[], _∷_};
@@ -7,6 +7,7 @@ ghost use Rattle.rules.specs.Answer as rules;
 ghost use Rattle.rules.specs.Check.{checkFile};
 ghost use Rattle.join_keys.specs.Entries.{joinKeysAnswer, withoutKeysAnswer};
 ghost use Rattle.join_keys.specs.Promise.{KeysPromise, LeftPromise};
+ghost use Rattle.plan_text.specs.Answers.{listAnswer};
 ghost use Rattle.pruner.specs.Answers.{Promised};
 ghost use Rattle.simmerroof.specs.Numbers.{NumbersAre, checkNumbers, codeIn};
 use answers::Answer;
@@ -165,6 +166,14 @@ pub extern "C" fn simmerroof_check(file: &[u8], answer: &mut [u64; 4])
         c.nodes as u64,
         c.fields as u64,
     ];
+}
+
+/// `list_plan` for C and Rust.
+#[no_mangle]
+pub extern "C" fn simmerroof_list_plan(file: &[u8], out: &mut [u8], answer: &mut [u64; 3])
+    ensures { λ r. ⌜ NumbersAre (listAnswer (now (file .entry)) (now (out .entry))) (now (answer .exit)) (now (out .exit)) ⌝ }
+{
+    put(list_plan::list_plan(file, out), answer);
 }
 
 /// `join_keys` for C and Rust.

@@ -1,5 +1,5 @@
 -- `calls::run` meets its contract: the entry that the input names. Assumes nothing.
-use Rattle.calls.proofs.Texts.{check-named, join-keys-named, list-named, named, no-bytes, none-named, prune-all-named, prune-named, without-keys-named}
+use Rattle.calls.proofs.Texts.{check-named, join-keys-named, list-named, list-plan-named, named, no-bytes, none-named, prune-all-named, prune-named, without-keys-named}
 use Rattle.join_key_set.proofs.Pairs.{rest}
 use Rattle.listing.proofs.Puts.{counts}
 use Rattle.writer.proofs.Plans.{input}
@@ -28,6 +28,9 @@ without-keys-requires c κs = search needs
 
 list-requires : tie.Need-list-requires
 list-requires c κs = search needs
+
+list-plan-requires : tie.Need-list-plan-requires
+list-plan-requires c κs = search needs
 
 returns : tie.Need-returns
 returns c =
@@ -79,10 +82,18 @@ returns-6 c =
 
 returns-7 : tie.Need-returns-7
 returns-7 c =
+    let args = c .before .before .before .before .before .args in
+    let byte = c .before .before .before .byte in
+    let match = c .before .before .match in
+    let list-plan = c .list-plan in
+    (named (list-plan-named (args .input .now) (byte .ensures) (match .keys7)) (list-plan .ensures .0), list-plan .ensures .1)
+
+returns-8 : tie.Need-returns-8
+returns-8 c =
     let args = c .before .before .before .args in
     let byte = c .before .byte in
     let match = c .match in
-    let w = no-bytes (none-named (args .input .now) (byte .ensures) (match .rest .0 .0 .0 .0 .0 .1) (match .rest .0 .0 .0 .0 .1) (match .rest .0 .0 .0 .1) (match .rest .0 .0 .1) (match .rest .0 .1) (match .rest .1)) in (w, counts w refl)
+    let w = no-bytes (none-named (args .input .now) (byte .ensures) (match .rest .0 .0 .0 .0 .0 .0 .1) (match .rest .0 .0 .0 .0 .0 .1) (match .rest .0 .0 .0 .0 .1) (match .rest .0 .0 .0 .1) (match .rest .0 .0 .1) (match .rest .0 .1) (match .rest .1)) in (w, counts w refl)
 
 pub run-spec : {M : Type 1} → statement M
-run-spec = tie.close (tie.spec byte-requires prune-requires prune-all-requires check-requires join-keys-requires without-keys-requires list-requires returns returns-2 returns-3 returns-4 returns-5 returns-6 returns-7)
+run-spec = tie.close (tie.spec byte-requires prune-requires prune-all-requires check-requires join-keys-requires without-keys-requires list-requires list-plan-requires returns returns-2 returns-3 returns-4 returns-5 returns-6 returns-7 returns-8)

@@ -1,6 +1,7 @@
 -- `listing::put_number` meets its contract: a digit, or the digits before the last one and then that. Assumes nothing.
 use Prim.Native.Nat.{_<_, ℕ}
-use Rattle.listing.proofs.Digits.{small, step-length}
+use Rattle.plan_text.proofs.Digits.{small}
+use Rattle.listing.proofs.Digits.{step-length}
 use Rattle.listing.proofs.Puts.{number-small, number-step}
 use Rattle.tree.proofs.Plans.{taken}
 use Rattle.writer_parts.proofs.Over.{kept}

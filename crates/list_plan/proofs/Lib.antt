@@ -1,0 +1,2 @@
+-- The laws of a file's listing.
+pub mod Ways

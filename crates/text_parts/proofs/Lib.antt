@@ -1,0 +1,2 @@
+-- The laws of the texts of what rows hold.
+pub mod Parts

@@ -1,0 +1,2 @@
+-- The texts of what rows hold.
+pub mod Parts

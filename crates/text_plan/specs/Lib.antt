@@ -1,0 +1,2 @@
+-- The nodes of a plan as text.
+pub mod Heads

@@ -1,0 +1,2 @@
+-- The laws of text that is put into a buffer.
+pub mod Laws
