@@ -1,8 +1,8 @@
--- `pruner::deliver` meets its contract: too large, or written out. Assumes nothing.
-use Rattle.pruner.proofs.Ends.{done-ends, large-ends, writes}
+-- `delivery::deliver` meets its contract: too large, or written out. Assumes nothing.
+use Rattle.delivery.proofs.Ends.{done-ends, large-ends, writes}
 use borrow.Author.Needs.{needs}
-use Rattle.pruner.proofs.deliver.Statement.{statement}
-use Rattle.pruner.proofs.deliver.Tie as tie
+use Rattle.delivery.proofs.deliver.Statement.{statement}
+use Rattle.delivery.proofs.deliver.Tie as tie
 
 enum-known-end : tie.Need-enum-known-end
 enum-known-end c = search needs
@@ -21,7 +21,7 @@ returns c =
 
 write-out-requires : tie.Need-write-out-requires
 write-out-requires c κs =
-    let pre = c .before .before .before .before .before .before .before .before .before .before .before .before .before .before .pre in
+    let pre = c .before .before .before .before .before .before .before .before .pre in
     let end = c .before .before .end in
     (pre .heads .inside, writes (end .given .1) (pre))
 
