@@ -7,7 +7,7 @@ use native.Mathlib.Decide.{ℕ-discrete}
 use native.Mathlib.Omega.{arith}
 use lib.ListN.{length, getD}
 use Rattle.cpl.specs.Lists.{All, _a∷_}
-use Rattle.cpl.specs.Plan.{Catalogue, Expr, keyless, namesOf}
+use Rattle.cpl.specs.Plan.{Catalogue, Expr, namesOf}
 use Rattle.cpl.specs.ReadPlan.{Head, h0, h1, h2}
 use Rattle.cpl.specs.Writable.{FitCatalogue, FitColumns, FitLeaf, FitList, FitPlan}
 use Rattle.cpl.proofs.CatalogueTrip.{few-columns}
@@ -23,7 +23,7 @@ use Rattle.lookup.proofs.Lists.{list-length}
 use Rattle.parts.specs.Catalogue.{NamesOk, catalogueAt, tableAt}
 use Rattle.parts.specs.Parts.{WinInside}
 use Rattle.parts.proofs.Tables.{catalogue-at, catalogue-length}
-use Rattle.accept.specs.Nodes.{Named, NodeInside, ScanInside}
+use Rattle.verdicts.specs.Nodes.{Named, NodeInside, ScanInside}
 
 -- from k on: it is k, or from k + 1 on
 pub from-on : (P : ℕ → Type 0) (k j : ℕ) → k ≤ j → P k → (k + 1 ≤ j → P j) → P j
@@ -125,18 +125,3 @@ module _ {C : Catalogue} {names : List ℕ} {tables most : ℕ} (ok : NamesOk na
   node-named a (Join j) fit = tt
   node-named a (Scan s) fit = table-named (s .table) (fit .0)
   node-named a (Empty b f n) fit = tt
-
--- some catalogue has the table of a scan
-pub some-catalogue : (names : List ℕ) (n : Node) → (C : Catalogue) × Named C names n
-some-catalogue names (Projection f n) = (keyless [], tt)
-some-catalogue names (Filter r) = (keyless [], tt)
-some-catalogue names (Sort f n) = (keyless [], tt)
-some-catalogue names (Limit s n) = (keyless [], tt)
-some-catalogue names (Aggregate f g v) = (keyless [], tt)
-some-catalogue names (Window f n) = (keyless [], tt)
-some-catalogue names (SubqueryAlias q) = (keyless [], tt)
-some-catalogue names (Union r) = (keyless [], tt)
-some-catalogue names Distinct = (keyless [], tt)
-some-catalogue names (Join j) = (keyless [], tt)
-some-catalogue names (Scan s) = (keyless (catalogueAt names (s .table + 1)), catalogue-at names (s .table + 1) (s .table) (omega arith))
-some-catalogue names (Empty b f n) = (keyless [], tt)

@@ -1,7 +1,3 @@
--- The laws of acceptance, bottom up.
-pub mod Rowed
-pub mod References
-pub mod Given
-pub mod Faults
+-- The laws of the walk, bottom up.
 pub mod Inside
 pub mod Plans

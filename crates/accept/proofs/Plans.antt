@@ -25,13 +25,14 @@ use Rattle.tree.specs.declared.Node.{Node}
 use Rattle.lookup.specs.Fields.{RowStays, WidthsKept, fieldsAt, firstAt, rowAt, widthAt}
 use Rattle.lookup.specs.declared.Sides.{Sides}
 use Rattle.lookup.proofs.Rows.{widths-trans, widths-wide}
-use Rattle.accept.specs.Heads.{fieldsHead, headFault}
-use Rattle.accept.specs.Nodes.{KeptBelow, Named, NodeInside, SidesReady, parts}
-use Rattle.accept.specs.Verdicts.{Checked, Judgeable, Judged, Placed, Settled, Walking, endOf, faultOf, spanOf}
-use Rattle.accept.specs.declared.Verdict.{Verdict}
-use Rattle.accept.specs.declared.Verdict.the-variants.{Fine, Bad}
+use Rattle.verdicts.specs.Heads.{fieldsHead, headFault}
+use Rattle.verdicts.specs.Nodes.{KeptBelow, Named, NodeInside, SidesReady, parts}
+use Rattle.verdicts.specs.Verdicts.{Judged, Placed, faultOf}
+use Rattle.accept.specs.Verdicts.{Checked, Judgeable, Settled, Walking, endOf, spanOf}
+use Rattle.verdicts.specs.declared.Verdict.{Verdict}
+use Rattle.verdicts.specs.declared.Verdict.the-variants.{Fine, Bad}
 use Rattle.accept.proofs.Inside.{FitHead, fit-head, from-on, node-inside, node-named, parts-same}
-use Rattle.accept.proofs.Rowed.{below-less, below-row, below-then, clear-none}
+use Rattle.verdicts.proofs.Rowed.{below-less, below-row, below-then, clear-none}
 
 -- ── `check`, one step ───────────────────────────────────────────────────────────────────────
 

@@ -1,4 +1,3 @@
--- What a node is judged by, and what the answers of this crate stand for, bottom up.
-pub mod Heads
-pub mod Nodes
+-- The inputs of a node, and what the answers of this crate stand for.
+pub mod Inputs
 pub mod Verdicts

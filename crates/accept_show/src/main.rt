@@ -1,9 +1,10 @@
 //! Runs acceptance on plans of one node, lookups and requests, and writes what they answer.
 ghost use Prim.Native.Nat.{_<_, _≤_};
-use accept::Verdict;
 use libc::STDOUT_FILENO;
 use lookup::Field;
 use lookup::Lookup;
+use required_indices::RequiredIndices;
+use verdicts::Verdict;
 
 fn text(s: &[u8]) {
     io::write_all(STDOUT_FILENO, s);
@@ -62,6 +63,11 @@ fn place(q: u16, n: u16) {
     }
 }
 
+// How many indices a set has.
+fn size(set: RequiredIndices) -> usize {
+    RequiredIndices::len(&set.indices, set.used)
+}
+
 // What is said of a request of three fields.
 fn ask(request: &[u16]) {
     let a = request::check_request(request, 3);
@@ -70,7 +76,7 @@ fn ask(request: &[u16]) {
         number(a.place);
     } else {
         text(b"asked ");
-        number(a.set.len());
+        number(size(a.set));
     }
     text(b"\n");
 }

@@ -3,4 +3,5 @@ pub mod Findings
 pub mod Tables
 pub mod Rooms
 pub mod Ways
+pub mod Marks
 pub mod Plans

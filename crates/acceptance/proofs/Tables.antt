@@ -10,8 +10,8 @@ use Rattle.cpl.specs.Lists.{All, _a∷_}
 use Rattle.cpl.specs.Plan.{Catalogue}
 use Rattle.cpl.specs.Writable.{FitList, FitName, FitCatalogue}
 use Rattle.versions.proofs.Small.{small}
-use Rattle.reader.specs.Tables as read
-use Rattle.reader.specs.Tables.{namesAt, tablesAt}
+use Rattle.catalogue.specs.Tables as read
+use Rattle.catalogue.specs.Tables.{namesAt, tablesAt}
 use Rattle.tree.specs.Rows.{listAt, one}
 use Rattle.parts.specs.Catalogue.{tableAt, catalogueAt, NamesOk}
 

@@ -32,7 +32,7 @@ use Rattle.reader.specs.Plans.{TookFile}
 use Rattle.key_sets.specs.Slots.{TableKeys}
 use Rattle.parts.specs.Catalogue.{catalogueAt, NamesOk}
 use Rattle.accept.specs.Verdicts.{Checked, FieldsStand, Judgeable}
-use Rattle.accept.specs.declared.Verdict.the-variants.{Fine}
+use Rattle.verdicts.specs.declared.Verdict.the-variants.{Fine}
 use Rattle.lookup.specs.Fields.{fieldsAt, firstAt, widthAt}
 use Rattle.tree.specs.Rows.{one}
 use Rattle.tree.proofs.Lists.{list-length}

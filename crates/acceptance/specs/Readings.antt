@@ -1,6 +1,7 @@
 -- What is said of a file, and the plan of an accepted one as it stands in the arrays.
 use mathlib.Core.Path.{_≡_}
-use mathlib.Core.List.{List}
+use mathlib.Core.Bool.{Bool, false}
+use mathlib.Core.List.{List, [], _∷_}
 use mathlib.Core.Option.{none}
 use Prim.Native.Nat.{ℕ, _<_, _≤_}
 use lib.ListN.{length}
@@ -8,7 +9,7 @@ use Rattle.cpl.specs.Limits as cpl-limits
 use Rattle.cpl.specs.Plan.{Catalogue, Plan}
 use Rattle.cpl.specs.Exprs.{planNodes, planTags}
 use Rattle.cpl.specs.Read.{ok}
-use Rattle.cpl.specs.ReadPlan.{readCatalogue, readFile, readMark}
+use Rattle.cpl.specs.ReadPlan.{readCatalogue, readFile, readMark, starts}
 use Rattle.cpl.specs.Accept as cpl
 use Rattle.cpl.specs.Writable.{FitCatalogue}
 use Rattle.rules.specs.Check as rules
@@ -35,6 +36,14 @@ rootPlan cells rows nodes = planAt (lent cells rows nodes) 0
 -- the file starts with the mark of this version
 abbrev pub Marked : (file : List ℕ) → cpl-limits.Version → Type 0
 Marked file v = readMark file 0 0 0 ≡ ok v 5 0 0
+
+-- does the file start with the mark of the version of this number?
+abbrev pub markedAs : (number : ℕ) (file : List ℕ) → Bool
+markedAs number file = starts (67 ∷ 80 ∷ 76 ∷ number ∷ 0 ∷ []) file
+
+-- it is of no version below this number
+abbrev pub NoneBelow : (file : List ℕ) → (number : ℕ) → Type 0
+NoneBelow file number = (k : ℕ) → 1 ≤ k → k < number → markedAs k file ≡ false
 
 -- 128 fields a node are enough for the file's version
 abbrev pub Narrow : (file : List ℕ) → Type 0

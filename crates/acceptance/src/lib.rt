@@ -5,9 +5,9 @@
 ghost use mathlib.Core.Bool.{true};
 ghost use mathlib.Core.Path.{_≡_};
 ghost use Rattle.rules.specs.Check.{checkFile};
-ghost use Rattle.acceptance.specs.Readings.{CheckedIs, Narrow, ReadingIs, Room};
-use accept::Verdict;
+ghost use Rattle.acceptance.specs.Readings.{CheckedIs, Narrow, NoneBelow, ReadingIs, Room};
 use reader::Read;
+use verdicts::Verdict;
 use versions::Version;
 
 /// Code 0, place 0, the number of nodes and of the root's fields; or a refusal's code and place, and 0 for both numbers.
@@ -174,13 +174,29 @@ pub fn is_narrow(file: &[u8]) -> bool
     version.fields <= 128
 }
 
+// What is said of a file, in the arrays that its version needs: versions are tried in turn, from this number on. The compiler puts no large arrays
+// of other functions into the frame of one that calls itself, so that the arrays of a version are on the stack for its own files alone.
+fn check_from(file: &[u8], number: u64) -> Checked
+    requires { ⌜ NoneBelow (now file) number ⌝ }
+    ensures { λ r. ⌜ CheckedIs (checkFile (now (file .entry))) r ⌝ }
+{
+    if number > 2 {
+        let refused = refuse(2, 0);
+        return refused.checked;
+    }
+    if reader::has_mark(file, number) {
+        if number == 1 {
+            return check_narrow(file);
+        }
+        return check_wide(file);
+    }
+    check_from(file, number + 1)
+}
+
 /// Is the file an accepted plan file? Its number of nodes and of root fields, or a refusal: 2 to 10 of document 01. The arrays are chosen by the
 /// file's version.
 pub fn check(file: &[u8]) -> Checked
     ensures { λ r. ⌜ CheckedIs (checkFile (now (file .entry))) r ⌝ }
 {
-    if is_narrow(file) {
-        return check_narrow(file);
-    }
-    check_wide(file)
+    check_from(file, 1)
 }

@@ -77,8 +77,8 @@ module _ (ws : List Win) {width : ℕ} {fs : List Pair} {r below set : RequiredI
   set-within : setOf set < 2 ^ length ws
   set-within = subst (λ x. setOf set < 2 ^ x) (Fit-length rest-fit) (set-asks .within)
 
-  then-is : (t : Todo) (q none : RequiredIndices) → ThenIs fs (λ K. K ++ S) (job t (rests.InputThen width) q none set none) width
-  then-is t q none = record {
+  then-is : ThenIs fs (λ K. K ++ S) set width
+  then-is = record {
     S = S;
     wide = ew;
     few = omega (arith, own-few, length-append fs (map winPair ws), length-map ws winPair, Fit-length rest-fit);
@@ -97,7 +97,7 @@ module _ (ws : List Win) {width : ℕ} {fs : List Pair} {r below set : RequiredI
     asks = pass-asks;
     fit = pass-fit;
     set = set-within;
-    rest = then-is todos.Same below none;
+    rest = then-is;
   }
 
   pub window-is : (C : Catalogue) (key : List ℕ) {n : ℕ} {q : RequiredIndices} (none : RequiredIndices) → n ≡ length ws → eqb (setOf set) 0 ≡ false → Adds (concatMap winExprs (select (requestMask n set) ws)) fs below q
@@ -115,5 +115,5 @@ module _ (ws : List Win) {width : ℕ} {fs : List Pair} {r below set : RequiredI
         asks = d .asks R₀ pass-fit pass-asks;
         fit = plus-fit es pass-fit;
         set = set-within;
-        rest = then-is (todos.One true) q none;
+        rest = then-is;
       }

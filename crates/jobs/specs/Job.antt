@@ -34,32 +34,41 @@ use Rattle.jobs.specs.declared.Rest.the-variants as rests
 -- ── which fields are left ───────────────────────────────────────────────────────────────────
 
 -- those of the input, and behind them the job's set
-pub record ThenIs (fs : List Pair) (g : Mask → Mask) (j : Job) (width : ℕ) : Type 0 where
+pub record ThenIs (fs : List Pair) (g : Mask → Mask) (set : RequiredIndices) (width : ℕ) : Type 0 where
   pub S : Mask
   pub wide : width ≡ length fs
   pub few : length fs + length S ≤ wordsN * 64
-  pub asks : Asks (j .set) S
+  pub asks : Asks set S
   pub is : (K : Mask) → g K ≡ K ++ S
 
 -- the job's own
-pub record OwnIs (g : Mask → Mask) (j : Job) : Type 0 where
+pub record OwnIs (g : Mask → Mask) (kept : RequiredIndices) : Type 0 where
   pub L : Mask
-  pub asks : Asks (j .kept) L
+  pub asks : Asks kept L
   pub is : (K : Mask) → g K ≡ L
 
--- of the input's fields K that are left, the node's that are: g K
-abbrev pub RestIs : List Pair → (Mask → Mask) → Job → Rest → Type 0
-RestIs fs g j rests.Input = (K : Mask) → g K ≡ K
-RestIs fs g j (rests.InputThen width) = ThenIs fs g j width
-RestIs fs g j rests.Own = OwnIs g j
+-- of the input's fields K that are left, the node's that are: g K; by a job's set, its own fields and its rest
+abbrev pub RestBy : List Pair → (Mask → Mask) → (set kept : RequiredIndices) → Rest → Type 0
+RestBy fs g set kept rests.Input = (K : Mask) → g K ≡ K
+RestBy fs g set kept (rests.InputThen width) = ThenIs fs g set width
+RestBy fs g set kept rests.Own = OwnIs g kept
 
-pub record Leftover (j : Job) : Type 0 where
+abbrev pub RestIs : List Pair → (Mask → Mask) → Job → Rest → Type 0
+RestIs fs g j rest = RestBy fs g (j .set) (j .kept) rest
+
+pub record LeftBy (rest : Rest) (set kept : RequiredIndices) : Type 0 where
   pub fields : List Pair
   pub left : Mask → Mask
-  pub is : RestIs fields left j (j .rest)
+  pub is : RestBy fields left set kept rest
 
-pub record KeptOf (j : Job) (input out : RequiredIndices) : Type 0 where
-  pub asks : (fs : List Pair) (g : Mask → Mask) (K : Mask) → RestIs fs g j (j .rest) → length K ≡ length fs → Asks input K → Asks out (g K)
+abbrev pub Leftover : Job → Type 0
+Leftover j = LeftBy (j .rest) (j .set) (j .kept)
+
+pub record KeptBy (rest : Rest) (set kept input out : RequiredIndices) : Type 0 where
+  pub asks : (fs : List Pair) (g : Mask → Mask) (K : Mask) → RestBy fs g set kept rest → length K ≡ length fs → Asks input K → Asks out (g K)
+
+abbrev pub KeptOf : Job → (input out : RequiredIndices) → Type 0
+KeptOf j input out = KeptBy (j .rest) (j .set) (j .kept) input out
 
 -- ── a node with one input, over the input's key and its fields fs ───────────────────────────
 

@@ -22,7 +22,7 @@ ghost use Rattle.tree.specs.Tree.{if?};
 ghost use Rattle.lookup.specs.Fields.{rowAt};
 ghost use Rattle.requests.specs.Asked.{Below};
 ghost use Rattle.jobs.specs.Asked.{Asked, KindIs};
-ghost use Rattle.jobs.specs.Job.{JobAt, Joinable, Joined, KeptOf, LeafJob, Leftover, OneJob, Posed, PosedTwo, Sided, Through, TwoJob};
+ghost use Rattle.jobs.specs.Job.{JobAt, Joinable, Joined, KeptBy, LeafJob, LeftBy, OneJob, Posed, PosedTwo, Sided, Through, TwoJob};
 use required_indices::RequiredIndices;
 use tree::JoinNode;
 use tree::JoinType;
@@ -444,18 +444,19 @@ pub fn job_at(
     }
 }
 
-/// The fields of a node that are left, where `input` are those of its input that are.
-pub fn kept_of(job: Job, input: RequiredIndices) -> RequiredIndices
-    requires { ⌜ Leftover job ⌝ }
-    ensures { λ out. ⌜ KeptOf job input out ⌝ }
+/// The fields of a node that are left, by its job's `rest`, `set` and `kept`, where `input` are those of its input that are.
+pub fn kept_of(
+    rest: Rest,
+    set: RequiredIndices,
+    kept: RequiredIndices,
+    input: RequiredIndices,
+) -> RequiredIndices
+    requires { ⌜ LeftBy rest set kept ⌝ }
+    ensures { λ out. ⌜ KeptBy rest set kept input out ⌝ }
 {
-    let rest = job.rest;
     match rest {
         Rest::Input => input,
-        Rest::InputThen { width } => {
-            let set = job.set;
-            input.followed_by(width, set)
-        }
-        Rest::Own => job.kept,
+        Rest::InputThen { width } => input.followed_by(width, set),
+        Rest::Own => kept,
     }
 }

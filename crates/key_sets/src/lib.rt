@@ -36,5 +36,5 @@ pub fn put_key(keys: &mut [u64], slot: usize, key: RequiredIndices)
     requires { ⌜ SlotIn (now keys) slot ⌝ }
     ensures { λ _. ⌜ PutKey (now (keys .entry)) (now (keys .exit)) slot (setOf key) ⌝ }
 {
-    key.store(keys, slot * SLOT);
+    RequiredIndices::store(&key.indices, key.used, keys, slot * SLOT);
 }

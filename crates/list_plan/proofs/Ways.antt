@@ -1,5 +1,6 @@
 -- A file's listing by what was found of the file: each way through `list_over`. Assumes nothing.
 use mathlib.Core.Path.{_≡_, refl, sym, ap, _∙_}
+use mathlib.Core.Bool.{false}
 use mathlib.Core.List.{List}
 use Prim.Native.Nat.{ℕ, _^_, _<_}
 use native.Mathlib.Omega.{arith}
@@ -8,10 +9,12 @@ use Rattle.rules.specs.Answer.{refusal, written}
 use Rattle.rules.specs.Check.{checkFile}
 use Rattle.answers.specs.Answers.{AnswerIs}
 use Rattle.answers.specs.declared.Answer.{Answer}
-use Rattle.plan_text.specs.Answers.{listAnswer}
+use Rattle.plan_text.specs.Answers as text
+use Rattle.plan_text.specs.Answers.{delivered, listAnswer, listOf}
 use Rattle.plan_text.specs.Listing.{listing}
+use Rattle.reader.proofs.Files.{file-mark, marked-none}
 use Rattle.versions.specs.declared.Version.{Version}
-use Rattle.acceptance.specs.Readings.{PlanIn, ReadingIs, rootPlan}
+use Rattle.acceptance.specs.Readings.{NoneBelow, PlanIn, ReadingIs, rootPlan}
 use Rattle.acceptance.specs.declared.Reading.{Reading}
 use Rattle.text_plan.specs.Heads.{Walks}
 use Rattle.text_answer.proofs.Files.{list-accepted, list-counts, list-refused, some-node}
@@ -23,6 +26,13 @@ unfolding refusal
 refused {file} out i h e =
     rw (list-refused file out (omega (arith, h, i .says .code-is)))
     (record { code-is = e .0 ∙ i .says .code-is; length-is = e .1; place-is = e .2 ∙ i .says .place-is; out-is = refl })
+
+-- it has no version's mark
+pub unmarked : (file out : List ℕ) (n : ℕ) → NoneBelow file n → 2 < n → {a : Answer} → (a .code ≡ 2) × (a .length ≡ 0) × (a .place ≡ 0) → AnswerIs (listAnswer file out) a out
+unfolding listAnswer listOf text.accepted delivered refusal
+unmarked file out n o h e =
+    let no = marked-none file {a = false} refl (sym (o 1 (omega arith) (omega arith))) {b = false} refl (sym (o 2 (omega arith) (omega arith))) in
+    rw (file-mark file no) (record { code-is = e .0; length-is = e .1; place-is = e .2; out-is = refl })
 
 module _ {file cells rows nodes fields widths keys : List ℕ} {version : Version} {start count : ℕ} (p : PlanIn file cells rows nodes fields widths keys version start count) where
   has-node : 0 < count

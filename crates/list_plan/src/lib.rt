@@ -4,7 +4,7 @@
 //! hold. The contracts determine every byte.
 ghost use Rattle.answers.specs.Answers.{AnswerIs};
 ghost use Rattle.plan_text.specs.Answers.{listAnswer};
-ghost use Rattle.acceptance.specs.Readings.{Narrow, Room};
+ghost use Rattle.acceptance.specs.Readings.{Narrow, NoneBelow, Room};
 use answers::Answer;
 
 // The listing of a file's plan, worked out in arrays that are long enough for it.
@@ -96,12 +96,27 @@ fn list_narrow(file: &[u8], out: &mut [u8]) -> Answer
     )
 }
 
+// The listing of a file, in the arrays that its version needs: versions are tried in turn, from this number on, and the function calls itself for the
+// reason that `acceptance::check_from` has.
+fn list_from(file: &[u8], number: u64, out: &mut [u8]) -> Answer
+    requires { ⌜ NoneBelow (now file) number ⌝ }
+    ensures { λ r. ⌜ AnswerIs (listAnswer (now (file .entry)) (now (out .entry))) r (now (out .exit)) ⌝ }
+{
+    if number > 2 {
+        return answers::refuse(2, 0);
+    }
+    if reader::has_mark(file, number) {
+        if number == 1 {
+            return list_narrow(file, out);
+        }
+        return list_wide(file, out);
+    }
+    list_from(file, number + 1, out)
+}
+
 /// The listing of a plan file, written to `out`; or a refusal, which changes no byte of it. The bytes of `out` behind the listing stay.
 pub fn list_plan(file: &[u8], out: &mut [u8]) -> Answer
     ensures { λ r. ⌜ AnswerIs (listAnswer (now (file .entry)) (now (out .entry))) r (now (out .exit)) ⌝ }
 {
-    if acceptance::is_narrow(file) {
-        return list_narrow(file, out);
-    }
-    list_wide(file, out)
+    list_from(file, 1, out)
 }

@@ -10,7 +10,8 @@ ghost use Prim.Native.Nat.{ℕ, _+_, _*_, _<_, _≤_};
 ghost use lib.ListN.{length};
 ghost use Rattle.arena.specs.Cells.{exprAt, Wf};
 ghost use Rattle.arena.specs.Rows.{itemsAt, RowsOk};
-ghost use Rattle.required_indices.specs.Request.{Holds, wordsN};
+ghost use Rattle.required_indices.specs.Set.{has};
+ghost use Rattle.required_indices.specs.Request.{Holds, setOf, wordsN};
 ghost use Rattle.tree.specs.Rows.{columnsAt};
 ghost use Rattle.lookup.specs.Answers.{placeOf};
 ghost use Rattle.lookup.specs.Fields.{rowAt, RowIn};
@@ -43,6 +44,13 @@ fn none_found() -> Found
     }
 }
 
+// Whether place `j` is in a set.
+fn is_in(set: RequiredIndices, j: usize) -> bool
+    ensures { λ r. ⌜ r ≡ has (setOf set) j ⌝ }
+{
+    RequiredIndices::contains(&set.indices, set.used, j)
+}
+
 /// Of one item more, item `i`, which is the column at a place, or computed.
 fn with_place(found: Found, key: RequiredIndices, i: usize, place: Fit) -> Found
     requires { ⌜ i < wordsN * 64 ⌝ }
@@ -52,14 +60,14 @@ fn with_place(found: Found, key: RequiredIndices, i: usize, place: Fit) -> Found
     let Fit::At(j) = place else {
         return found;
     };
-    if !key.contains(j) {
+    if !is_in(key, j) {
         return found;
     }
     let seen = found.seen;
     let firsts = found.firsts;
     let old = found.all;
     let all = old.with_index(i);
-    if seen.contains(j) {
+    if is_in(seen, j) {
         return Found { seen, firsts, all };
     }
     Found {
@@ -144,6 +152,9 @@ fn scan_key(scan: ScanNode, rows: &[u16], keys: &[u64]) -> RequiredIndices
 {
     let key = key_sets::key_at(keys, scan.table);
     if scan.given {
+        if key.is_empty() {
+            return key;
+        }
         let found = found_columns(key, rows, scan.first, scan.n);
         return carried(key, found);
     }

@@ -22,7 +22,7 @@ use Rattle.result.specs.Records.{Grown, results}
 use Rattle.projections.specs.Tops.{OnTop, TopAnswer}
 use Rattle.projections.specs.declared.Topped.{Topped}
 use Rattle.projections.specs.declared.Topped.the-variants as toppeds
-use Rattle.walk_steps.specs.Steps.{Over, OverIs, Scratch}
+use Rattle.walk_steps.specs.Steps.{Over, OverIs}
 use Rattle.walk_steps.specs.declared.End.the-variants.{Done}
 use Rattle.walk_steps.specs.declared.Used.{Used}
 use Rattle.walk_steps.specs.declared.Walked.{Walked}
@@ -46,10 +46,6 @@ more-refl u = record { records = omega arith; rows = omega arith; cells = omega 
 
 pub more-trans : {u v w : Used} → More u v → More v w → More u w
 more-trans p q = record { records = omega (arith, p .records, q .records); rows = omega (arith, p .rows, q .rows); cells = omega (arith, p .cells, q .cells) }
-
--- scratch arrays that were written to
-pub scratch-kept : {rows cells rows′ cells′ : List ℕ} → Scratch rows cells → length rows′ ≡ length rows → length cells′ ≡ length cells → Scratch rows′ cells′
-scratch-kept x e f = record { rows-long = omega (arith, x .rows-long); cells-long = omega (arith, x .cells-long); cells-short = omega (arith, x .cells-short) }
 
 -- ── too large ───────────────────────────────────────────────────────────────────────────────
 

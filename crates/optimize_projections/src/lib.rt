@@ -6,7 +6,6 @@
 //! use of the result's arrays.
 ghost use mathlib.Core.Path.{_≡_};
 ghost use Rattle.result.specs.Records.{results};
-ghost use Rattle.walk_steps.specs.Steps.{Scratch};
 ghost use Rattle.optimize_projections.specs.Walk.{After, Before, BeforeInputs, BeforeList, InputAfter, InputsAfter, ListAfter, PutAfter, oneEnd, twoEnd};
 use jobs::Job;
 use jobs::Kind;
@@ -88,27 +87,25 @@ fn two_inputs(first: usize, kept: RequiredIndices, w: Walked) -> Inputs
 /// The pass over node `k`, asked for `request`: its job says what is asked of its inputs; a projection goes on down as a pending list. Rust:
 /// `optimize_projections`.
 pub fn optimize_projections(
-    cells: &[u64],
+    cells: &[u64; 12288],
     rows: &[u16],
-    nodes: &[u64],
+    nodes: &[u64; 1792],
     fields: &[u16],
-    widths: &[u64],
-    keys: &[u64],
+    widths: &[u64; 512],
+    keys: &[u64; 2448],
     settings: Settings,
     k: usize,
     request: RequiredIndices,
-    arows: &mut [u16],
-    acells: &mut [u64],
-    brows: &mut [u16],
-    bcells: &mut [u64],
-    records: &mut [u64],
-    items: &mut [u16],
-    icells: &mut [u64],
+    arows: &mut [u16; 2048],
+    acells: &mut [u64; 12288],
+    brows: &mut [u16; 2048],
+    bcells: &mut [u64; 12288],
+    records: &mut [u64; 3328],
+    items: &mut [u16; 16896],
+    icells: &mut [u64; 12288],
     used: Used,
 ) -> Walked
     requires { ⌜ Before (now cells) (now rows) (now nodes) (now fields) (now widths) (now keys) (results (now records) (now items) (now icells)) k request used ⌝ }
-    requires { ⌜ Scratch (now arows) (now acells) ⌝ }
-    requires { ⌜ Scratch (now brows) (now bcells) ⌝ }
     ensures { λ w. ⌜ After settings (now (cells .entry)) (now (rows .entry)) (now (nodes .entry)) (now (fields .entry)) (now (widths .entry)) (now (keys .entry)) (results (now (records .entry)) (now (items .entry)) (now (icells .entry))) (results (now (records .exit)) (now (items .exit)) (now (icells .exit))) k request used w ⌝ }
 {
     let node = tree::node_at(nodes, k);
@@ -170,27 +167,25 @@ pub fn optimize_projections(
 
 /// The inputs of node `k`, each asked as its job says.
 pub fn optimize_inputs(
-    cells: &[u64],
+    cells: &[u64; 12288],
     rows: &[u16],
-    nodes: &[u64],
+    nodes: &[u64; 1792],
     fields: &[u16],
-    widths: &[u64],
-    keys: &[u64],
+    widths: &[u64; 512],
+    keys: &[u64; 2448],
     settings: Settings,
     k: usize,
     job: Job,
-    arows: &mut [u16],
-    acells: &mut [u64],
-    brows: &mut [u16],
-    bcells: &mut [u64],
-    records: &mut [u64],
-    items: &mut [u16],
-    icells: &mut [u64],
+    arows: &mut [u16; 2048],
+    acells: &mut [u64; 12288],
+    brows: &mut [u16; 2048],
+    bcells: &mut [u64; 12288],
+    records: &mut [u64; 3328],
+    items: &mut [u16; 16896],
+    icells: &mut [u64; 12288],
     used: Used,
 ) -> Inputs
     requires { ⌜ BeforeInputs (now cells) (now rows) (now nodes) (now fields) (now widths) (now keys) (results (now records) (now items) (now icells)) k job used ⌝ }
-    requires { ⌜ Scratch (now arows) (now acells) ⌝ }
-    requires { ⌜ Scratch (now brows) (now bcells) ⌝ }
     ensures { λ i. ⌜ InputsAfter settings (now (cells .entry)) (now (rows .entry)) (now (nodes .entry)) (now (fields .entry)) (now (widths .entry)) (now (keys .entry)) (results (now (records .entry)) (now (items .entry)) (now (icells .entry))) (results (now (records .exit)) (now (items .exit)) (now (icells .exit))) k job used i ⌝ }
 {
     let todo = job.todo;
@@ -295,28 +290,26 @@ pub fn optimize_inputs(
 
 /// The pass over node `k`, an input that was asked for `ask`, topped up where that is wanted.
 pub fn optimize_input(
-    cells: &[u64],
+    cells: &[u64; 12288],
     rows: &[u16],
-    nodes: &[u64],
+    nodes: &[u64; 1792],
     fields: &[u16],
-    widths: &[u64],
-    keys: &[u64],
+    widths: &[u64; 512],
+    keys: &[u64; 2448],
     settings: Settings,
     k: usize,
     ask: RequiredIndices,
     topped: bool,
-    arows: &mut [u16],
-    acells: &mut [u64],
-    brows: &mut [u16],
-    bcells: &mut [u64],
-    records: &mut [u64],
-    items: &mut [u16],
-    icells: &mut [u64],
+    arows: &mut [u16; 2048],
+    acells: &mut [u64; 12288],
+    brows: &mut [u16; 2048],
+    bcells: &mut [u64; 12288],
+    records: &mut [u64; 3328],
+    items: &mut [u16; 16896],
+    icells: &mut [u64; 12288],
     used: Used,
 ) -> Walked
     requires { ⌜ Before (now cells) (now rows) (now nodes) (now fields) (now widths) (now keys) (results (now records) (now items) (now icells)) k ask used ⌝ }
-    requires { ⌜ Scratch (now arows) (now acells) ⌝ }
-    requires { ⌜ Scratch (now brows) (now bcells) ⌝ }
     ensures { λ w. ⌜ InputAfter settings (now (cells .entry)) (now (rows .entry)) (now (nodes .entry)) (now (fields .entry)) (now (widths .entry)) (now (keys .entry)) (results (now (records .entry)) (now (items .entry)) (now (icells .entry))) (results (now (records .exit)) (now (items .exit)) (now (icells .exit))) k ask topped used w ⌝ }
 {
     let w = optimize_projections(
@@ -344,28 +337,26 @@ pub fn optimize_input(
 /// The pass over node `k` with a projection still to be put on top: merged with the next one as long as a step applies. Rust:
 /// `merge_consecutive_projections`.
 pub fn merge_projections(
-    cells: &[u64],
+    cells: &[u64; 12288],
     rows: &[u16],
-    nodes: &[u64],
+    nodes: &[u64; 1792],
     fields: &[u16],
-    widths: &[u64],
-    keys: &[u64],
+    widths: &[u64; 512],
+    keys: &[u64; 2448],
     settings: Settings,
     k: usize,
     list: Pending,
     request: RequiredIndices,
-    arows: &mut [u16],
-    acells: &mut [u64],
-    brows: &mut [u16],
-    bcells: &mut [u64],
-    records: &mut [u64],
-    items: &mut [u16],
-    icells: &mut [u64],
+    arows: &mut [u16; 2048],
+    acells: &mut [u64; 12288],
+    brows: &mut [u16; 2048],
+    bcells: &mut [u64; 12288],
+    records: &mut [u64; 3328],
+    items: &mut [u16; 16896],
+    icells: &mut [u64; 12288],
     used: Used,
 ) -> Walked
     requires { ⌜ BeforeList (now cells) (now rows) (now nodes) (now fields) (now widths) (now keys) (now arows) (now acells) (results (now records) (now items) (now icells)) k list request used ⌝ }
-    requires { ⌜ Scratch (now arows) (now acells) ⌝ }
-    requires { ⌜ Scratch (now brows) (now bcells) ⌝ }
     ensures { λ w. ⌜ ListAfter settings (now (cells .entry)) (now (rows .entry)) (now (nodes .entry)) (now (fields .entry)) (now (widths .entry)) (now (keys .entry)) (now (arows .entry)) (now (acells .entry)) (results (now (records .entry)) (now (items .entry)) (now (icells .entry))) (results (now (records .exit)) (now (items .exit)) (now (icells .exit))) k list request used w ⌝ }
 {
     let node = tree::node_at(nodes, k);
@@ -484,28 +475,26 @@ pub fn merge_projections(
 /// The pending list over node `k`: its items at the request, over node `k` asked for the columns they use. Rust:
 /// `rewrite_projection_given_requirements`.
 pub fn rewrite_projection_given_requirements(
-    cells: &[u64],
+    cells: &[u64; 12288],
     rows: &[u16],
-    nodes: &[u64],
+    nodes: &[u64; 1792],
     fields: &[u16],
-    widths: &[u64],
-    keys: &[u64],
+    widths: &[u64; 512],
+    keys: &[u64; 2448],
     settings: Settings,
     k: usize,
     list: Pending,
     request: RequiredIndices,
-    arows: &mut [u16],
-    acells: &mut [u64],
-    brows: &mut [u16],
-    bcells: &mut [u64],
-    records: &mut [u64],
-    items: &mut [u16],
-    icells: &mut [u64],
+    arows: &mut [u16; 2048],
+    acells: &mut [u64; 12288],
+    brows: &mut [u16; 2048],
+    bcells: &mut [u64; 12288],
+    records: &mut [u64; 3328],
+    items: &mut [u16; 16896],
+    icells: &mut [u64; 12288],
     used: Used,
 ) -> Walked
     requires { ⌜ BeforeList (now cells) (now rows) (now nodes) (now fields) (now widths) (now keys) (now arows) (now acells) (results (now records) (now items) (now icells)) k list request used ⌝ }
-    requires { ⌜ Scratch (now arows) (now acells) ⌝ }
-    requires { ⌜ Scratch (now brows) (now bcells) ⌝ }
     ensures { λ w. ⌜ PutAfter settings (now (cells .entry)) (now (rows .entry)) (now (nodes .entry)) (now (fields .entry)) (now (widths .entry)) (now (keys .entry)) (now (arows .entry)) (now (acells .entry)) (results (now (records .entry)) (now (items .entry)) (now (icells .entry))) (results (now (records .exit)) (now (items .exit)) (now (icells .exit))) k list request used w ⌝ }
 {
     let start = lookup::first_at(widths, k);

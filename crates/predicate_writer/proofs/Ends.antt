@@ -15,9 +15,8 @@ use Rattle.rules.specs.Answer.{written}
 use Rattle.arena.specs.Cells.{Wf}
 use Rattle.tree.specs.Rows.{onAt}
 use Rattle.writer_parts.specs.Wrote.{Countable, Laid, Wrote, over}
-use Rattle.writer_parts.specs.Lists.{PartsOk, countedList, listTags}
+use Rattle.writer_parts.specs.Lists.{PartsOk, Which, countedList, listTags}
 use Rattle.writer_parts.specs.declared.Part.the-variants as part
-use Rattle.writer_parts.specs.declared.Which.{Which}
 use Rattle.writer_parts.proofs.Lists.{after-count, all-row-tags, counted-all-rows}
 use Rattle.writer_parts.proofs.Exprs.{byte}
 use Rattle.writer_parts.proofs.Over.{length-bytes, so, start, then}

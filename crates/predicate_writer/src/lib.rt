@@ -12,6 +12,7 @@ ghost use Rattle.writer_parts.specs.Wrote.{Countable};
 ghost use Rattle.predicate_writer.specs.Left.{leftOf, LeftOk};
 use answers::Answer;
 use join_key_set::Left;
+use required_indices::RequiredIndices;
 use writer_parts::Part;
 
 /// The first n pairs: counted, and written where they fit.
@@ -28,13 +29,34 @@ pub fn write_keys(
     ensures { λ r. ⌜ AnswerIs (written (keysBytes (keysAt (now (cells .entry)) (now (pairs .entry)) 0 n)) (now (out .entry))) r (now (out .exit)) ⌝ }
 {
     key_rows::rows_of(pairs, n, rows);
-    let all = writer_parts::everything();
-    let size = writer_parts::counted_size(1, Part::On, rows, cells, 0, n, all);
+    let none = RequiredIndices::new();
+    let size = writer_parts::counted_size(
+        1,
+        Part::On,
+        rows,
+        cells,
+        0,
+        n,
+        true,
+        &none.indices,
+        none.used,
+    );
     let needed = size.bytes;
     if needed > out.len() {
         return answers::refuse(13, needed);
     }
-    let length = writer_parts::write_counted(1, Part::On, rows, cells, 0, n, all, out);
+    let length = writer_parts::write_counted(
+        1,
+        Part::On,
+        rows,
+        cells,
+        0,
+        n,
+        true,
+        &none.indices,
+        none.used,
+        out,
+    );
     Answer {
         code: 0,
         length,

@@ -6,7 +6,7 @@ use Prim.Native.Nat.{ℕ, suc, _+_, _^_, _<_, _≤_}
 use native.Mathlib.Omega.{arith}
 use lib.ListN.{length}
 use Rattle.rules.specs.Mask.{Mask, select}
-use Rattle.required_indices.specs.Request.{Asks, IsNext, requestMask, setOf}
+use Rattle.required_indices.specs.Request.{Asks, IsNext, flagOf, requestMask, setOf}
 use Rattle.required_indices.specs.declared.RequiredIndices.{RequiredIndices}
 use Rattle.required_indices.specs.declared.Next.{Next}
 use Rattle.required_indices.specs.declared.Next.the-variants.{At, Nothing}
@@ -20,7 +20,7 @@ use Rattle.projections.specs.Lists.{keptItems}
 
 -- a request within n asks for its own mask over n
 pub own-asks : (n : ℕ) (r : RequiredIndices) → setOf r < 2 ^ n → Asks r (requestMask n r)
-own-asks n r h = asks n {b = r .«projection_beneficial»} (record { set = refl; flag = refl }) refl h
+own-asks n r h = asks n {b = flagOf r} (record { set = refl; flag = refl }) refl h
 
 module _ {A : Type 0} (read : ℕ → A) (f : ℕ) where
   -- what the indices from `from` on choose

@@ -50,6 +50,9 @@ module _ (items cells : List ℕ) (first count : ℕ) (kept : RequiredIndices) (
     pub copying-room : (row + n) * 4 + 3 < length rows′
     copying-room = omega (arith, p .behind, wf-fits dst′ more (p .listing .wf), o .rows-fit, p .listing .kept .long, p .listing .rows-kept .long)
 
+    pub copying-few : row + n ≤ 65536
+    copying-few = omega (arith, p .behind, wf-fits dst′ more (p .listing .wf), o .few, p .listing .kept .long)
+
     pub copying-dst : (length dst′ ≤ 196608) × Wf dst′ more
     copying-dst = (omega (arith, o .few, p .listing .kept .long), p .listing .wf)
 

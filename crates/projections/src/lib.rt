@@ -26,7 +26,7 @@ pub fn all_bare(items: &[u16], first: usize, count: usize, kept: RequiredIndices
 {
     let mut from = 0;
     loop {
-        let Next::At(i) = kept.next(from) else {
+        let Next::At(i) = RequiredIndices::next(&kept.indices, kept.used, from) else {
             return true;
         };
         let row = arena::row_at(items, first + i);
@@ -56,13 +56,13 @@ pub fn is_projection_unnecessary(
     let mut from = 0;
     let mut at = 0;
     loop {
-        let Next::At(i) = kept.next(from) else {
-            let Next::At(_) = input_kept.next(at) else {
+        let Next::At(i) = RequiredIndices::next(&kept.indices, kept.used, from) else {
+            let Next::At(_) = RequiredIndices::next(&input_kept.indices, input_kept.used, at) else {
                 return true;
             };
             return false;
         };
-        let Next::At(j) = input_kept.next(at) else {
+        let Next::At(j) = RequiredIndices::next(&input_kept.indices, input_kept.used, at) else {
             return false;
         };
         let f = lookup::field_at(fields, start + i);
@@ -104,7 +104,7 @@ pub fn copy_kept(
     let mut rows = 0;
     let mut from = 0;
     loop {
-        let Next::At(i) = kept.next(from) else {
+        let Next::At(i) = RequiredIndices::next(&kept.indices, kept.used, from) else {
             return Copied::Done { rows, used: most };
         };
         let at = first + i;
@@ -130,13 +130,14 @@ fn put(records: &mut [u64], used: usize, node: Record, set: RequiredIndices) -> 
     requires { ⌜ maxNodes * recordN ≤ length (now records) ⌝ }
     ensures { λ r. ⌜ PutIs (now (records .entry)) (now (records .exit)) used node (setOf set) r ⌝ }
 {
-    let p = result::push_record(records, used, node, set);
+    let p = result::push_record(records, used, node, &set.indices, set.used);
     let Pushed::At(i) = p else {
         return Topped::Full;
     };
+    let more = used + 1;
     Topped::Done {
         record: i,
-        used: used + 1,
+        used: more,
     }
 }
 
@@ -153,8 +154,8 @@ pub fn add_projection_on_top_if_helpful(
     requires { ⌜ maxNodes * recordN ≤ length (now records) ⌝ }
     ensures { λ r. ⌜ ToppedUp (now (records .entry)) (now (records .exit)) used «record» k asked «input_kept» r ⌝ }
 {
-    let few = asked.len();
-    let many = input_kept.len();
+    let few = RequiredIndices::len(&asked.indices, asked.used);
+    let many = RequiredIndices::len(&input_kept.indices, input_kept.used);
     if few < many {
         let node = Record::Columns {
             old: k,

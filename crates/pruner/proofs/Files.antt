@@ -16,7 +16,7 @@ use Rattle.cpl.proofs.RoundTrip.{written-read}
 use Rattle.rules.specs.Success.{sourceOf}
 use Rattle.intake.specs.Intake.{Taken}
 use Rattle.intake.specs.declared.Intake.{Intake}
-use Rattle.pruner.specs.Answers.{Heads}
+use Rattle.delivery.specs.Delivery.{Heads}
 
 head-bytes : (C : Catalogue) (p : Plan) → bytesOf (sourceOf C p) ≡ (markBytes (C .version) ++ catalogueBytes C) ++ planBytes (C .version) p
 unfolding bytesOf

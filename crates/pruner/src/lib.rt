@@ -2,129 +2,14 @@
 //!
 //! `prune` and `prune_all` make the arrays that a plan is read into and rewritten in, as long as the file's version needs them; `prune_in` is lent them,
 //! and says nothing of what they held or hold.
-ghost use mathlib.Core.Path.{_≡_};
-ghost use mathlib.Core.List.{_++_};
-ghost use Prim.Native.Nat.{_≤_};
-ghost use lib.ListN.{length, take};
-ghost use Rattle.cpl.specs.Bytes.{planBytes};
-ghost use Rattle.cpl.specs.Exprs.{planTags};
 ghost use Rattle.cpl.specs.Tests.{iota};
 ghost use Rattle.rules.specs.Answer as rules;
 ghost use Rattle.answers.specs.Answers.{AnswerIs};
-ghost use Rattle.versions.specs.Versions.{versionOf};
 ghost use Rattle.intake.specs.Intake.{wanted};
-ghost use Rattle.writer.specs.Plans.{Writes, planOf};
-ghost use Rattle.acceptance.specs.Readings.{Narrow, Room};
-ghost use Rattle.pruner.specs.Answers.{Promised, ResultRoom, Rewritten, delivered};
+ghost use Rattle.acceptance.specs.Readings.{Narrow};
+ghost use Rattle.pruner.specs.Answers.{Promised, RoomWith};
 use answers::Answer;
 use optimize_projections::Settings;
-use versions::Version;
-use walk_steps::End;
-use walk_steps::Used;
-
-// The plan of a record, after the first `start` bytes of the file: counted, and written where it fits.
-fn write_out(
-    version: Version,
-    file: &[u8],
-    start: usize,
-    cells: &[u64],
-    rows: &[u16],
-    nodes: &[u64],
-    fields: &[u16],
-    widths: &[u64],
-    records: &[u64],
-    items: &[u16],
-    icells: &[u64],
-    root: usize,
-    out: &mut [u8],
-) -> Answer
-    requires { ⌜ start ≤ length (now file) ⌝ }
-    requires { ⌜ Writes version (now cells) (now rows) (now nodes) (now fields) (now widths) (now records) (now items) (now icells) root ⌝ }
-    ensures { λ r. ⌜ ((w : Writes version (now (cells .entry)) (now (rows .entry)) (now (nodes .entry)) (now (fields .entry)) (now (widths .entry)) (now (records .entry)) (now (items .entry)) (now (icells .entry)) root) → AnswerIs (delivered (planTags (planOf w)) (take start (now (file .entry)) ++ planBytes (versionOf version) (planOf w)) (now (out .entry))) r (now (out .exit))) ⌝ }
-{
-    let size = writer::node_size(
-        version,
-        cells,
-        rows,
-        nodes,
-        fields,
-        widths,
-        records,
-        items,
-        icells,
-        root,
-    );
-    if size.tags > 4096 {
-        return answers::refuse(12, 0);
-    }
-    let needed = start + size.bytes;
-    if needed > out.len() {
-        return answers::refuse(13, needed);
-    }
-    let length = writer::write_plan(
-        version,
-        file,
-        start,
-        cells,
-        rows,
-        nodes,
-        fields,
-        widths,
-        records,
-        items,
-        icells,
-        root,
-        out,
-    );
-    Answer {
-        code: 0,
-        length,
-        place: 0,
-    }
-}
-
-// What the walk left: too large, or a plan to be written.
-fn deliver(
-    version: Version,
-    file: &[u8],
-    start: usize,
-    cells: &[u64],
-    rows: &[u16],
-    nodes: &[u64],
-    fields: &[u16],
-    widths: &[u64],
-    records: &[u64],
-    items: &[u16],
-    icells: &[u64],
-    end: End,
-    out: &mut [u8],
-) -> Answer
-    requires { ⌜ Rewritten version (now file) start (now cells) (now rows) (now nodes) (now fields) (now widths) (now records) (now items) (now icells) end ⌝ }
-    ensures { λ r. ⌜ ((x : Rewritten version (now (file .entry)) start (now (cells .entry)) (now (rows .entry)) (now (nodes .entry)) (now (fields .entry)) (now (widths .entry)) (now (records .entry)) (now (items .entry)) (now (icells .entry)) end) → AnswerIs (rules.deliver (rules.finish (x .standing .C) (x .walked)) (now (out .entry))) r (now (out .exit))) ⌝ }
-{
-    let End::Done {
-        record: root,
-        used: _,
-    } = end
-    else {
-        return answers::refuse(12, 0);
-    };
-    write_out(
-        version,
-        file,
-        start,
-        cells,
-        rows,
-        nodes,
-        fields,
-        widths,
-        records,
-        items,
-        icells,
-        root,
-        out,
-    )
-}
 
 // The answer to a request of `all` fields or of those of the list, worked out in lent arrays that are long enough for the file's version.
 fn prune_over(
@@ -134,23 +19,22 @@ fn prune_over(
     file: &[u8],
     request: &[u16],
     out: &mut [u8],
-    cells: &mut [u64],
+    cells: &mut [u64; 12288],
     rows: &mut [u16],
-    nodes: &mut [u64],
-    names: &mut [u16],
+    nodes: &mut [u64; 1792],
+    names: &mut [u16; 8208],
     fields: &mut [u16],
-    widths: &mut [u64],
-    keys: &mut [u64],
-    arows: &mut [u16],
-    acells: &mut [u64],
-    brows: &mut [u16],
-    bcells: &mut [u64],
-    records: &mut [u64],
-    items: &mut [u16],
-    icells: &mut [u64],
+    widths: &mut [u64; 512],
+    keys: &mut [u64; 2448],
+    arows: &mut [u16; 2048],
+    acells: &mut [u64; 12288],
+    brows: &mut [u16; 2048],
+    bcells: &mut [u64; 12288],
+    records: &mut [u64; 3328],
+    items: &mut [u16; 16896],
+    icells: &mut [u64; 12288],
 ) -> Answer
-    requires { ⌜ Room (now file) (now cells) (now rows) (now nodes) (now names) (now fields) (now widths) (now keys) ⌝ }
-    requires { ⌜ ResultRoom (now arows) (now acells) (now brows) (now bcells) (now records) (now items) (now icells) ⌝ }
+    requires { ⌜ RoomWith (now file) (now rows) (now fields) ⌝ }
     ensures { λ r. ⌜ AnswerIs (rules.reply mode mask (now (file .entry)) (wanted all (now (request .entry))) (now (out .entry))) r (now (out .exit)) ⌝ }
     ensures { λ r. ⌜ Promised mode mask (now (file .entry)) (wanted all (now (request .entry))) (now (out .entry)) (r .code) ⌝ }
 {
@@ -180,33 +64,8 @@ fn prune_over(
         house: mode == 1,
         mask,
     };
-    let used = Used {
-        records: 0,
-        rows: 0,
-        cells: 0,
-    };
     let set = t.set;
-    let w = optimize_projections::optimize_projections(
-        cells,
-        rows,
-        nodes,
-        fields,
-        widths,
-        keys,
-        settings,
-        0,
-        set,
-        arows,
-        acells,
-        brows,
-        bcells,
-        records,
-        items,
-        icells,
-        used,
-    );
-    let end = w.end;
-    deliver(
+    delivery::walk_and_deliver(
         t.version,
         file,
         t.start,
@@ -215,10 +74,16 @@ fn prune_over(
         nodes,
         fields,
         widths,
+        keys,
+        settings,
+        set,
+        arows,
+        acells,
+        brows,
+        bcells,
         records,
         items,
         icells,
-        end,
         out,
     )
 }
@@ -329,7 +194,7 @@ fn prune_wide(
     )
 }
 
-// The same in arrays of its own, for a file whose nodes have at most 128 fields.
+// The same in arrays of its own, for a file whose nodes have at most 128 fields. None are made for a setting that is refused.
 fn prune_narrow(
     mode: u8,
     mask: u16,
@@ -342,6 +207,12 @@ fn prune_narrow(
     ensures { λ r. ⌜ AnswerIs (rules.reply mode mask (now (file .entry)) (wanted all (now (request .entry))) (now (out .entry))) r (now (out .exit)) ⌝ }
     ensures { λ r. ⌜ Promised mode mask (now (file .entry)) (wanted all (now (request .entry))) (now (out .entry)) (r .code) ⌝ }
 {
+    if mode > 1 {
+        return answers::refuse(1, 0);
+    }
+    if mask > 4095 {
+        return answers::refuse(1, 0);
+    }
     let mut cells = [0u64; 12288];
     let mut rows = [0u16; 278656];
     let mut nodes = [0u64; 1792];

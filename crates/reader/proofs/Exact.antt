@@ -10,7 +10,7 @@ use Rattle.cpl.specs.Read.{Res, ok, bad}
 use Rattle.cpl.specs.ReadPlan.{readFile}
 use Rattle.versions.specs.Versions.{versionOf}
 use Rattle.versions.specs.declared.Version.{Version}
-use Rattle.reader.specs.Tables.{tablesAt}
+use Rattle.catalogue.specs.Tables.{tablesAt}
 use Rattle.key_sets.specs.Slots.{TableKeys}
 use Rattle.reader.specs.Plans.{Holds, TookFile, RightFile}
 use Rattle.reader.specs.declared.Read as answer

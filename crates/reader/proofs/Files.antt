@@ -18,9 +18,10 @@ use Rattle.versions.specs.Versions.{versionOf, Known}
 use Rattle.versions.specs.declared.Version.{Version}
 use Rattle.reader_fields.specs.Answers.{spot}
 use Rattle.reader_fields.specs.declared.Spot.{Spot}
-use Rattle.reader.specs.Tables.{tablesAt, readTable}
-use Rattle.reader.specs.Keys.{MarkIs, TablesPut}
-use Rattle.reader.proofs.Names.{catalogueAt}
+use Rattle.catalogue.specs.Tables.{tablesAt, readTable}
+use Rattle.catalogue.specs.Keys.{TablesPut}
+use Rattle.reader.specs.Marks.{MarkIs}
+use Rattle.catalogue.proofs.Names.{catalogueAt}
 use Rattle.reader.specs.Plans.{TookPlan, ReadsPlan, readBody, Holds, TookBody, RightBody, RightFile}
 use Rattle.reader.specs.declared.Marked.the-variants as marked
 use Rattle.reader.specs.declared.Planned.the-variants as planned

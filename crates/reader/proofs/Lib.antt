@@ -1,6 +1,4 @@
 -- What is proved of the reader of plan files.
-pub mod Names
-pub mod Keys
 pub mod Rooms
 pub mod Sizes
 pub mod Plans

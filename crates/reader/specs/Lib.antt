@@ -1,4 +1,3 @@
 -- What the reader of a plan file answers and stores.
-pub mod Tables
-pub mod Keys
+pub mod Marks
 pub mod Plans

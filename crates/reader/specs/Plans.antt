@@ -15,7 +15,7 @@ use Rattle.versions.specs.Versions.{versionOf, nodeRows}
 use Rattle.versions.specs.declared.Version.{Version}
 use Rattle.key_sets.specs.Slots.{TableKeys}
 use Rattle.reader_fields.specs.declared.Spot.{Spot}
-use Rattle.reader.specs.Tables.{tablesAt}
+use Rattle.catalogue.specs.Tables.{tablesAt}
 use Rattle.reader.specs.declared.Planned.{Planned}
 use Rattle.reader.specs.declared.Planned.the-variants as planned
 use Rattle.reader.specs.declared.Read as answer

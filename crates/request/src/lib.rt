@@ -32,6 +32,7 @@ pub fn check_request(request: &[u16], width: usize) -> Requested
     ensures { λ r. ⌜ RequestIs width (now (request .entry)) r (requestFault width (now (request .entry))) ⌝ }
 {
     let mut set = RequiredIndices::new();
+    let mut used = set.used;
     let mut least: usize = 0;
     let mut i = 0;
     while i < request.len() {
@@ -42,10 +43,11 @@ pub fn check_request(request: &[u16], width: usize) -> Requested
         if width <= x {
             return refused_at(i);
         }
-        set = set.with_index(x);
+        used = RequiredIndices::insert(&mut set.indices, used, x);
         least = x + 1;
         i += 1;
     }
+    set.used = used;
     Requested {
         refused: false,
         place: 0,

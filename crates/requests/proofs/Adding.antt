@@ -21,7 +21,7 @@ use Rattle.rules.proofs.Plus.{plus-absent, plus-bin, plus-found, plus-none, plu
 use Rattle.required_indices.specs.Request.{Asks, Holds, flagOf, setOf}
 use Rattle.required_indices.specs.declared.RequiredIndices.{RequiredIndices}
 use Rattle.required_indices.proofs.Methods.{index-asks, new-asks}
-use Rattle.requests.specs.Asked.{Adds}
+use Rattle.requests.specs.Asked.{Adds, ofWords}
 
 -- ── expressions ─────────────────────────────────────────────────────────────────────────────
 
@@ -34,6 +34,15 @@ adds-none = adds-nothing [] (λ R f. plus-none f)
 
 pub adds-then : (ds es : List Expr) {fs : List Pair} {r s out : RequiredIndices} → Adds ds fs r s → Adds es fs s out → Adds (ds ++ es) fs r out
 adds-then ds es {fs} {out = out} d e = record { flag = e .flag ∙ d .flag; asks = λ R f a. subst (Asks out) (plus-then ds es fs R) (e .asks (plus ds fs R) (plus-fit ds f) (d .asks R f a)) }
+
+-- columns that were added to a request's words are added to the request, whose flag stays
+pub adds-words : (es : List Expr) {fs : List Pair} {r out : RequiredIndices} → flagOf out ≡ flagOf r → Adds es fs (ofWords (r .indices) (r .used)) (ofWords (out .indices) (out .used)) → Adds es fs r out
+adds-words es f d = record {
+  flag = f;
+  asks = λ R g a.
+      let b = d .asks R g (record { mask = a .mask; within = a .within }) in
+      record { mask = b .mask; within = b .within };
+}
 
 -- an expression that is known to be x
 known-as : {fs : List Pair} {r out : RequiredIndices} {e x : Expr} → e ≡ x → Adds (x ∷ []) fs r out → Adds (e ∷ []) fs r out

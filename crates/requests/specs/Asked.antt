@@ -22,6 +22,10 @@ pub record Below (fields : List ℕ) (start width : ℕ) : Type 0 where
   pub inside : RowIn fields start width
   pub few : width ≤ wordsN * 64
 
+-- the request of the first `used` of some words, without the flag
+abbrev pub ofWords : (ws : List ℕ) (used : ℕ) → RequiredIndices
+ofWords ws used = record { indices = ws; used = used; «projection_beneficial» = 0 }
+
 -- a request with the columns that the references of the expressions find; the flag stays
 pub record Adds (es : List Expr) (fs : List Pair) (r out : RequiredIndices) : Type 0 where
   pub flag : flagOf out ≡ flagOf r

@@ -2,7 +2,7 @@
 //! `split_join_requirements` of `optimize_projections/mod.rs`.
 //!
 //! Each function adds to a request the columns of some expressions: what each reference finds among the fields of an input, `width` fields from
-//! field `start` on. `Adds` says what mask the request then asks for.
+//! field `start` on. `Adds` says what mask the request then asks for. Columns are added in place, to lent words.
 ghost use mathlib.Core.Bool.{false};
 ghost use mathlib.Core.Path.{_≡_};
 ghost use mathlib.Core.List.{List, [], _∷_, map};
@@ -12,17 +12,53 @@ ghost use Rattle.cpl.specs.Exprs.{callExprs, aggExprs, winExprs};
 ghost use Rattle.cpl.specs.Plan.{itemExpr};
 ghost use Rattle.cpl.specs.Tests.{concatMap};
 ghost use Rattle.rules.specs.Mask.{select};
-ghost use Rattle.required_indices.specs.Request.{Holds, requestMask};
+ghost use Rattle.required_indices.specs.Request.{Holds, Lent, requestMask};
 ghost use Rattle.arena.specs.Cells.{exprAt, Wf};
 ghost use Rattle.arena.specs.Rows.{itemsAt, RowsOk};
 ghost use Rattle.tree.specs.Rows.{AggOk, AllAt, EachOk, WinOk, aggsAt, callOf, winAt, winSize, winsAt};
 ghost use Rattle.lookup.specs.Fields.{rowAt};
-ghost use Rattle.requests.specs.Asked.{Adds, Below, Parted, RootsOk, rootsAt};
+ghost use Rattle.requests.specs.Asked.{Adds, Below, Parted, RootsOk, ofWords, rootsAt};
 use arena::View;
 use lookup::Fit;
 use required_indices::RequiredIndices;
 use required_indices::Split;
+use required_indices::WORDS;
 use tree::JoinType;
+
+// The columns of the expression of node `i`, whose nodes are well formed, added in place; answers how many words are then in use.
+fn add(
+    indices: &mut [u64; WORDS],
+    used: usize,
+    cells: &[u64],
+    i: usize,
+    fields: &[u16],
+    start: usize,
+    width: usize,
+) -> usize
+    requires { ⌜ Wf (now cells) (i + 1) ⌝ }
+    requires { ⌜ Below (now fields) start width ⌝ }
+    requires { ⌜ Lent (now indices) ⌝ }
+    ensures { λ n. ⌜ Adds (exprAt (now (cells .entry)) i ∷ []) (rowAt (now (fields .entry)) start width) (ofWords (now (indices .entry)) used) (ofWords (now (indices .exit)) n) ⌝ }
+    ensures { λ _. ⌜ Lent (now (indices .exit)) ⌝ }
+{
+    let v = arena::node_at(cells, i);
+    match v {
+        View::Col(q, n) => {
+            let f = lookup::first_fit(fields, start, width, q, n);
+            let Fit::At(j) = f else {
+                return used;
+            };
+            RequiredIndices::insert(indices, used, j)
+        }
+        View::Lit(_) => used,
+        View::Miss => used,
+        View::One(_, x) => add(indices, used, cells, x, fields, start, width),
+        View::Two(_, x, y) => {
+            let more = add(indices, used, cells, x, fields, start, width);
+            add(indices, more, cells, y, fields, start, width)
+        }
+    }
+}
 
 /// The columns of the expression of node `i`, whose nodes are well formed. Rust: `add_expr`.
 pub fn add_expr(
@@ -37,23 +73,11 @@ pub fn add_expr(
     requires { ⌜ Below (now fields) start width ⌝ }
     ensures { λ out. ⌜ Adds (exprAt (now (cells .entry)) i ∷ []) (rowAt (now (fields .entry)) start width) r out ⌝ }
 {
-    let v = arena::node_at(cells, i);
-    match v {
-        View::Col(q, n) => {
-            let f = lookup::first_fit(fields, start, width, q, n);
-            let Fit::At(j) = f else {
-                return r;
-            };
-            r.with_index(j)
-        }
-        View::Lit(_) => r,
-        View::Miss => r,
-        View::One(_, x) => add_expr(r, cells, x, fields, start, width),
-        View::Two(_, x, y) => {
-            let s = add_expr(r, cells, x, fields, start, width);
-            add_expr(s, cells, y, fields, start, width)
-        }
-    }
+    let mut out = r;
+    let n = r.used;
+    let used = add(&mut out.indices, n, cells, i, fields, start, width);
+    out.used = used;
+    out
 }
 
 // A 16-bit number as an index.
@@ -81,12 +105,14 @@ pub fn with_roots(
     ensures { λ out. ⌜ Adds (rootsAt (now (rows .entry)) (now (cells .entry)) at first count) (rowAt (now (fields .entry)) start width) r out ⌝ }
 {
     let mut out = r;
+    let mut used = r.used;
     let mut i = 0;
     while i < count {
         let root = wide(rows[(first + i) * 4 + at]);
-        out = add_expr(out, cells, root, fields, start, width);
+        used = add(&mut out.indices, used, cells, root, fields, start, width);
         i += 1;
     }
+    out.used = used;
     out
 }
 
@@ -107,14 +133,24 @@ pub fn with_items(
     ensures { λ out. ⌜ Adds (map itemExpr (select (requestMask count kept) (itemsAt (now (items .entry)) (now (cells .entry)) first count))) (rowAt (now (fields .entry)) start width) r out ⌝ }
 {
     let mut out = r;
+    let mut used = r.used;
     let mut i = 0;
     while i < count {
-        if kept.contains(i) {
+        if RequiredIndices::contains(&kept.indices, kept.used, i) {
             let row = arena::row_at(items, first + i);
-            out = add_expr(out, cells, row.root, fields, start, width);
+            used = add(
+                &mut out.indices,
+                used,
+                cells,
+                row.root,
+                fields,
+                start,
+                width,
+            );
         }
         i += 1;
     }
+    out.used = used;
     out
 }
 
@@ -157,7 +193,7 @@ pub fn with_aggregates(
     let mut out = r;
     let mut i = 0;
     while i < count {
-        if kept.contains(i) {
+        if RequiredIndices::contains(&kept.indices, kept.used, i) {
             let a = tree::agg_at(rows, first + i);
             out = with_call(out, a.function, a.root, cells, fields, start, width);
         }
@@ -207,7 +243,7 @@ pub fn with_windows(
     let mut i = 0;
     while i < count {
         let w = tree::win_at(rows, at);
-        if kept.contains(i) {
+        if RequiredIndices::contains(&kept.indices, kept.used, i) {
             out = with_window(out, rows, at, cells, fields, start, width);
         }
         at = w.next;

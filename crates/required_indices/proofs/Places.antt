@@ -2,16 +2,16 @@
 use mathlib.Core.Path.{_≡_, sym, _∙_, ap, ap₂}
 use mathlib.Core.Logic.{⊎-elim}
 use mathlib.Core.List.{List, [], _∷_}
-use Prim.Native.Nat.{ℕ, suc, _+_, _-_, _*_, _/_, _%_, _^_, _≤_, _<_}
+use Prim.Native.Nat.{ℕ, zero, suc, _+_, _-_, _*_, _/_, _%_, _^_, _≤_, _<_}
 use native.Mathlib.Omega.{arith}
 use lib.Bits.{bitOr}
-use lib.ListN.{length, getD, set, length-take}
+use lib.ListN.{length, getD, set, length-set, length-take}
 use mir.Val.{Fits}
 use mir.Syntax.{w64}
 use Rattle.cpl.specs.Lists.{All, a[], _a∷_}
 use Rattle.required_indices.specs.Set.{has}
 use Rattle.required_indices.specs.Words.{number, Word}
-use Rattle.required_indices.specs.Request.{wordsN, setOf}
+use Rattle.required_indices.specs.Request.{wordsN, Lent, setOf}
 use Rattle.required_indices.specs.declared.RequiredIndices.{RequiredIndices}
 use Rattle.required_indices.proofs.Members.{side, has-none}
 use Rattle.required_indices.proofs.Words.{number-has, number-has-past, number-add, number-add-past}
@@ -21,6 +21,17 @@ use Rattle.required_indices.proofs.Pads.{fits-long, words-take}
 pub words : (ws : List ℕ) → ((i : ℕ) → Fits w64 (getD ws i 0)) → All Word ws
 words [] f = a[]
 words (w ∷ ws) f = f 0 .fits a∷ words ws (λ i. f (suc i))
+
+each-set : (ws : List ℕ) (i x : ℕ) → Fits w64 x → ((j : ℕ) → Fits w64 (getD ws j 0)) → (j : ℕ) → Fits w64 (getD (set ws i x) j 0)
+each-set [] i x f h j = h j
+each-set (w ∷ ws) zero x f h zero = f
+each-set (w ∷ ws) zero x f h (suc j) = h (suc j)
+each-set (w ∷ ws) (suc i) x f h zero = h 0
+each-set (w ∷ ws) (suc i) x f h (suc j) = each-set ws i x f (λ k. h (suc k)) j
+
+-- a word put among words that are lent
+pub lent-set : (ws : List ℕ) (i x : ℕ) → x < 2 ^ 64 → Lent ws → Lent (set ws i x)
+lent-set ws i x f h = (length-set ws i x ∙ h .0, each-set ws i x (record { fits = f }) (h .1))
 
 -- index i is digit i % 64 of word i / 64
 pub has-at : {ws : List ℕ} → All Word ws → (i : ℕ) → has (number ws) i ≡ has (getD ws (i / 64) 0) (i % 64)

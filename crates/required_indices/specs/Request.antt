@@ -3,7 +3,10 @@ use mathlib.Core.Path.{_≡_}
 use mathlib.Core.Bool.{Bool, true, false}
 use mathlib.Core.List.{List, _∷_}
 use Prim.Native.Nat.{ℕ, _+_, _^_, _≤_, _<_, min}
+use lib.Dec.{eqb}
 use lib.ListN.{length, getD, take, drop}
+use mir.Val.{Fits}
+use mir.Syntax.{w64}
 use Rattle.rules.specs.Mask.{Mask}
 use Rattle.required_indices.specs.Set.{has, setMask}
 use Rattle.required_indices.specs.Words.{number}
@@ -19,12 +22,20 @@ wordsN = 8
 abbrev pub wordsOf : RequiredIndices → List ℕ
 wordsOf r = take (r .used) (r .indices)
 
-abbrev pub setOf : RequiredIndices → ℕ
-setOf r = number (wordsOf r)
+-- words that are lent: as many as there are, each of 64 digits
+abbrev pub Lent : List ℕ → Type 0
+Lent ws = (length ws ≡ wordsN) × ((j : ℕ) → Fits w64 (getD ws j 0))
 
--- the flag: `projection_beneficial` of the Rust
+-- the set that the first `used` of some words hold
+abbrev pub setIn : List ℕ → ℕ → ℕ
+setIn ws used = number (take used ws)
+
+abbrev pub setOf : RequiredIndices → ℕ
+setOf r = setIn (r .indices) (r .used)
+
+-- the flag: `projection_beneficial` of the Rust, which stands as 1
 abbrev pub flagOf : RequiredIndices → Bool
-flagOf r = r .«projection_beneficial»
+flagOf r = eqb (r .«projection_beneficial») 1
 
 -- the request holds the set s, with the flag b
 pub record Holds (r : RequiredIndices) (s : ℕ) (b : Bool) : Type 0 where
@@ -50,8 +61,11 @@ abbrev pub storedN : ℕ
 storedN = 1 + wordsN
 
 -- the numbers that are stored of a set: how many words are in use, and these
+abbrev pub storedIn : List ℕ → ℕ → List ℕ
+storedIn ws used = length (take used ws) ∷ take used ws
+
 abbrev pub stored : RequiredIndices → List ℕ
-stored r = length (wordsOf r) ∷ wordsOf r
+stored r = storedIn (r .indices) (r .used)
 
 -- the set that is stored from at on
 abbrev pub storedAt : List ℕ → ℕ → ℕ

@@ -5,6 +5,9 @@
 //! i is in it where digit i of the words, the lowest word first, is 1. Only the first `used` words
 //! count, and every loop goes over these: what the others hold does not matter. Every contract says
 //! what a set is by `setOf`, the number that its words hold; `proofs/Methods.antt` says the same by masks.
+//!
+//! A function that only reads a set, or changes it in place, is lent its words and given how many are in
+//! use, so that the set is not copied: `RequiredIndices::contains(&r.indices, r.used, i)`.
 ghost use mathlib.Core.Path.{_≡_};
 ghost use mathlib.Core.Bool.{true, false};
 ghost use mathlib.Core.List.{_++_};
@@ -16,20 +19,21 @@ ghost use lib.ListN.{getD, length, replicate, take};
 ghost use lib.Seq.{paste};
 ghost use Rattle.required_indices.specs.Set.{has};
 ghost use Rattle.required_indices.specs.Words.{number};
-ghost use Rattle.required_indices.specs.Request.{wordsN, setOf, flagOf, Holds, IsNext, storedN, stored, storedAt};
+ghost use Rattle.required_indices.specs.Request.{wordsN, Lent, setIn, setOf, flagOf, Holds, IsNext, storedN, storedIn, storedAt};
 
-// The number of words; `wordsN` of specs/Request.antt is the same.
-const WORDS: usize = 8;
+/// The number of words; `wordsN` of specs/Request.antt is the same.
+pub const WORDS: usize = 8;
 
 // The number of indices that a set can have.
 const INDICES: usize = WORDS * 64;
 
 /// The Rust's `RequiredIndices`: indices in order and without duplicates, and whether putting a
-/// projection above the children is beneficial for the parent. `used` is the number of words that count.
+/// projection above the children is beneficial for the parent: 1 where it is, a word as the others are, so
+/// that a set is copied in one piece. `used` is the number of words that count.
 pub struct RequiredIndices {
-    indices: [u64; WORDS],
-    used: usize,
-    projection_beneficial: bool,
+    pub indices: [u64; WORDS],
+    pub used: usize,
+    projection_beneficial: u64,
 }
 
 /// The next index of a set, if there is one.
@@ -126,7 +130,7 @@ impl RequiredIndices {
         Self {
             indices: [0u64; WORDS],
             used: 0,
-            projection_beneficial: false,
+            projection_beneficial: 0,
         }
     }
 
@@ -153,7 +157,7 @@ impl RequiredIndices {
     pub fn with_projection_beneficial(mut self) -> Self
         ensures { λ r. ⌜ Holds r (setOf self) true ⌝ }
     {
-        self.projection_beneficial = true;
+        self.projection_beneficial = 1;
         self
     }
 
@@ -161,32 +165,45 @@ impl RequiredIndices {
     pub fn projection_beneficial(self) -> bool
         ensures { λ r. ⌜ r ≡ flagOf self ⌝ }
     {
-        self.projection_beneficial
+        self.projection_beneficial == 1
     }
 
-    /// Whether i is in the set. Rust: `indices().contains(&i)`.
-    pub fn contains(self, i: usize) -> bool
-        ensures { λ r. ⌜ r ≡ has (setOf self) i ⌝ }
+    /// Whether i is in a set. Rust: `indices().contains(&i)`.
+    pub fn contains(indices: &[u64; WORDS], used: usize, i: usize) -> bool
+        requires { ⌜ Lent (now indices) ⌝ }
+        ensures { λ r. ⌜ r ≡ has (setIn (now (indices .entry)) used) i ⌝ }
     {
-        let w = word(&self.indices, smaller(self.used, WORDS), i / 64);
+        let w = word(indices, smaller(used, WORDS), i / 64);
         (w >> (i % 64)) % 2 == 1
     }
 
-    /// The index i added; the flag stays. Rust: the push and `compact` of `add_expr`. Requires an
-    /// index below 512, which every field's is.
+    /// The index i added; the flag stays. Requires an index below 512.
     pub fn with_index(mut self, i: usize) -> Self
         requires { ⌜ i < wordsN * 64 ⌝ }
         ensures { λ r. ⌜ Holds r (bitOr (setOf self) (2 ^ i)) (flagOf self) ⌝ }
     {
+        let n = self.used;
+        let used = RequiredIndices::insert(&mut self.indices, n, i);
+        self.used = used;
+        self
+    }
+
+    /// The index i added in place; answers how many words are then in use. Rust: the push and `compact` of
+    /// `add_expr`. Requires an index below 512, which every field's is.
+    pub fn insert(indices: &mut [u64; WORDS], used: usize, i: usize) -> usize
+        requires { ⌜ Lent (now indices) ⌝ }
+        requires { ⌜ i < wordsN * 64 ⌝ }
+        ensures { λ r. ⌜ setIn (now (indices .exit)) r ≡ bitOr (setIn (now (indices .entry)) used) (2 ^ i) ⌝ }
+        ensures { λ _. ⌜ Lent (now (indices .exit)) ⌝ }
+    {
         let k = i / 64;
-        let mut j = smaller(self.used, WORDS);
+        let mut j = smaller(used, WORDS);
         while j <= k {
-            self.indices[j] = 0;
+            indices[j] = 0;
             j += 1;
         }
-        self.used = j;
-        self.indices[k] = self.indices[k] | (1u64 << (i % 64));
-        self
+        indices[k] = indices[k] | (1u64 << (i % 64));
+        j
     }
 
     /// All indices of other added; the flag stays. Rust: `append`.
@@ -209,28 +226,30 @@ impl RequiredIndices {
     }
 
     /// How many indices there are. Rust: `indices().len()`.
-    pub fn len(self) -> usize
-        ensures { λ r. ⌜ r ≡ ones (setOf self) ⌝ }
+    pub fn len(indices: &[u64; WORDS], used: usize) -> usize
+        requires { ⌜ Lent (now indices) ⌝ }
+        ensures { λ r. ⌜ r ≡ ones (setIn (now (indices .entry)) used) ⌝ }
     {
-        let last = smaller(self.used, WORDS);
+        let last = smaller(used, WORDS);
         let mut n: usize = 0;
         let mut k = 0;
         while k < last {
-            n += u64::count_ones(self.indices[k]) as usize;
+            n += u64::count_ones(indices[k]) as usize;
             k += 1;
         }
         n
     }
 
     /// The first index at or above from. Rust: a turn of `indices().iter()`.
-    pub fn next(self, from: usize) -> Next
-        ensures { λ r. ⌜ IsNext (setOf self) from r ⌝ }
+    pub fn next(indices: &[u64; WORDS], used: usize, from: usize) -> Next
+        requires { ⌜ Lent (now indices) ⌝ }
+        ensures { λ r. ⌜ IsNext (setIn (now (indices .entry)) used) from r ⌝ }
     {
-        let last = smaller(self.used, WORDS);
+        let last = smaller(used, WORDS);
         let mut k = from / 64;
         let mut at = from % 64;
         while k < last {
-            let w = self.indices[k] >> at;
+            let w = indices[k] >> at;
             if w != 0 {
                 return Next::At(k * 64 + at + u64::trailing_zeros(w) as usize);
             }
@@ -336,15 +355,16 @@ impl RequiredIndices {
 
     /// The set stored from `at` on: how many words are in use, and these. Requires room for all words. The
     /// flag is not stored.
-    pub fn store(self, words: &mut [u64], at: usize)
+    pub fn store(indices: &[u64; WORDS], used: usize, words: &mut [u64], at: usize)
+        requires { ⌜ Lent (now indices) ⌝ }
         requires { ⌜ at + storedN ≤ length (now words) ⌝ }
-        ensures { λ _. ⌜ now (words .exit) ≡ paste (now (words .entry)) at (stored self) (length (stored self)) ⌝ }
+        ensures { λ _. ⌜ now (words .exit) ≡ paste (now (words .entry)) at (storedIn (now (indices .entry)) used) (length (storedIn (now (indices .entry)) used)) ⌝ }
     {
-        let last = smaller(self.used, WORDS);
+        let last = smaller(used, WORDS);
         words[at] = last as u64;
         let mut k = 0;
         while k < last {
-            words[at + 1 + k] = self.indices[k];
+            words[at + 1 + k] = indices[k];
             k += 1;
         }
     }

@@ -3,12 +3,13 @@
 //! A record of `records` is four numbers (form, old node, first input, second input) and a set, as `RequiredIndices` stores it. Its inputs are records before
 //! it. What a record stands for is `resultAt` of specs/Result.antt.
 use required_indices::RequiredIndices;
+use required_indices::WORDS;
 ghost use mathlib.Core.Path.{_≡_};
 ghost use mathlib.Core.Bool.{false};
 ghost use Prim.Native.Nat.{_+_, _*_, _≤_, _<_};
 ghost use lib.ListN.{length};
 ghost use Rattle.cpl.specs.Limits.{maxNodes};
-ghost use Rattle.required_indices.specs.Request.{setOf, Holds};
+ghost use Rattle.required_indices.specs.Request.{Holds, Lent, setIn};
 ghost use Rattle.result.specs.Result.{recordN, setAt};
 ghost use Rattle.result.specs.Records.{recordAt, Appended, PushedIs, Stored};
 
@@ -74,7 +75,7 @@ pub fn set_at(records: &[u64], i: usize) -> RequiredIndices
     RequiredIndices::load(records, i * RECORD + 4)
 }
 
-// The four numbers and the set of record `i`, which lies in the array.
+// The four numbers and the set of record `i`, which lies in the array. The set is that of the first `words` of `indices`.
 fn put_record(
     records: &mut [u64],
     i: usize,
@@ -82,42 +83,51 @@ fn put_record(
     old: usize,
     first: usize,
     second: usize,
-    set: RequiredIndices,
+    indices: &[u64; WORDS],
+    words: usize,
 )
     requires { ⌜ i * recordN + recordN ≤ length (now records) ⌝ }
-    ensures { λ _. ⌜ Stored (now (records .entry)) (now (records .exit)) i form old first second (setOf set) ⌝ }
+    requires { ⌜ Lent (now indices) ⌝ }
+    ensures { λ _. ⌜ Stored (now (records .entry)) (now (records .exit)) i form old first second (setIn (now (indices .entry)) words) ⌝ }
 {
     let at = i * RECORD;
     records[at] = form;
     records[at + 1] = old as u64;
     records[at + 2] = first as u64;
     records[at + 3] = second as u64;
-    set.store(records, at + 4);
+    RequiredIndices::store(indices, words, records, at + 4);
 }
 
-/// A record with its set, appended to the first `used`: its number, or `Full` where all 256 are used.
-pub fn push_record(records: &mut [u64], used: usize, node: Record, set: RequiredIndices) -> Pushed
+/// A record with its set, that of the first `words` of `indices`, appended to the first `used`: its number, or `Full` where all 256 are used.
+pub fn push_record(
+    records: &mut [u64],
+    used: usize,
+    node: Record,
+    indices: &[u64; WORDS],
+    words: usize,
+) -> Pushed
     requires { ⌜ maxNodes * recordN ≤ length (now records) ⌝ }
-    ensures { λ r. ⌜ PushedIs (now (records .entry)) (now (records .exit)) used node (setOf set) r ⌝ }
+    requires { ⌜ Lent (now indices) ⌝ }
+    ensures { λ r. ⌜ PushedIs (now (records .entry)) (now (records .exit)) used node (setIn (now (indices .entry)) words) r ⌝ }
 {
     if RECORDS <= used {
         return Pushed::Full;
     }
     match node {
         Record::Kept { old, first, second } => {
-            put_record(records, used, 0, old, first, second, set);
+            put_record(records, used, 0, old, first, second, indices, words);
             Pushed::At(used)
         }
         Record::Columns { old, first } => {
-            put_record(records, used, 1, old, first, 0, set);
+            put_record(records, used, 1, old, first, 0, indices, words);
             Pushed::At(used)
         }
         Record::Items { row, count, first } => {
-            put_record(records, used, 2, row, first, count, set);
+            put_record(records, used, 2, row, first, count, indices, words);
             Pushed::At(used)
         }
         Record::Nothing => {
-            put_record(records, used, 3, 0, 0, 0, set);
+            put_record(records, used, 3, 0, 0, 0, indices, words);
             Pushed::At(used)
         }
     }

@@ -23,7 +23,7 @@ fn answer(b: bool) {
 fn indices(r: RequiredIndices) {
     let mut at = 0;
     loop {
-        match r.next(at) {
+        match RequiredIndices::next(&r.indices, r.used, at) {
             Next::At(i) => {
                 text(b" ");
                 number(i);
@@ -47,7 +47,7 @@ fn behind(a: RequiredIndices, r: RequiredIndices, n: usize) -> RequiredIndices {
 fn parts(r: RequiredIndices, n: usize) {
     text(b"at ");
     number(n);
-    answer(r.contains(n));
+    answer(RequiredIndices::contains(&r.indices, r.used, n));
     text(b"\n  below:");
     let s = r.split_off(n);
     indices(s.below);
@@ -64,6 +64,11 @@ fn parts(r: RequiredIndices, n: usize) {
     indices(both);
 }
 
+// How many indices a set has.
+fn size(r: RequiredIndices) -> usize {
+    RequiredIndices::len(&r.indices, r.used)
+}
+
 // All indices below n: how many, whether r has all of them, what r is with them, whether that is all below 512.
 fn all(r: RequiredIndices, n: usize)
     requires { ⌜ n ≤ 512 ⌝ }
@@ -74,12 +79,12 @@ fn all(r: RequiredIndices, n: usize)
     text(b"all below ");
     number(n);
     text(b": ");
-    number(a.len());
+    number(size(a));
     answer(a.is_empty());
     answer(r.contains_all(a));
     answer(whole.contains_all(a));
     text(b" ");
-    number(both.len());
+    number(size(both));
     answer(both.equals(whole));
     answer(both.projection_beneficial());
     text(b"\n");

@@ -269,12 +269,13 @@ fn put(records: &mut [u64], used: Used, node: Record, set: RequiredIndices) -> E
     requires { ⌜ maxNodes * recordN ≤ length (now records) ⌝ }
     ensures { λ e. ⌜ PutAs (now (records .entry)) (now (records .exit)) used node (setOf set) e ⌝ }
 {
-    let p = result::push_record(records, used.records, node, set);
+    let p = result::push_record(records, used.records, node, &set.indices, set.used);
     let Pushed::At(record) = p else {
         return End::Large;
     };
+    let count = used.records + 1;
     let more = Used {
-        records: used.records + 1,
+        records: count,
         rows: used.rows,
         cells: used.cells,
     };
@@ -288,6 +289,7 @@ pub fn put_node(records: &mut [u64], k: usize, job: Job, inputs: Inputs) -> Walk
     ensures { λ w. ⌜ NodePut (now (records .entry)) (now (records .exit)) k job inputs w (inputs .end) (job .todo) ⌝ }
 {
     let end = inputs.end;
+    let rest = job.rest;
     let set = job.set;
     let kept = job.kept;
     let Ends::Done {
@@ -321,11 +323,11 @@ pub fn put_node(records: &mut [u64], k: usize, job: Job, inputs: Inputs) -> Walk
                 record: first,
                 used,
             },
-            kept: jobs::kept_of(job, inputs.kept),
+            kept: jobs::kept_of(rest, set, kept, inputs.kept),
         },
         Todo::One { topped: _ } => Walked {
             end: put(records, used, node, set),
-            kept: jobs::kept_of(job, inputs.kept),
+            kept: jobs::kept_of(rest, set, kept, inputs.kept),
         },
         Todo::Two { right: _ } => Walked {
             end: put(records, used, node, set),

@@ -24,8 +24,8 @@ use Rattle.result.specs.Result.{keptNode, leafPart}
 use Rattle.result.specs.Records.{HeadSet}
 use Rattle.writer_parts.proofs.Lists.{list-length}
 use Rattle.writer.specs.Plans.{headTags, planHead}
-use Rattle.writer.specs.Shapes.{keptBytes, keptTags, leafKeeps, scanColumns}
-use Rattle.writer.proofs.Heads.{NodeSet, iota-list}
+use Rattle.shapes.specs.Shapes.{keptBytes, keptTags, leafKeeps, scanColumns}
+use Rattle.shapes.proofs.Heads.{NodeSet, iota-list}
 
 -- as many fields as the node has: of a scan, as many as its columns
 abbrev pub Wide : Catalogue → (width : ℕ) → Head → Type 0

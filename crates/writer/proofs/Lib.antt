@@ -1,8 +1,4 @@
--- The laws of heads and nodes, bottom up.
-pub mod Segments
-pub mod Heads
-pub mod Ready
+-- The laws of records and plans, bottom up.
 pub mod Kept
-pub mod Short
 pub mod Records
 pub mod Plans

@@ -1,5 +1,5 @@
 -- A plan from its node and its inputs: its bytes, its tags, its nodes. Assumes nothing.
-use mathlib.Core.Path.{_≡_, refl, subst, sym, ap, _∙_}
+use mathlib.Core.Path.{_≡_, refl, subst, sym, ap, ap₂, _∙_}
 use mathlib.Core.Bool.{Bool}
 use mathlib.Core.List.{List, [], _++_, append-assoc, append-nil}
 use Prim.Native.Nat.{ℕ, zero, suc, _+_, _*_, _-_, _^_, _<_, _≤_}
@@ -26,13 +26,13 @@ use Rattle.result.proofs.Steps.{result-step}
 use Rattle.writer_parts.specs.Wrote.{Countable, Counts, Wrote, over}
 use Rattle.writer_parts.specs.declared.Size.{Size}
 use Rattle.writer_parts.proofs.Over.{fits, length-back, part, so}
-use Rattle.writer.specs.Plans.{Shaped, Taken, Writes, cellsOf, headTags, inputsOf, nodeInputs, planHead, planOf, recordShape, rowsOf}
-use Rattle.writer.specs.Shapes.{ShapeOk, shapeBytes, shapeTags}
+use Rattle.writer.specs.Plans.{Shaped, Taken, Writes, WritesBy, cellsOf, headTags, inputsOf, nodeInputs, planHead, planOf, recordShape, rowsOf}
+use Rattle.shapes.specs.Shapes.{ShapeOk, shapeBytes, shapeTags}
 use Rattle.writer.specs.declared.Inputs.{Inputs}
 use Rattle.writer.specs.declared.Inputs.the-variants as inputs
 use Rattle.writer.specs.declared.Second.{Second}
 use Rattle.writer.specs.declared.Second.the-variants as seconds
-use Rattle.writer.specs.declared.Shape.{Shape}
+use Rattle.shapes.specs.declared.Shape.{Shape}
 use Rattle.writer.proofs.Records.{Small, Written, record-small, record-taken, record-written}
 
 -- ── a node and its inputs ───────────────────────────────────────────────────────────────────
@@ -178,15 +178,15 @@ module _ {version : versions.Version} {cells rows nodes fields widths records it
     head-countable = record { bytes-fit = omega (arith, small-head .short); tags-fit = omega (arith, small-head .few-tags) }
 
     -- a record's head, by its form
-    abbrev Head : Shape → Record → RequiredIndices → Type 0
+    abbrev Head : Shape → Record → (set : ℕ) → Type 0
     Head h x t = Written (versionOf version) (planOf w) h (rowsOf rows fields items x) (cellsOf cells icells x) t
 
-    written : {t : RequiredIndices} {b : Bool} → Holds t (setAt records i) b → length rows < 2 ^ 64 → length fields < 2 ^ 64 → length items < 2 ^ 64 →
-        Head (recordShape version nodes widths rec) rec t
-    written {t} o h y j =
+    written : {t : RequiredIndices} {b : Bool} → Holds t (setAt records i) b → length (rowsOf rows fields items rec) < 2 ^ 64 →
+        Head (recordShape (version .wide) (version .late) nodes widths rec) rec (setOf t)
+    written {t} o l =
         let d : Ok (setOf t) = rw (o .set) is-ok in
-        let k : Written (versionOf version) (stands (setOf t)) (recordShape version nodes widths rec) (rowsOf rows fields items rec) (cellsOf cells icells rec) t =
-        record-written (w .standing) made (w .m) (w .n) i _ _ version t rec h y j d in
+        let k : Written (versionOf version) (stands (setOf t)) (recordShape (version .wide) (version .late) nodes widths rec) (rowsOf rows fields items rec) (cellsOf cells icells rec) (setOf t) =
+        record-written (w .standing) made (w .m) (w .n) i _ _ (versionOf version) (setOf t) rec l d in
         rw (step, sym (o .set)) k
 
     -- ── its inputs ──
@@ -249,21 +249,38 @@ module _ {version : versions.Version} {cells rows nodes fields widths records it
   pub head-le : {i : ℕ} (w : Writes version cells rows nodes fields widths records items icells i) → length (planHead (versionOf version) (planOf w)) ≤ length (planBytes (versionOf version) (planOf w))
   head-le {i} w = head-first w (inputsOf nodes (recordAt records i)) (splits w refl)
 
-abbrev pub shaped : {h : Shape} {version : versions.Version} {cells rows nodes fields widths records items icells : List ℕ} {i : ℕ}
-    (w : Writes version cells rows nodes fields widths records items icells i) →
-    h ≡ recordShape version nodes widths (recordAt records i) → Shaped h cells rows fields records items icells i
-shaped {version = version} {nodes = nodes} {widths = widths} w e = record { version = version; nodes = nodes; widths = widths; writes = w; shape-is = e }
+module _ {wide late : ℕ} {cells rows nodes fields widths records items icells : List ℕ} {i : ℕ} (w : WritesBy wide late cells rows nodes fields widths records items icells i) where
+  -- another record of it
+  abbrev pub of-it : {f : ℕ} → Writes (w .version) cells rows nodes fields widths records items icells f → WritesBy wide late cells rows nodes fields widths records items icells f
+  of-it o = record { version = w .version; wide-is = w .wide-is; late-is = w .late-is; writes = o }
+
+  abbrev pub shaped : {h : Shape} → h ≡ recordShape wide late nodes widths (recordAt records i) → Shaped h cells rows fields records items icells i
+  shaped e =
+      record {
+        version = w .version;
+        nodes = nodes;
+        widths = widths;
+        writes = w .writes;
+        shape-is = e ∙ ap₂ (λ (x y : ℕ). recordShape x y nodes widths (recordAt records i)) (sym (w .wide-is)) (sym (w .late-is));
+      }
+
+-- a version's own numbers
+abbrev pub with-numbers : {version : versions.Version} {cells rows nodes fields widths records items icells : List ℕ} {i : ℕ} →
+    Writes version cells rows nodes fields widths records items icells i → WritesBy (version .wide) (version .late) cells rows nodes fields widths records items icells i
+with-numbers {version} w = record { version = version; wide-is = refl; late-is = refl; writes = w }
 
 -- a head, once its record and its shape are known
 module _ {h : Shape} {cells rows fields records items icells : List ℕ} {i : ℕ} (s : Shaped h cells rows fields records items icells i) where
   pub head-of : {t : RequiredIndices} {b : Bool} {y : Record} (x : Record) → y ≡ x → y ≡ recordAt records i → Holds t (setAt records i) b →
-      length rows < 2 ^ 64 → length fields < 2 ^ 64 → length items < 2 ^ 64 →
-      Written (versionOf (s .version)) (planOf (s .writes)) h (rowsOf rows fields items x) (cellsOf cells icells x) t
-  head-of x e d o l y j = let c : x ≡ recordAt records i = sym e ∙ d in rw (s .shape-is, c) (written (s .writes) o l y j)
+      length (rowsOf rows fields items x) < 2 ^ 64 →
+      Written (versionOf (s .version)) (planOf (s .writes)) h (rowsOf rows fields items x) (cellsOf cells icells x) (setOf t)
+  head-of x e d o l =
+      let c : x ≡ recordAt records i = sym e ∙ d in
+      rw (s .shape-is, c) (written (s .writes) o (subst (λ (z : Record). length (rowsOf rows fields items z) < 2 ^ 64) c l))
 
 -- ── a head written, and counted ─────────────────────────────────────────────────────────────
 
-module _ {u : Version} {P : Plan} {h : Shape} {s c : List ℕ} {t : RequiredIndices} (k : Written u P h s c t) where
+module _ {u : Version} {P : Plan} {h : Shape} {s c : List ℕ} {t : ℕ} (k : Written u P h s c t) where
   pub head-ready : Countable (length (planHead u P)) (headTags P) → ShapeOk h s c t × Countable (length (shapeBytes h s c t)) (shapeTags h s c t)
   head-ready o = (k .ok, rw (k .bytes-are, k .tags-are) o)
 

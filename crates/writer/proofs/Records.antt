@@ -17,9 +17,7 @@ use Rattle.cpl.specs.Writable.{FitLeaf, FitName, FitPlan}
 use Rattle.cpl.proofs.Accepted.{few-fields}
 use Rattle.rules.specs.Mask.{select}
 use Rattle.arena.specs.Rows.{itemAt, itemsAt}
-use Rattle.required_indices.specs.Request.{setOf}
 use Rattle.required_indices.specs.Set.{setMask}
-use Rattle.required_indices.specs.declared.RequiredIndices.{RequiredIndices}
 use Rattle.tree.specs.Node.{nodeAt}
 use Rattle.tree.specs.Rows.{listAt, one}
 use Rattle.tree.specs.Tree.{Arrays, PartsOk, build, headOf, lent, planAt, rightOf}
@@ -28,26 +26,25 @@ use Rattle.tree.specs.declared.Node.the-variants.{Projection, Filter, Sort, Lim
 use Rattle.tree.proofs.Plans.{plan-step}
 use Rattle.lookup.specs.Fields.{fieldAt, fieldsAt, firstAt, rowAt, widthAt}
 use Rattle.lookup.specs.Standing.{Standing}
-use Rattle.versions.specs.Versions.{versionOf}
-use Rattle.versions.specs.declared.Version.{Version}
 use Rattle.versions.proofs.Small as versions
 use Rattle.result.specs.Result.{Results, columnsNode, keptNode, nothingLeft, unaryPart}
 use Rattle.result.specs.Records.{ColumnsOk, ItemsOk, KeptOk, RecordOk, standsFor}
 use Rattle.result.specs.declared.Record.{Record}
 use Rattle.result.specs.declared.Record.the-variants.{Kept, Columns, Items, Nothing}
+use Rattle.writer_parts.specs.Lists.{which}
 use Rattle.writer_parts.specs.declared.Part.the-variants.{Field, Item}
 use Rattle.writer_parts.proofs.Lists.{counted-length, counted-set-rows, list-length, set-row-tags}
-use Rattle.writer.specs.declared.Segment.the-variants as segments
-use Rattle.writer.specs.declared.Shape.{Shape}
-use Rattle.writer.specs.Shapes.{ShapeOk, Sums, emptyShape, headShape, shapeBytes, shapeOf, shapeTags, which}
+use Rattle.shapes.specs.declared.Segment.the-variants as segments
+use Rattle.shapes.specs.declared.Shape.{Shape}
+use Rattle.shapes.specs.Shapes.{ShapeOk, Sums, emptyShape, headShape, shapeBytes, shapeOf, shapeTags}
 use Rattle.writer.specs.Plans.{Taken, cellsOf, headTags, planHead, recordShape, rowsOf}
-use Rattle.writer.proofs.Heads.{NodeSet, Numbers, items-list, shape-bytes, shape-tags}
-use Rattle.writer.proofs.Ready.{shape-ok}
+use Rattle.shapes.proofs.Heads.{NodeSet, Numbers, items-list, shape-bytes, shape-tags}
+use Rattle.shapes.proofs.Ready.{shape-ok}
 use Rattle.writer.proofs.Kept.{Wide, kept-head, kept-tags, node-set}
-use Rattle.writer.proofs.Short.{FitHead, fewer, kept-less, kept-short, ownTags, unary-short}
+use Rattle.shapes.proofs.Short.{FitHead, fewer, kept-less, kept-short, ownTags, unary-short}
 
 -- segments that are a plan's own node and that code can write
-pub record Written (v : limits.Version) (P : Plan) (h : Shape) (s c : List ℕ) (r : RequiredIndices) : Type 0 where
+pub record Written (v : limits.Version) (P : Plan) (h : Shape) (s c : List ℕ) (r : ℕ) : Type 0 where
   pub ok : ShapeOk h s c r
   pub bytes-are : shapeBytes h s c r ≡ planHead v P
   pub tags-are : shapeTags h s c r ≡ headTags P
@@ -186,14 +183,14 @@ module _ {cells rows nodes fields widths : List ℕ} (st : Standing cells rows n
           few-tags = omega (arith, t, n, own-few);
         }
 
-    pub kept-written : (v : Version) (r : RequiredIndices) {i f g : ℕ} → length rows < 2 ^ 64 → KeptOk (st .C) a (st .count) i (setOf r) old f g →
-        Written (versionOf v) (keptNode (st .C) (setOf r) (headOf a node) p q) (shapeOf v node width) rows cells r
+    pub kept-written : (v : limits.Version) (r : ℕ) {i f g : ℕ} → length rows < 2 ^ 64 → KeptOk (st .C) a (st .count) i r old f g →
+        Written v (keptNode (st .C) r (headOf a node) p q) (shapeOf (v .wide) (v .late) node width) rows cells r
     kept-written v r h o =
-        let s : NodeSet width (setOf r) node = node-set (st .C) width (setOf r) a node wide (o .within) in
+        let s : NodeSet width r node = node-set (st .C) width r a node wide (o .within) in
         record {
           ok = shape-ok v a r width (omega (arith, width-few)) h node (st .tree .each old l .parts);
-          bytes-are = shape-bytes v a r width node s (numbers (st .C) a node fit) ∙ sym (kept-head (st .C) width (setOf r) (versionOf v) (headOf a node) p q wide);
-          tags-are = shape-tags v a r width node ∙ sym (kept-tags (st .C) width (setOf r) (headOf a node) p q wide);
+          bytes-are = shape-bytes v a r width node s (numbers (st .C) a node fit) ∙ sym (kept-head (st .C) width r v (headOf a node) p q wide);
+          tags-are = shape-tags v a r width node ∙ sym (kept-tags (st .C) width r (headOf a node) p q wide);
         }
 
   -- ── columns ──
@@ -212,11 +209,11 @@ module _ {cells rows nodes fields widths : List ℕ} (st : Standing cells rows n
           few-tags = omega (arith, e, n, width-is, width-few);
         }
 
-    pub columns-written : (v : Version) (r : RequiredIndices) {i f : ℕ} → length fields < 2 ^ 64 → ColumnsOk (st .C) a (st .count) i (setOf r) old f →
-        Written (versionOf v) (columnsNode fs (setOf r) p) (headShape 1 1 (segments.List (v .wide) Field first width false) segments.Nothing) fields cells r
+    pub columns-written : (v : limits.Version) (r : ℕ) {i f : ℕ} → length fields < 2 ^ 64 → ColumnsOk (st .C) a (st .count) i r old f →
+        Written v (columnsNode fs r p) (headShape 1 1 (segments.List (v .wide) Field first width false) segments.Nothing) fields cells r
     unfolding columnsNode planHead headTags unaryTags unaryBytes bytes
     columns-written v r room o =
-        let s : setOf r < 2 ^ width = subst (λ (x : ℕ). setOf r < 2 ^ x) width-is (o .within) in
+        let s : r < 2 ^ width = subst (λ (x : ℕ). r < 2 ^ x) width-is (o .within) in
         let long = list-length (fieldAt fields) one first width in
         record {
           ok = record {
@@ -227,16 +224,16 @@ module _ {cells rows nodes fields widths : List ℕ} (st : Standing cells rows n
           bytes-are =
               ap (1 ∷_)
               (append-nil _
-              ∙ sym (bare-bytes (v .wide) (select (setMask (length fs) (setOf r)) fs)
-              ∙ ap (λ (xs : List Pair). countedBytes (v .wide) (λ (c : Pair). itemBytes (bare c)) (select (setMask (length xs) (setOf r)) xs)) (sym fields-are)
-              ∙ ap (λ (x : ℕ). countedBytes (v .wide) (λ (c : Pair). itemBytes (bare c)) (select (setMask x (setOf r)) (rowAt fields first width))) long
+              ∙ sym (bare-bytes (v .wide) (select (setMask (length fs) r) fs)
+              ∙ ap (λ (xs : List Pair). countedBytes (v .wide) (λ (c : Pair). itemBytes (bare c)) (select (setMask (length xs) r) xs)) (sym fields-are)
+              ∙ ap (λ (x : ℕ). countedBytes (v .wide) (λ (c : Pair). itemBytes (bare c)) (select (setMask x r) (rowAt fields first width))) long
               ∙ counted-set-rows (v .wide) (which false r) (λ (c : Pair). itemBytes (bare c)) (λ (c : Pair). itemTags (bare c)) (fieldAt fields) first width refl
               s));
           tags-are =
               (let e : (x : ℕ) → x + 0 ≡ x = λ x. omega arith in e _)
-              ∙ sym (bare-sum (select (setMask (length fs) (setOf r)) fs)
-              ∙ ap (λ (xs : List Pair). sumOf (λ (c : Pair). itemTags (bare c)) (select (setMask (length xs) (setOf r)) xs)) (sym fields-are)
-              ∙ ap (λ (x : ℕ). sumOf (λ (c : Pair). itemTags (bare c)) (select (setMask x (setOf r)) (rowAt fields first width))) long
+              ∙ sym (bare-sum (select (setMask (length fs) r) fs)
+              ∙ ap (λ (xs : List Pair). sumOf (λ (c : Pair). itemTags (bare c)) (select (setMask (length xs) r) xs)) (sym fields-are)
+              ∙ ap (λ (x : ℕ). sumOf (λ (c : Pair). itemTags (bare c)) (select (setMask x r) (rowAt fields first width))) long
               ∙ set-row-tags (which false r) (λ (c : Pair). itemBytes (bare c)) (λ (c : Pair). itemTags (bare c)) (fieldAt fields) first width refl);
         }
 
@@ -252,8 +249,8 @@ module _ (C : Catalogue) (r : Results) {m k i row n f : ℕ} (o : ItemsOk C r m 
         few-tags = o .tags;
       }
 
-  pub items-written : (v : Version) (t : RequiredIndices) → length (r .items) < 2 ^ 64 →
-      Written (versionOf v) (unary (projection (itemsAt (r .items) (r .cells) row n)) p)
+  pub items-written : (v : limits.Version) (t : ℕ) → length (r .items) < 2 ^ 64 →
+      Written v (unary (projection (itemsAt (r .items) (r .cells) row n)) p)
       (headShape 1 1 (segments.List (v .wide) Item row n true) segments.Nothing) (r .items) (r .cells) t
   unfolding planHead headTags unaryPart
   items-written v t h =
@@ -268,7 +265,7 @@ nothing-small : (v : limits.Version) → versions.Small v → Small v nothingLef
 unfolding planHead headTags leafBytes leafTags countedBytes concatMap
 nothing-small v t = record { short = omega (arith, t .wide-small, counted-length (v .wide) 0 []); few-tags = omega arith }
 
-nothing-written : (v : Version) (s c : List ℕ) (t : RequiredIndices) → Written (versionOf v) nothingLeft (emptyShape v true 0 0) s c t
+nothing-written : (v : limits.Version) (s c : List ℕ) (t : ℕ) → Written v nothingLeft (emptyShape (v .wide) true 0 0) s c t
 unfolding planHead headTags listAt
 nothing-written v s c t =
     let b : Arrays = lent c s [] in
@@ -295,11 +292,11 @@ module _ {cells rows nodes fields widths : List ℕ} (st : Standing cells rows n
     record-small s (Items row n f) o = items-small (st .C) r o p (versions.small (st .tables .version-is))
     record-small s Nothing o = nothing-small (st .C .version) (versions.small (st .tables .version-is))
 
-    pub record-written : (v : Version) (t : RequiredIndices) (x : Record) → length rows < 2 ^ 64 → length fields < 2 ^ 64 → length (r .items) < 2 ^ 64 →
-        RecordOk (st .C) (lent cells rows nodes) (st .count) r m k i (setOf t) x →
-        Written (versionOf v) (standsFor (st .C) (lent cells rows nodes) r (setOf t) x p q)
-        (recordShape v nodes widths x) (rowsOf rows fields (r .items) x) (cellsOf cells (r .cells) x) t
-    record-written v t (Kept old f g) h y j o = kept-written st old (o .node) p q v t h o
-    record-written v t (Columns old f) h y j o = columns-written st old (o .node) p v t y o
-    record-written v t (Items row n f) h y j o = items-written (st .C) r o p v t j
-    record-written v t Nothing h y j o = nothing-written v rows cells t
+    pub record-written : (v : limits.Version) (t : ℕ) (x : Record) → length (rowsOf rows fields (r .items) x) < 2 ^ 64 →
+        RecordOk (st .C) (lent cells rows nodes) (st .count) r m k i t x →
+        Written v (standsFor (st .C) (lent cells rows nodes) r t x p q)
+        (recordShape (v .wide) (v .late) nodes widths x) (rowsOf rows fields (r .items) x) (cellsOf cells (r .cells) x) t
+    record-written v t (Kept old f g) l o = kept-written st old (o .node) p q v t l o
+    record-written v t (Columns old f) l o = columns-written st old (o .node) p v t l o
+    record-written v t (Items row n f) l o = items-written (st .C) r o p v t l
+    record-written v t Nothing l o = nothing-written v rows cells t

@@ -1,3 +1,2 @@
--- How a node's head stands in segments, the bytes of a record, and the records of a rewritten plan that are written.
-pub mod Shapes
+-- The head of a record's node, and the records of a rewritten plan that are written.
 pub mod Plans

@@ -25,10 +25,10 @@ use Rattle.writer_parts.specs.declared.Part.the-variants.{Field, Item}
 use Rattle.writer.specs.declared.Inputs.{Inputs}
 use Rattle.writer.specs.declared.Inputs.the-variants.{Leaf, Over}
 use Rattle.writer.specs.declared.Second.the-variants as seconds
-use Rattle.writer.specs.declared.Segment.the-variants.{Nothing}
-use Rattle.writer.specs.declared.Segment.the-variants as segments
-use Rattle.writer.specs.declared.Shape.{Shape}
-use Rattle.writer.specs.Shapes.{Sums, emptyShape, headShape, shapeOf}
+use Rattle.shapes.specs.declared.Segment.the-variants.{Nothing}
+use Rattle.shapes.specs.declared.Segment.the-variants as segments
+use Rattle.shapes.specs.declared.Shape.{Shape}
+use Rattle.shapes.specs.Shapes.{Sums, emptyShape, headShape, shapeOf}
 
 -- ── a plan's own node ───────────────────────────────────────────────────────────────────────
 
@@ -52,12 +52,12 @@ Taken nodes (Columns old f) = Unit {0}
 Taken nodes (Items row n f) = Unit {0}
 Taken nodes records.Nothing = Unit {0}
 
--- a kept node; a projection of an old node's fields at the set; a projection of items; the one-row Empty with no fields
-abbrev pub recordShape : Version → (nodes widths : List ℕ) → Record → Shape
-recordShape v nodes widths (Kept old f g) = shapeOf v (nodeAt nodes old) (widthAt widths old)
-recordShape v nodes widths (Columns old f) = headShape 1 1 (segments.List (v .wide) Field (firstAt widths old) (widthAt widths old) false) Nothing
-recordShape v nodes widths (Items row n f) = headShape 1 1 (segments.List (v .wide) Item row n true) Nothing
-recordShape v nodes widths records.Nothing = emptyShape v true 0 0
+-- where a count has `wide` bytes and that of a scan's filters `late`: a kept node; a projection of an old node's fields at the set; a projection of items; the one-row Empty with no fields
+abbrev pub recordShape : (wide late : ℕ) (nodes widths : List ℕ) → Record → Shape
+recordShape wide late nodes widths (Kept old f g) = shapeOf wide late (nodeAt nodes old) (widthAt widths old)
+recordShape wide late nodes widths (Columns old f) = headShape 1 1 (segments.List wide Field (firstAt widths old) (widthAt widths old) false) Nothing
+recordShape wide late nodes widths (Items row n f) = headShape 1 1 (segments.List wide Item row n true) Nothing
+recordShape wide late nodes widths records.Nothing = emptyShape wide true 0 0
 
 -- the arrays that its parts stand in
 abbrev pub rowsOf : (rows fields items : List ℕ) → Record → List ℕ
@@ -118,10 +118,17 @@ abbrev pub planOf : {version : Version} {cells rows nodes fields widths records 
 planOf {version} {cells} {rows} {nodes} {fields} {widths} {records} {items} {icells} {i} w =
     resultAt (w .standing .C) (lent cells rows nodes) (results records items icells) i
 
+-- the same of a version of which two numbers are known: a count has `wide` bytes, that of a scan's filters `late`
+pub record WritesBy (wide late : ℕ) (cells rows nodes fields widths records items icells : List ℕ) (i : ℕ) : Type 0 where
+  pub version : Version
+  pub wide-is : version .wide ≡ wide
+  pub late-is : version .late ≡ late
+  pub writes : Writes version cells rows nodes fields widths records items icells i
+
 -- a shape that is the head of such a record, whatever version, nodes and widths it was made from
 pub record Shaped (shape : Shape) (cells rows fields records items icells : List ℕ) (i : ℕ) : Type 0 where
   pub version : Version
   pub nodes : List ℕ
   pub widths : List ℕ
   pub writes : Writes version cells rows nodes fields widths records items icells i
-  pub shape-is : shape ≡ recordShape version nodes widths (recordAt records i)
+  pub shape-is : shape ≡ recordShape (version .wide) (version .late) nodes widths (recordAt records i)

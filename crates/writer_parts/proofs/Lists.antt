@@ -15,16 +15,14 @@ use Rattle.cpl.proofs.Lists.{length-Fit}
 use Rattle.rules.specs.Mask.{Mask, select}
 use Rattle.rules.proofs.Masks.{length-select}
 use Rattle.required_indices.specs.Set.{has, odd, setMask}
-use Rattle.required_indices.specs.Request.{setOf}
 use Rattle.required_indices.proofs.Masks.{mask-count, mask-ext, mask-length}
 use Rattle.required_indices.proofs.Members.{has-add, has-mod}
 use Rattle.tree.specs.Rows.{EachOk, listAt, one}
 use Rattle.writer_parts.specs.Wrote.{Counts, Laid, Wrote}
-use Rattle.writer_parts.specs.Lists.{PartsOk, chosen, chosenSum, rowFrom, takenCount, takes}
+use Rattle.writer_parts.specs.Lists.{PartsOk, Which, chosen, chosenSum, rowFrom, takenCount, takes}
 use Rattle.writer_parts.specs.Parts.{PartOk}
 use Rattle.writer_parts.specs.declared.Part.{Part}
 use Rattle.writer_parts.specs.declared.Size.{Size}
-use Rattle.writer_parts.specs.declared.Which.{Which}
 use Rattle.writer_parts.proofs.Over.{length-bytes, part, so, start, then}
 
 -- ── what is taken ───────────────────────────────────────────────────────────────────────────
@@ -202,7 +200,7 @@ module _ (w : Which) where
   taken-all : w .all ≡ true → (i : ℕ) → true ≡ takes w i
   taken-all e i = rw e
 
-  taken-set : w .all ≡ false → (i : ℕ) → has (setOf (w .set)) i ≡ takes w i
+  taken-set : w .all ≡ false → (i : ℕ) → has (w .set) i ≡ takes w i
   taken-set e i = rw e
 
   module _ {A : Type 0} (f : A → List ℕ) (g : A → ℕ) (read : ℕ → A) (size : ℕ → ℕ) (first n : ℕ) where
@@ -216,11 +214,11 @@ module _ (w : Which) where
 
     -- those of a set
     module _ (e : w .all ≡ false) where
-      pub set-bytes : concatMap f (select (setMask n (setOf (w .set))) (listAt read size first n)) ≡ chosen (λ i. f (read (rowFrom size first i))) (takes w) 0 n
-      set-bytes = set-listed read size f first n (setOf (w .set)) ∙ chosen-same (λ j. refl) (taken-set e) 0 n
+      pub set-bytes : concatMap f (select (setMask n (w .set)) (listAt read size first n)) ≡ chosen (λ i. f (read (rowFrom size first i))) (takes w) 0 n
+      set-bytes = set-listed read size f first n (w .set) ∙ chosen-same (λ j. refl) (taken-set e) 0 n
 
-      pub set-tags : sumOf g (select (setMask n (setOf (w .set))) (listAt read size first n)) ≡ chosenSum (λ i. g (read (rowFrom size first i))) (takes w) 0 n
-      set-tags = set-summed read size g first n (setOf (w .set)) ∙ sum-same (λ j. refl) (taken-set e) 0 n
+      pub set-tags : sumOf g (select (setMask n (w .set)) (listAt read size first n)) ≡ chosenSum (λ i. g (read (rowFrom size first i))) (takes w) 0 n
+      set-tags = set-summed read size g first n (w .set) ∙ sum-same (λ j. refl) (taken-set e) 0 n
 
   module _ {A : Type 0} (f : A → List ℕ) (g : A → ℕ) (read : ℕ → A) (first n : ℕ) where
     by-row : chosen (λ i. f (read (rowFrom one first i))) (takes w) 0 n ≡ chosen (λ i. f (read (first + i))) (takes w) 0 n
@@ -235,10 +233,10 @@ module _ (w : Which) where
     pub all-row-tags : w .all ≡ true → sumOf g (listAt read one first n) ≡ chosenSum (λ i. g (read (first + i))) (takes w) 0 n
     all-row-tags e = all-tags f g read one first n e ∙ by-row-tags
 
-    pub set-rows : w .all ≡ false → concatMap f (select (setMask n (setOf (w .set))) (listAt read one first n)) ≡ chosen (λ i. f (read (first + i))) (takes w) 0 n
+    pub set-rows : w .all ≡ false → concatMap f (select (setMask n (w .set)) (listAt read one first n)) ≡ chosen (λ i. f (read (first + i))) (takes w) 0 n
     set-rows e = set-bytes f g read one first n e ∙ by-row
 
-    pub set-row-tags : w .all ≡ false → sumOf g (select (setMask n (setOf (w .set))) (listAt read one first n)) ≡ chosenSum (λ i. g (read (first + i))) (takes w) 0 n
+    pub set-row-tags : w .all ≡ false → sumOf g (select (setMask n (w .set)) (listAt read one first n)) ≡ chosenSum (λ i. g (read (first + i))) (takes w) 0 n
     set-row-tags e = set-tags f g read one first n e ∙ by-row-tags
 
 -- how many a set takes
@@ -251,19 +249,19 @@ module _ (k : ℕ) (w : Which) {A : Type 0} (f : A → List ℕ) (g : A → ℕ)
   unfolding countedBytes
   counted-all e = ap₂ (λ (x : ℕ) (y : List ℕ). bytes k x ++ y) (list-length read size first n ∙ rw e) (all-bytes w f g read size first n e)
 
-  pub counted-set : w .all ≡ false → setOf (w .set) < 2 ^ n →
-      countedBytes k f (select (setMask n (setOf (w .set))) (listAt read size first n)) ≡ bytes k (takenCount w n) ++ chosen (λ i. f (read (rowFrom size first i))) (takes w) 0 n
+  pub counted-set : w .all ≡ false → w .set < 2 ^ n →
+      countedBytes k f (select (setMask n (w .set)) (listAt read size first n)) ≡ bytes k (takenCount w n) ++ chosen (λ i. f (read (rowFrom size first i))) (takes w) 0 n
   unfolding countedBytes
   counted-set e h =
       ap₂ (λ (x : ℕ) (y : List ℕ). bytes k x ++ y)
-      (set-count n (setOf (w .set)) (listAt read size first n) (list-length read size first n) h ∙ rw e) (set-bytes w f g read size first n e)
+      (set-count n (w .set) (listAt read size first n) (list-length read size first n) h ∙ rw e) (set-bytes w f g read size first n e)
 
 module _ (k : ℕ) (w : Which) {A : Type 0} (f : A → List ℕ) (g : A → ℕ) (read : ℕ → A) (first n : ℕ) where
   pub counted-all-rows : w .all ≡ true → countedBytes k f (listAt read one first n) ≡ bytes k (takenCount w n) ++ chosen (λ i. f (read (first + i))) (takes w) 0 n
   counted-all-rows e = counted-all k w f g read one first n e ∙ ap (λ (x : List ℕ). bytes k (takenCount w n) ++ x) (by-row w f g read first n)
 
-  pub counted-set-rows : w .all ≡ false → setOf (w .set) < 2 ^ n →
-      countedBytes k f (select (setMask n (setOf (w .set))) (listAt read one first n)) ≡ bytes k (takenCount w n) ++ chosen (λ i. f (read (first + i))) (takes w) 0 n
+  pub counted-set-rows : w .all ≡ false → w .set < 2 ^ n →
+      countedBytes k f (select (setMask n (w .set)) (listAt read one first n)) ≡ bytes k (takenCount w n) ++ chosen (λ i. f (read (first + i))) (takes w) 0 n
   counted-set-rows e h = counted-set k w f g read one first n e h ∙ ap (λ (x : List ℕ). bytes k (takenCount w n) ++ x) (by-row w f g read first n)
 
 -- the things that the first n indices of a set take: no bound on the set is needed

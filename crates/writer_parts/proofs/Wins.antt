@@ -14,9 +14,8 @@ use Rattle.arena.specs.Rows.{rootAt}
 use Rattle.tree.specs.Rows.{WinOk, callOf, keyAt, winAt}
 use Rattle.tree.specs.Shows.{WinIs}
 use Rattle.writer_parts.specs.Wrote.{Laid, Wrote}
-use Rattle.writer_parts.specs.Lists.{PartsOk, countedList, listTags}
+use Rattle.writer_parts.specs.Lists.{PartsOk, Which, countedList, listTags}
 use Rattle.writer_parts.specs.declared.Part.the-variants.{Expr, Key}
-use Rattle.writer_parts.specs.declared.Which.{Which}
 use Rattle.writer_parts.proofs.Over.{part, so, start, then}
 use Rattle.writer_parts.proofs.Exprs.{byte}
 use Rattle.writer_parts.proofs.Rows.{call-number, pair-length}

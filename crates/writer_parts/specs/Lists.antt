@@ -6,11 +6,9 @@ use lib.Count.{ones}
 use Rattle.cpl.specs.Bytes.{bytes, winBytes}
 use Rattle.cpl.specs.Exprs.{winTags}
 use Rattle.required_indices.specs.Set.{has}
-use Rattle.required_indices.specs.Request.{setOf}
 use Rattle.tree.specs.Rows.{WinOk, winAt, winSize}
 use Rattle.writer_parts.specs.Parts.{PartOk, partBytes, partTags}
 use Rattle.writer_parts.specs.declared.Part.{Part}
-use Rattle.writer_parts.specs.declared.Which.{Which}
 
 -- of the things i, i + 1, … : n of them, those that are taken
 unfoldable pub chosen : (f : ℕ → List ℕ) (taken : ℕ → Bool) (i n : ℕ) → List ℕ
@@ -21,13 +19,21 @@ unfoldable pub chosenSum : (f : ℕ → ℕ) (taken : ℕ → Bool) (i n : ℕ) 
 chosenSum f taken i zero = 0
 chosenSum f taken i (suc n) = cond (taken i) (f i) 0 + chosenSum f taken (suc i) n
 
+-- which things of a list are taken: all, or those of a set
+pub record Which : Type 0 where
+  pub all : Bool
+  pub set : ℕ
+
+abbrev pub which : (all : Bool) (set : ℕ) → Which
+which b s = record { all = b; set = s }
+
 -- is thing i taken?
 abbrev pub takes : Which → ℕ → Bool
-takes w i = w .all || has (setOf (w .set)) i
+takes w i = w .all || has (w .set) i
 
 -- how many are taken, where a set is one of things of the list
 abbrev pub takenCount : Which → (n : ℕ) → ℕ
-takenCount w n = cond (w .all) n (ones (setOf (w .set)))
+takenCount w n = cond (w .all) n (ones (w .set))
 
 -- the row of thing i, where the thing at row x takes `size x` rows
 unfoldable pub rowFrom : (size : ℕ → ℕ) (first i : ℕ) → ℕ

@@ -2,7 +2,8 @@
 //! counted first, its bytes and its expression tags.
 use arena::View;
 use required_indices::RequiredIndices;
-ghost use mathlib.Core.Bool.{cond, true};
+use required_indices::WORDS;
+ghost use mathlib.Core.Bool.{cond};
 ghost use mathlib.Core.List.{[], _∷_};
 ghost use mathlib.Core.Path.{_≡_};
 ghost use Prim.Native.Nat.{_+_, _^_, _<_, _≤_};
@@ -13,10 +14,11 @@ ghost use Rattle.cpl.specs.Plan.{pair};
 ghost use Rattle.cpl.specs.Tests.{sumOf};
 ghost use Rattle.arena.specs.Cells.{exprAt, Wf};
 ghost use Rattle.arena.specs.Rows.{itemAt, RowOk};
+ghost use Rattle.required_indices.specs.Request.{Lent, setIn};
 ghost use Rattle.tree.specs.Rows.{aggAt, AggOk, callOf, keyAt, KeyOk, onAt, OnOk, winAt, WinOk};
 ghost use Rattle.writer_parts.specs.Wrote.{Countable, Counts, Laid, Wrote};
 ghost use Rattle.writer_parts.specs.Parts.{partBytes, PartOk, partTags};
-ghost use Rattle.writer_parts.specs.Lists.{countedList, listBytes, listTags, PartsOk, takenCount, takes, winsBytes, WinsOk, winsTags};
+ghost use Rattle.writer_parts.specs.Lists.{countedList, listBytes, listTags, PartsOk, takenCount, takes, which, winsBytes, WinsOk, winsTags};
 
 /// How many bytes, and how many expression tags.
 pub struct Size {
@@ -35,12 +37,6 @@ pub enum Part {
     Column(usize),
     Index(usize),
     Field,
-}
-
-/// Which things of a list are taken: all, or those of a set.
-pub struct Which {
-    pub all: bool,
-    pub set: RequiredIndices,
 }
 
 // Two sizes together.
@@ -373,12 +369,16 @@ pub fn part_size(part: Part, rows: &[u16], cells: &[u64], i: usize) -> Size
     }
 }
 
-/// Is thing i taken?
-pub fn is_taken(which: Which, i: usize) -> bool
-    ensures { λ r. ⌜ r ≡ takes which i ⌝ }
+/// Is thing i taken, where all are, or those of the set whose words are lent?
+pub fn is_taken(all: bool, indices: &[u64; WORDS], used: usize, i: usize) -> bool
+    requires { ⌜ Lent (now indices) ⌝ }
+    ensures { λ r. ⌜ r ≡ takes (which all (setIn (now (indices .entry)) used)) i ⌝ }
 {
-    let set = which.set;
-    if which.all { true } else { set.contains(i) }
+    if all {
+        true
+    } else {
+        RequiredIndices::contains(indices, used, i)
+    }
 }
 
 // A row where it is taken, and nothing where it is not.
@@ -411,17 +411,20 @@ pub fn write_list(
     cells: &[u64],
     first: usize,
     n: usize,
-    which: Which,
+    all: bool,
+    indices: &[u64; WORDS],
+    used: usize,
     out: &mut [u8],
 ) -> usize
+    requires { ⌜ Lent (now indices) ⌝ }
     requires { ⌜ PartsOk part (now rows) (now cells) first n ⌝ }
-    requires { ⌜ length (listBytes part (now rows) (now cells) first n which) ≤ length (now out) ⌝ }
-    ensures { λ r. ⌜ Wrote (listBytes part (now (rows .entry)) (now (cells .entry)) first n which) (now (out .entry)) r (now (out .exit)) ⌝ }
+    requires { ⌜ length (listBytes part (now rows) (now cells) first n (which all (setIn (now indices) used))) ≤ length (now out) ⌝ }
+    ensures { λ r. ⌜ Wrote (listBytes part (now (rows .entry)) (now (cells .entry)) first n (which all (setIn (now (indices .entry)) used))) (now (out .entry)) r (now (out .exit)) ⌝ }
 {
     let mut at = 0;
     let mut i = 0;
     while i < n {
-        let yes = is_taken(which, i);
+        let yes = is_taken(all, indices, used, i);
         let m = write_if(yes, part, rows, cells, first + i, &mut out[at..]);
         at += m;
         i += 1;
@@ -435,38 +438,35 @@ pub fn list_size(
     cells: &[u64],
     first: usize,
     n: usize,
-    which: Which,
+    all: bool,
+    indices: &[u64; WORDS],
+    used: usize,
 ) -> Size
+    requires { ⌜ Lent (now indices) ⌝ }
     requires { ⌜ PartsOk part (now rows) (now cells) first n ⌝ }
-    requires { ⌜ Countable (length (listBytes part (now rows) (now cells) first n which)) (listTags part (now rows) (now cells) first n which) ⌝ }
-    ensures { λ r. ⌜ Counts (length (listBytes part (now (rows .entry)) (now (cells .entry)) first n which)) (listTags part (now (rows .entry)) (now (cells .entry)) first n which) r ⌝ }
+    requires { ⌜ Countable (length (listBytes part (now rows) (now cells) first n (which all (setIn (now indices) used)))) (listTags part (now rows) (now cells) first n (which all (setIn (now indices) used))) ⌝ }
+    ensures { λ r. ⌜ Counts (length (listBytes part (now (rows .entry)) (now (cells .entry)) first n (which all (setIn (now (indices .entry)) used)))) (listTags part (now (rows .entry)) (now (cells .entry)) first n (which all (setIn (now (indices .entry)) used))) r ⌝ }
 {
     let mut sum = Size { bytes: 0, tags: 0 };
     let mut i = 0;
     while i < n {
-        let yes = is_taken(which, i);
+        let yes = is_taken(all, indices, used, i);
         sum = both(sum, size_if(yes, part, rows, cells, first + i));
         i += 1;
     }
     sum
 }
 
-/// Every thing of a list.
-pub fn everything() -> Which
-    ensures { λ r. ⌜ r .all ≡ true ⌝ }
-{
-    Which {
-        all: true,
-        set: RequiredIndices::new(),
-    }
-}
-
 // How many of n things are taken: of a set, as many as it has.
-fn taken_count(n: usize, which: Which) -> usize
-    ensures { λ r. ⌜ r ≡ takenCount which n ⌝ }
+fn taken_count(n: usize, all: bool, indices: &[u64; WORDS], used: usize) -> usize
+    requires { ⌜ Lent (now indices) ⌝ }
+    ensures { λ r. ⌜ r ≡ takenCount (which all (setIn (now (indices .entry)) used)) n ⌝ }
 {
-    let set = which.set;
-    if which.all { n } else { set.len() }
+    if all {
+        n
+    } else {
+        RequiredIndices::len(indices, used)
+    }
 }
 
 /// The count of a list in k bytes, and those of its rows that are taken.
@@ -477,15 +477,28 @@ pub fn write_counted(
     cells: &[u64],
     first: usize,
     n: usize,
-    which: Which,
+    all: bool,
+    indices: &[u64; WORDS],
+    used: usize,
     out: &mut [u8],
 ) -> usize
+    requires { ⌜ Lent (now indices) ⌝ }
     requires { ⌜ PartsOk part (now rows) (now cells) first n ⌝ }
-    requires { ⌜ length (countedList k part (now rows) (now cells) first n which) ≤ length (now out) ⌝ }
-    ensures { λ r. ⌜ Wrote (countedList k part (now (rows .entry)) (now (cells .entry)) first n which) (now (out .entry)) r (now (out .exit)) ⌝ }
+    requires { ⌜ length (countedList k part (now rows) (now cells) first n (which all (setIn (now indices) used))) ≤ length (now out) ⌝ }
+    ensures { λ r. ⌜ Wrote (countedList k part (now (rows .entry)) (now (cells .entry)) first n (which all (setIn (now (indices .entry)) used))) (now (out .entry)) r (now (out .exit)) ⌝ }
 {
-    let a = put_at(out, 0, k, taken_count(n, which) as u64);
-    let m = write_list(part, rows, cells, first, n, which, &mut out[a..]);
+    let a = put_at(out, 0, k, taken_count(n, all, indices, used) as u64);
+    let m = write_list(
+        part,
+        rows,
+        cells,
+        first,
+        n,
+        all,
+        indices,
+        used,
+        &mut out[a..],
+    );
     a + m
 }
 
@@ -496,15 +509,18 @@ pub fn counted_size(
     cells: &[u64],
     first: usize,
     n: usize,
-    which: Which,
+    all: bool,
+    indices: &[u64; WORDS],
+    used: usize,
 ) -> Size
+    requires { ⌜ Lent (now indices) ⌝ }
     requires { ⌜ PartsOk part (now rows) (now cells) first n ⌝ }
-    requires { ⌜ Countable (length (countedList k part (now rows) (now cells) first n which)) (listTags part (now rows) (now cells) first n which) ⌝ }
-    ensures { λ r. ⌜ Counts (length (countedList k part (now (rows .entry)) (now (cells .entry)) first n which)) (listTags part (now (rows .entry)) (now (cells .entry)) first n which) r ⌝ }
+    requires { ⌜ Countable (length (countedList k part (now rows) (now cells) first n (which all (setIn (now indices) used)))) (listTags part (now rows) (now cells) first n (which all (setIn (now indices) used))) ⌝ }
+    ensures { λ r. ⌜ Counts (length (countedList k part (now (rows .entry)) (now (cells .entry)) first n (which all (setIn (now (indices .entry)) used)))) (listTags part (now (rows .entry)) (now (cells .entry)) first n (which all (setIn (now (indices .entry)) used))) r ⌝ }
 {
     both(
         Size { bytes: k, tags: 0 },
-        list_size(part, rows, cells, first, n, which),
+        list_size(part, rows, cells, first, n, all, indices, used),
     )
 }
 
@@ -515,7 +531,7 @@ pub fn write_win(rows: &[u16], cells: &[u64], i: usize, out: &mut [u8]) -> usize
     ensures { λ r. ⌜ Wrote (winBytes (winAt (now (rows .entry)) (now (cells .entry)) i)) (now (out .entry)) r (now (out .exit)) ⌝ }
 {
     let w = tree::win_at(rows, i);
-    let all = everything();
+    let none = RequiredIndices::new();
     let a = put_pair(out, 0, w.qualifier, w.name);
     let b = put_at(out, a, 1, wide(w.function));
     let p = write_counted(
@@ -525,11 +541,24 @@ pub fn write_win(rows: &[u16], cells: &[u64], i: usize, out: &mut [u8]) -> usize
         cells,
         i + 1,
         w.parts,
-        all,
+        true,
+        &none.indices,
+        none.used,
         &mut out[b..],
     );
     let c = b + p;
-    let k = write_counted(1, Part::Key, rows, cells, w.key, w.keys, all, &mut out[c..]);
+    let k = write_counted(
+        1,
+        Part::Key,
+        rows,
+        cells,
+        w.key,
+        w.keys,
+        true,
+        &none.indices,
+        none.used,
+        &mut out[c..],
+    );
     let d = c + k;
     let m = write_call(cells, w.function, w.root, &mut out[d..]);
     d + m
@@ -541,9 +570,29 @@ pub fn win_size(rows: &[u16], cells: &[u64], i: usize) -> Size
     ensures { λ r. ⌜ Counts (length (winBytes (winAt (now (rows .entry)) (now (cells .entry)) i))) (winTags (winAt (now (rows .entry)) (now (cells .entry)) i)) r ⌝ }
 {
     let w = tree::win_at(rows, i);
-    let all = everything();
-    let p = counted_size(1, Part::Expr, rows, cells, i + 1, w.parts, all);
-    let k = counted_size(1, Part::Key, rows, cells, w.key, w.keys, all);
+    let none = RequiredIndices::new();
+    let p = counted_size(
+        1,
+        Part::Expr,
+        rows,
+        cells,
+        i + 1,
+        w.parts,
+        true,
+        &none.indices,
+        none.used,
+    );
+    let k = counted_size(
+        1,
+        Part::Key,
+        rows,
+        cells,
+        w.key,
+        w.keys,
+        true,
+        &none.indices,
+        none.used,
+    );
     let m = call_size(cells, w.function, w.root);
     both(both(Size { bytes: 5, tags: 0 }, p), both(k, m))
 }
@@ -577,18 +626,21 @@ pub fn write_wins(
     cells: &[u64],
     first: usize,
     n: usize,
-    which: Which,
+    all: bool,
+    indices: &[u64; WORDS],
+    used: usize,
     out: &mut [u8],
 ) -> usize
+    requires { ⌜ Lent (now indices) ⌝ }
     requires { ⌜ WinsOk (now rows) (now cells) first n ⌝ }
-    requires { ⌜ length (winsBytes (now rows) (now cells) first n which) ≤ length (now out) ⌝ }
-    ensures { λ r. ⌜ Wrote (winsBytes (now (rows .entry)) (now (cells .entry)) first n which) (now (out .entry)) r (now (out .exit)) ⌝ }
+    requires { ⌜ length (winsBytes (now rows) (now cells) first n (which all (setIn (now indices) used))) ≤ length (now out) ⌝ }
+    ensures { λ r. ⌜ Wrote (winsBytes (now (rows .entry)) (now (cells .entry)) first n (which all (setIn (now (indices .entry)) used))) (now (out .entry)) r (now (out .exit)) ⌝ }
 {
     let mut at = 0;
     let mut row = first;
     let mut i = 0;
     while i < n {
-        let yes = is_taken(which, i);
+        let yes = is_taken(all, indices, used, i);
         let m = write_win_if(yes, rows, cells, row, &mut out[at..]);
         at += m;
         row = tree::win_at(rows, row).next;
@@ -597,16 +649,25 @@ pub fn write_wins(
     at
 }
 
-pub fn wins_size(rows: &[u16], cells: &[u64], first: usize, n: usize, which: Which) -> Size
+pub fn wins_size(
+    rows: &[u16],
+    cells: &[u64],
+    first: usize,
+    n: usize,
+    all: bool,
+    indices: &[u64; WORDS],
+    used: usize,
+) -> Size
+    requires { ⌜ Lent (now indices) ⌝ }
     requires { ⌜ WinsOk (now rows) (now cells) first n ⌝ }
-    requires { ⌜ Countable (length (winsBytes (now rows) (now cells) first n which)) (winsTags (now rows) (now cells) first n which) ⌝ }
-    ensures { λ r. ⌜ Counts (length (winsBytes (now (rows .entry)) (now (cells .entry)) first n which)) (winsTags (now (rows .entry)) (now (cells .entry)) first n which) r ⌝ }
+    requires { ⌜ Countable (length (winsBytes (now rows) (now cells) first n (which all (setIn (now indices) used)))) (winsTags (now rows) (now cells) first n (which all (setIn (now indices) used))) ⌝ }
+    ensures { λ r. ⌜ Counts (length (winsBytes (now (rows .entry)) (now (cells .entry)) first n (which all (setIn (now (indices .entry)) used)))) (winsTags (now (rows .entry)) (now (cells .entry)) first n (which all (setIn (now (indices .entry)) used))) r ⌝ }
 {
     let mut sum = Size { bytes: 0, tags: 0 };
     let mut row = first;
     let mut i = 0;
     while i < n {
-        let yes = is_taken(which, i);
+        let yes = is_taken(all, indices, used, i);
         sum = both(sum, win_size_if(yes, rows, cells, row));
         row = tree::win_at(rows, row).next;
         i += 1;

@@ -1,6 +1,6 @@
 -- The proof of the cycle of calls {accept_at}. The measure is the number of node numbers from the node on. Assumes nothing.
 use Prim.Native.Nat.{_-_, _<_, ℕ}
-use Rattle.accept.proofs.Given.{head-same}
+use Rattle.verdicts.proofs.Given.{head-same}
 use Rattle.accept.proofs.Plans.{ends-in, few-nodes, first-refused, input-fields, is-binary, is-leaf, is-unary, judged-is, leaf-checked, left-input, one-checked, one-refused, own-named, own-parts, ready-none, ready-one, ready-two, second-refused, side-is, two-checked, walk-left, walk-one, walk-right}
 use Rattle.arena.proofs.Laws.{here}
 use Rattle.arena.proofs.Rows.{Asked}
@@ -20,7 +20,7 @@ use Rattle.accept.proofs.+accept_at.Lts-accept_at as lts
 use Rattle.accept.proofs.kids_of.Reads as kids-of-reads
 use Rattle.accept.proofs.no_sides.Reads as no-sides-reads
 use Rattle.accept.proofs.one_side.Reads as one-side-reads
-use Rattle.accept.proofs.own_verdict.Reads as own-verdict-reads
+use Rattle.verdicts.proofs.own_verdict.Reads as own-verdict-reads
 use Rattle.accept.proofs.two_sides.Reads as two-sides-reads
 use Rattle.tree.proofs.node_at.Reads as node-at-reads
 use Rattle.accept.proofs.+accept_at.{statement}

@@ -12,8 +12,8 @@ enum-known-rest c = search needs
 
 followed-by-requires : tie.Need-followed-by-requires
 followed-by-requires c κs =
-    let rest = c .before .before .rest in
-    let pre = c .before .before .before .before .pre in
+    let rest = c .before .rest in
+    let pre = c .before .before .before .pre in
     then-fits (rest .given .1) pre
 
 enum-told-2 : tie.Need-enum-told-2
@@ -26,13 +26,13 @@ returns c =
 
 returns-2 : tie.Need-returns-2
 returns-2 c =
-    let rest = c .before .before .before .rest in
+    let rest = c .before .before .rest in
     let followed-by = c .followed-by in
     kept-then (rest .given .1) (followed-by .ensures)
 
 returns-3 : tie.Need-returns-3
 returns-3 c =
-    let enum-told2 = c .before .enum-told2 in
+    let enum-told2 = c .enum-told2 in
     kept-own (enum-told2 .given .1)
 
 pub kept-of-spec : {M : Type 1} → statement M

@@ -20,11 +20,11 @@ same-length c = search needs
 
 returns : tie.Need-returns
 returns c =
-    let a = c .before .before .before .before .before .args in
+    let a = c .before .before .before .before .before .before .before .args in
     let store = c .before .before .store in
-    let long : length (a .key .indices) ≡ wordsN = search needs in
-    let few : length (wordsOf (a .key)) ≤ wordsN = omega (arith, length-take (a .key .used) (a .key .indices)) in
-    key-put (a .keys .now) (a .slot * storedN) (a .key) (search needs) few (a .slot) refl _ (store .ensures)
+    let long : length (a .t3 .indices) ≡ wordsN = search needs in
+    let few : length (wordsOf (a .t3)) ≤ wordsN = omega (arith, length-take (a .t3 .used) (a .t3 .indices)) in
+    key-put (a .keys .now) (a .slot * storedN) (a .t3) (search needs) few (a .slot) refl _ (store .ensures)
 
 pub put-key-spec : {M : Type 1} → statement M
 put-key-spec = tie.close (tie.spec mul-store store-requires same-length returns)

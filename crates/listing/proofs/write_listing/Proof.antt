@@ -2,7 +2,7 @@
 use Rattle.listing.proofs.Digits.{short}
 use Rattle.listing.proofs.Nodes.{lines-short}
 use Rattle.listing.proofs.Puts.{listing-wrote}
-use Rattle.reader.proofs.Names.{widths}
+use Rattle.catalogue.proofs.Names.{widths}
 use Rattle.rules.specs.Mask.{countM}
 use Rattle.writer_parts.proofs.Over.{kept}
 use borrow.Author.Needs.{needs}

@@ -1,7 +1,6 @@
 -- The proof of the cycle of calls. The measure is four times the number of nodes from the node on, and a little for what is still to be done at it.
 -- Assumes nothing.
 use mathlib.Core.Path.{refl, sym, ap, _∙_}
-use Rattle.optimize_projections.proofs.Ends.{scratch-kept}
 use Rattle.optimize_projections.proofs.Inputs.{first-before, first-too-large, leaf-after, nothing-after, one-after, one-before, right-above, same-after, same-before, second-before, topped-after, two-after}
 use Rattle.optimize_projections.proofs.Nodes.{inputs-before, inputs-left, node-after, other-asked}
 use Rattle.optimize_projections.proofs.Merges.{down-after, down-before, file-list, load-after, lower-reads, lower-rows, other-after, over-large, stop-after}
@@ -171,7 +170,7 @@ abbrev rewrite-projection-given-requirements-calls : ℕ → rewrite-projection-
 rewrite-projection-given-requirements-calls t = (first-at-reads.Asked, first-at-reads.Learnt, width-at-reads.Asked, width-at-reads.Learnt, get-at-indices-reads.Asked, get-at-indices-reads.Learnt, optimize-projections-below t, optimize-projections.Post, put-list-reads.Asked, put-list-reads.Learnt)
 
 merge-projections-node-at-requires : (t : ℕ) → merge-projections-lts.Need-node-at-requires (merge-projections-calls t) (merge-projections-at t) merge-projections.Post
-merge-projections-node-at-requires t c κs = c .before .before .before .before .before .before .before .before .before .before .before .before .before .pre .1 .0 .standing .tree .each _ (c .before .before .before .before .before .before .before .before .before .before .before .before .before .pre .1 .0 .within) .numbers
+merge-projections-node-at-requires t c κs = c .before .before .before .pre .1 .standing .tree .each _ (c .before .before .before .pre .1 .within) .numbers
 
 merge-projections-kind-of-requires : (t : ℕ) → merge-projections-lts.Need-kind-of-requires (merge-projections-calls t) (merge-projections-at t) merge-projections.Post
 merge-projections-kind-of-requires t c κs = search needs
@@ -183,196 +182,73 @@ merge-projections-enum-told : (t : ℕ) → merge-projections-lts.Need-enum-told
 merge-projections-enum-told t c = search needs
 
 merge-projections-rewrite-projection-given-requirements-requires : (t : ℕ) → merge-projections-lts.Need-rewrite-projection-given-requirements-requires (merge-projections-calls t) (merge-projections-at t) merge-projections.Post
-merge-projections-rewrite-projection-given-requirements-requires t c κs = (omega (arith, c .before .before .before .before .before .before .before .before .before .before .before .before .before .before .before .before .before .before .before .before .before .before .before .before .pre .0), (c .before .before .before .before .before .before .before .before .before .before .before .before .before .before .before .before .before .before .before .before .before .before .before .before .pre .1 .0, (c .before .before .before .before .before .before .before .before .before .before .before .before .before .before .before .before .before .before .before .before .before .before .before .before .pre .1 .1 .0, c .before .before .before .before .before .before .before .before .before .before .before .before .before .before .before .before .before .before .before .before .before .before .before .before .pre .1 .1 .1)))
-
-merge-projections-same-length : (t : ℕ) → merge-projections-lts.Need-same-length (merge-projections-calls t) (merge-projections-at t) merge-projections.Post
-merge-projections-same-length t c = search needs
-
-merge-projections-same-length-2 : (t : ℕ) → merge-projections-lts.Need-same-length-2 (merge-projections-calls t) (merge-projections-at t) merge-projections.Post
-merge-projections-same-length-2 t c = search needs
-
-merge-projections-same-length-3 : (t : ℕ) → merge-projections-lts.Need-same-length-3 (merge-projections-calls t) (merge-projections-at t) merge-projections.Post
-merge-projections-same-length-3 t c = search needs
-
-merge-projections-same-length-4 : (t : ℕ) → merge-projections-lts.Need-same-length-4 (merge-projections-calls t) (merge-projections-at t) merge-projections.Post
-merge-projections-same-length-4 t c = search needs
-
-merge-projections-same-length-5 : (t : ℕ) → merge-projections-lts.Need-same-length-5 (merge-projections-calls t) (merge-projections-at t) merge-projections.Post
-merge-projections-same-length-5 t c = search needs
-
-merge-projections-same-length-6 : (t : ℕ) → merge-projections-lts.Need-same-length-6 (merge-projections-calls t) (merge-projections-at t) merge-projections.Post
-merge-projections-same-length-6 t c = search needs
-
-merge-projections-same-length-7 : (t : ℕ) → merge-projections-lts.Need-same-length-7 (merge-projections-calls t) (merge-projections-at t) merge-projections.Post
-merge-projections-same-length-7 t c = search needs
+merge-projections-rewrite-projection-given-requirements-requires t c κs = (omega (arith, c .before .before .before .before .before .before .before .before .before .before .before .before .before .before .pre .0), c .before .before .before .before .before .before .before .before .before .before .before .before .before .before .pre .1)
 
 merge-projections-returns : (t : ℕ) → merge-projections-lts.Need-returns (merge-projections-calls t) (merge-projections-at t) merge-projections.Post
-merge-projections-returns t c = other-after _ (c .before .before .before .before .before .before .before .before .before .before .before .before .before .before .before .before .before .before .before .before .before .before .before .before .before .node-at .ensures .is) (rw (c .before .before .before .before .before .before .before .before .before .before .before .before .before .before .before .before .before .before .before .before .before .before .enum-told .given .1) at (c .before .before .before .before .before .before .before .before .before .before .before .before .before .before .before .before .before .before .before .before .before .before .before .before .kind-of .ensures)) (c .before .before .before .before .before .before .before .before .before .before .before .before .before .before .rewrite-projection-given-requirements .ensures)
+merge-projections-returns t c = other-after _ (c .before .before .before .before .before .before .before .before .before .before .before .node-at .ensures .is) (rw (c .before .before .before .before .before .before .before .before .enum-told .given .1) at (c .before .before .before .before .before .before .before .before .before .before .kind-of .ensures)) (c .rewrite-projection-given-requirements .ensures)
 
 merge-projections-merge-step-requires : (t : ℕ) → merge-projections-lts.Need-merge-step-requires (merge-projections-calls t) (merge-projections-at t) merge-projections.Post
 merge-projections-merge-step-requires t c κs =
-    let pre = c .before .before .before .before .before .before .before .before .before .before .before .before .before .before .before .before .before .before .before .before .before .before .pre in
-    let e = sym (rw (c .before .before .before .before .before .kind .given .1) at (c .before .before .before .before .before .before .before .kind-of .ensures)) ∙ c .before .before .before .before .before .before .before .before .node-at .ensures .is in
-    (pre .1 .0 .list, (lower-rows (pre .1 .0 .standing) _ (pre .1 .0 .within) _ _ e, (lower-reads (pre .1 .0 .standing) _ (pre .1 .0 .within) _ _ e (pre .1 .0 .items), pre .1 .1 .1)))
+    let pre = c .before .before .before .before .before .before .before .before .before .before .before .before .before .before .before .pre in
+    let e = sym (rw (c .before .before .before .before .before .before .before .before .kind .given .1) at (c .before .before .before .before .before .before .before .before .before .before .kind-of .ensures)) ∙ c .before .before .before .before .before .before .before .before .before .before .before .node-at .ensures .is in
+    (pre .1 .list, (lower-rows (pre .1 .standing) _ (pre .1 .within) _ _ e, (lower-reads (pre .1 .standing) _ (pre .1 .within) _ _ e (pre .1 .items), record { rows-long = omega (arith, c .before .merge-step-arg6 .given .0 .1); cells-long = omega (arith, c .merge-step-arg7 .given .0 .1); cells-short = omega (arith, c .merge-step-arg7 .given .0 .1) })))
 
 merge-projections-enum-told-2 : (t : ℕ) → merge-projections-lts.Need-enum-told-2 (merge-projections-calls t) (merge-projections-at t) merge-projections.Post
 merge-projections-enum-told-2 t c = search needs
 
 merge-projections-add-merge-projections : (t : ℕ) → merge-projections-lts.Need-add-merge-projections (merge-projections-calls t) (merge-projections-at t) merge-projections.Post
-merge-projections-add-merge-projections t c = omega (arith, c .before .before .before .before .before .before .before .before .before .before .before .before .before .before .before .before .before .before .before .before .before .before .before .before .before .before .before .before .before .pre .1 .0 .within, c .before .before .before .before .before .before .before .before .before .before .before .before .before .before .before .before .before .before .before .before .before .before .before .before .before .before .before .before .before .pre .1 .0 .standing .tree .few)
+merge-projections-add-merge-projections t c = omega (arith, c .before .before .before .before .before .before .before .before .before .before .before .before .before .before .before .before .before .before .pre .1 .within, c .before .before .before .before .before .before .before .before .before .before .before .before .before .before .before .before .before .before .pre .1 .standing .tree .few)
 
 merge-projections-merge-projections-requires : (t : ℕ) → merge-projections-lts.Need-merge-projections-requires (merge-projections-calls t) (merge-projections-at t) merge-projections.Post
 merge-projections-merge-projections-requires t c κs = (
-  omega (arith, c .before .before .before .before .before .before .before .before .before .before .before .before .before .before .before .before .before .before .before .before .before .before .before .before .before .before .before .before .before .before .before .before .before .before .before .before .pre .0, c .before .before .before .before .before .before .before .before .before .before .before .before .before .before .before .before .before .before .before .before .before .before .before .before .before .before .before .before .before .before .before .before .before .before .before .before .pre .1 .0 .within, c .before .before .before .before .before .before .before .before .before .before .before .before .before .before .before .before .before .before .before .before .before .before .before .before .before .before .before .before .before .before .before .before .before .before .before .before .pre .1 .0 .standing .tree .few),
-  (
-    down-before _ _ _ (sym (rw (c .before .before .before .before .before .before .before .before .before .before .before .before .before .before .before .before .before .before .before .kind .given .1) at (c .before .before .before .before .before .before .before .before .before .before .before .before .before .before .before .before .before .before .before .before .before .kind-of .ensures)) ∙ c .before .before .before .before .before .before .before .before .before .before .before .before .before .before .before .before .before .before .before .before .before .before .node-at .ensures .is) _ _ _ (rw (c .before .before .before .before .before .before .before .enum-told2 .given .1) at (c .before .before .before .before .before .before .before .before .before .before .before .before .before .merge-step .ensures)) refl (c .before .before .before .before .before .before .before .before .before .before .before .before .before .before .before .before .before .before .before .before .before .before .before .before .before .before .before .before .before .before .before .before .before .before .before .before .pre .1 .0 .list) (c .before .before .before .before .before .before .before .before .before .before .before .before .before .before .before .before .before .before .before .before .before .before .before .before .before .before .before .before .before .before .before .before .before .before .before .before .pre .1 .0),
-    (c .before .before .before .before .before .before .before .before .before .before .before .before .before .before .before .before .before .before .before .before .before .before .before .before .before .before .before .before .before .before .before .before .before .before .before .before .pre .1 .1 .0, scratch-kept (c .before .before .before .before .before .before .before .before .before .before .before .before .before .before .before .before .before .before .before .before .before .before .before .before .before .before .before .before .before .before .before .before .before .before .before .before .pre .1 .1 .1) (c .before .before .before .before .before .before .before .before .before .before .before .before .before .merge-step .kept .1 .1 .1 .1 .1 .1 .1 .1 .1 .0) (c .before .before .before .before .before .before .before .before .before .before .before .before .before .merge-step .kept .1 .1 .1 .1 .1 .1 .1 .1 .1 .1 .0)),
-  ),
+  omega (arith, c .before .before .before .before .before .before .before .before .before .before .before .before .before .before .before .before .before .before .before .before .before .before .before .before .before .pre .0, c .before .before .before .before .before .before .before .before .before .before .before .before .before .before .before .before .before .before .before .before .before .before .before .before .before .pre .1 .within, c .before .before .before .before .before .before .before .before .before .before .before .before .before .before .before .before .before .before .before .before .before .before .before .before .before .pre .1 .standing .tree .few),
+  down-before _ _ _ (sym (rw (c .before .before .before .before .before .before .before .before .before .before .before .before .before .before .before .before .before .before .kind .given .1) at (c .before .before .before .before .before .before .before .before .before .before .before .before .before .before .before .before .before .before .before .before .kind-of .ensures)) ∙ c .before .before .before .before .before .before .before .before .before .before .before .before .before .before .before .before .before .before .before .before .before .node-at .ensures .is) _ _ _ (rw (c .before .before .before .before .before .before .before .enum-told2 .given .1) at (c .before .before .before .before .before .before .before .before .before .merge-step .ensures)) refl (c .before .before .before .before .before .before .before .before .before .before .before .before .before .before .before .before .before .before .before .before .before .before .before .before .before .pre .1 .list) (c .before .before .before .before .before .before .before .before .before .before .before .before .before .before .before .before .before .before .before .before .before .before .before .before .before .pre .1),
 )
 
 merge-projections-enum-told-3 : (t : ℕ) → merge-projections-lts.Need-enum-told-3 (merge-projections-calls t) (merge-projections-at t) merge-projections.Post
 merge-projections-enum-told-3 t c = search needs
 
 merge-projections-add-merge-projections-2 : (t : ℕ) → merge-projections-lts.Need-add-merge-projections-2 (merge-projections-calls t) (merge-projections-at t) merge-projections.Post
-merge-projections-add-merge-projections-2 t c = omega (arith, c .before .before .before .before .before .before .before .before .before .before .before .before .before .before .before .before .before .before .before .before .before .before .before .before .before .before .before .before .before .pre .1 .0 .within, c .before .before .before .before .before .before .before .before .before .before .before .before .before .before .before .before .before .before .before .before .before .before .before .before .before .before .before .before .before .pre .1 .0 .standing .tree .few)
+merge-projections-add-merge-projections-2 t c = omega (arith, c .before .before .before .before .before .before .before .before .before .before .before .before .before .before .before .before .before .before .pre .1 .within, c .before .before .before .before .before .before .before .before .before .before .before .before .before .before .before .before .before .before .pre .1 .standing .tree .few)
 
 merge-projections-merge-projections-requires-2 : (t : ℕ) → merge-projections-lts.Need-merge-projections-requires-2 (merge-projections-calls t) (merge-projections-at t) merge-projections.Post
 merge-projections-merge-projections-requires-2 t c κs =
-    let d = rw (c .before .before .before .before .before .before .before .enum-told3 .given .1) at (c .before .before .before .before .before .before .before .before .before .before .before .before .before .merge-step .ensures) in (
-      omega (arith, c .before .before .before .before .before .before .before .before .before .before .before .before .before .before .before .before .before .before .before .before .before .before .before .before .before .before .before .before .before .before .before .before .before .before .before .before .pre .0, c .before .before .before .before .before .before .before .before .before .before .before .before .before .before .before .before .before .before .before .before .before .before .before .before .before .before .before .before .before .before .before .before .before .before .before .before .pre .1 .0 .within, c .before .before .before .before .before .before .before .before .before .before .before .before .before .before .before .before .before .before .before .before .before .before .before .before .before .before .before .before .before .before .before .before .before .before .before .before .pre .1 .0 .standing .tree .few),
-      (
-        down-before _ _ _ (sym (rw (c .before .before .before .before .before .before .before .before .before .before .before .before .before .before .before .before .before .before .before .kind .given .1) at (c .before .before .before .before .before .before .before .before .before .before .before .before .before .before .before .before .before .before .before .before .before .kind-of .ensures)) ∙ c .before .before .before .before .before .before .before .before .before .before .before .before .before .before .before .before .before .before .before .before .before .before .node-at .ensures .is) _ _ _ (d .0) refl (record { rows-ok = d .1 .rows-ok; tags = d .1 .few; few = c .before .before .before .before .before .before .before .before .before .before .before .before .before .before .before .before .before .before .before .before .before .before .before .before .before .before .before .before .before .before .before .before .before .before .before .before .pre .1 .0 .list .few }) (c .before .before .before .before .before .before .before .before .before .before .before .before .before .before .before .before .before .before .before .before .before .before .before .before .before .before .before .before .before .before .before .before .before .before .before .before .pre .1 .0),
-        (scratch-kept (c .before .before .before .before .before .before .before .before .before .before .before .before .before .before .before .before .before .before .before .before .before .before .before .before .before .before .before .before .before .before .before .before .before .before .before .before .pre .1 .1 .1) (c .before .before .before .before .before .before .before .before .before .before .before .before .before .merge-step .kept .1 .1 .1 .1 .1 .1 .1 .1 .1 .0) (c .before .before .before .before .before .before .before .before .before .before .before .before .before .merge-step .kept .1 .1 .1 .1 .1 .1 .1 .1 .1 .1 .0), c .before .before .before .before .before .before .before .before .before .before .before .before .before .before .before .before .before .before .before .before .before .before .before .before .before .before .before .before .before .before .before .before .before .before .before .before .pre .1 .1 .0),
-      ),
+    let d = rw (c .before .before .before .before .before .before .before .enum-told3 .given .1) at (c .before .before .before .before .before .before .before .before .before .merge-step .ensures) in (
+      omega (arith, c .before .before .before .before .before .before .before .before .before .before .before .before .before .before .before .before .before .before .before .before .before .before .before .before .before .pre .0, c .before .before .before .before .before .before .before .before .before .before .before .before .before .before .before .before .before .before .before .before .before .before .before .before .before .pre .1 .within, c .before .before .before .before .before .before .before .before .before .before .before .before .before .before .before .before .before .before .before .before .before .before .before .before .before .pre .1 .standing .tree .few),
+      down-before _ _ _ (sym (rw (c .before .before .before .before .before .before .before .before .before .before .before .before .before .before .before .before .before .before .kind .given .1) at (c .before .before .before .before .before .before .before .before .before .before .before .before .before .before .before .before .before .before .before .before .kind-of .ensures)) ∙ c .before .before .before .before .before .before .before .before .before .before .before .before .before .before .before .before .before .before .before .before .before .node-at .ensures .is) _ _ _ (d .0) refl (record { rows-ok = d .1 .rows-ok; tags = d .1 .few; few = c .before .before .before .before .before .before .before .before .before .before .before .before .before .before .before .before .before .before .before .before .before .before .before .before .before .pre .1 .list .few }) (c .before .before .before .before .before .before .before .before .before .before .before .before .before .before .before .before .before .before .before .before .before .before .before .before .before .pre .1),
     )
 
 merge-projections-enum-told-4 : (t : ℕ) → merge-projections-lts.Need-enum-told-4 (merge-projections-calls t) (merge-projections-at t) merge-projections.Post
 merge-projections-enum-told-4 t c = search needs
 
 merge-projections-rewrite-projection-given-requirements-requires-2 : (t : ℕ) → merge-projections-lts.Need-rewrite-projection-given-requirements-requires-2 (merge-projections-calls t) (merge-projections-at t) merge-projections.Post
-merge-projections-rewrite-projection-given-requirements-requires-2 t c κs = (omega (arith, c .before .before .before .before .before .before .before .before .before .before .before .before .before .before .before .before .before .before .before .before .before .before .before .before .before .before .before .before .before .before .before .before .before .before .before .before .pre .0), (c .before .before .before .before .before .before .before .before .before .before .before .before .before .before .before .before .before .before .before .before .before .before .before .before .before .before .before .before .before .before .before .before .before .before .before .before .pre .1 .0, (c .before .before .before .before .before .before .before .before .before .before .before .before .before .before .before .before .before .before .before .before .before .before .before .before .before .before .before .before .before .before .before .before .before .before .before .before .pre .1 .1 .0, scratch-kept (c .before .before .before .before .before .before .before .before .before .before .before .before .before .before .before .before .before .before .before .before .before .before .before .before .before .before .before .before .before .before .before .before .before .before .before .before .pre .1 .1 .1) (c .before .before .before .before .before .before .before .before .before .before .before .before .before .merge-step .kept .1 .1 .1 .1 .1 .1 .1 .1 .1 .0) (c .before .before .before .before .before .before .before .before .before .before .before .before .before .merge-step .kept .1 .1 .1 .1 .1 .1 .1 .1 .1 .1 .0))))
+merge-projections-rewrite-projection-given-requirements-requires-2 t c κs = (omega (arith, c .before .before .before .before .before .before .before .before .before .before .before .before .before .before .before .before .before .before .before .before .before .before .before .before .before .pre .0), c .before .before .before .before .before .before .before .before .before .before .before .before .before .before .before .before .before .before .before .before .before .before .before .before .before .pre .1)
 
 merge-projections-enum-told-5 : (t : ℕ) → merge-projections-lts.Need-enum-told-5 (merge-projections-calls t) (merge-projections-at t) merge-projections.Post
 merge-projections-enum-told-5 t c = search needs
 
-merge-projections-same-length-8 : (t : ℕ) → merge-projections-lts.Need-same-length-8 (merge-projections-calls t) (merge-projections-at t) merge-projections.Post
-merge-projections-same-length-8 t c = search needs
-
-merge-projections-same-length-9 : (t : ℕ) → merge-projections-lts.Need-same-length-9 (merge-projections-calls t) (merge-projections-at t) merge-projections.Post
-merge-projections-same-length-9 t c = search needs
-
-merge-projections-same-length-10 : (t : ℕ) → merge-projections-lts.Need-same-length-10 (merge-projections-calls t) (merge-projections-at t) merge-projections.Post
-merge-projections-same-length-10 t c = search needs
-
-merge-projections-same-length-11 : (t : ℕ) → merge-projections-lts.Need-same-length-11 (merge-projections-calls t) (merge-projections-at t) merge-projections.Post
-merge-projections-same-length-11 t c = search needs
-
-merge-projections-same-length-12 : (t : ℕ) → merge-projections-lts.Need-same-length-12 (merge-projections-calls t) (merge-projections-at t) merge-projections.Post
-merge-projections-same-length-12 t c = search needs
-
-merge-projections-same-length-13 : (t : ℕ) → merge-projections-lts.Need-same-length-13 (merge-projections-calls t) (merge-projections-at t) merge-projections.Post
-merge-projections-same-length-13 t c = search needs
-
-merge-projections-same-length-14 : (t : ℕ) → merge-projections-lts.Need-same-length-14 (merge-projections-calls t) (merge-projections-at t) merge-projections.Post
-merge-projections-same-length-14 t c = search needs
-
 merge-projections-returns-2 : (t : ℕ) → merge-projections-lts.Need-returns-2 (merge-projections-calls t) (merge-projections-at t) merge-projections.Post
-merge-projections-returns-2 t c = down-after _ _ _ (sym (rw (c .before .before .before .before .before .before .before .before .before .before .before .before .before .before .before .before .before .before .before .before .before .before .before .before .before .before .before .before .before .before .before .before .before .before .kind .given .1) at (c .before .before .before .before .before .before .before .before .before .before .before .before .before .before .before .before .before .before .before .before .before .before .before .before .before .before .before .before .before .before .before .before .before .before .before .before .kind-of .ensures)) ∙ c .before .before .before .before .before .before .before .before .before .before .before .before .before .before .before .before .before .before .before .before .before .before .before .before .before .before .before .before .before .before .before .before .before .before .before .before .before .node-at .ensures .is) _ _ _ (rw (c .before .before .before .before .before .before .before .before .before .before .before .before .before .before .before .before .before .before .before .before .before .before .enum-told2 .given .1) at (c .before .before .before .before .before .before .before .before .before .before .before .before .before .before .before .before .before .before .before .before .before .before .before .before .before .before .before .before .merge-step .ensures)) refl (c .before .before .before .before .before .before .before .before .before .before .before .before .before .before .before .before .before .before .before .before .before .before .before .before .before .before .before .before .before .before .before .before .before .before .before .before .before .before .before .before .before .before .before .before .before .before .before .before .before .before .before .pre .1 .0 .list) (c .before .before .before .before .before .before .before .before .before .before .before .before .before .before .merge-projections .ensures)
-
-merge-projections-same-length-15 : (t : ℕ) → merge-projections-lts.Need-same-length-15 (merge-projections-calls t) (merge-projections-at t) merge-projections.Post
-merge-projections-same-length-15 t c = search needs
-
-merge-projections-same-length-16 : (t : ℕ) → merge-projections-lts.Need-same-length-16 (merge-projections-calls t) (merge-projections-at t) merge-projections.Post
-merge-projections-same-length-16 t c = search needs
-
-merge-projections-same-length-17 : (t : ℕ) → merge-projections-lts.Need-same-length-17 (merge-projections-calls t) (merge-projections-at t) merge-projections.Post
-merge-projections-same-length-17 t c = search needs
-
-merge-projections-same-length-18 : (t : ℕ) → merge-projections-lts.Need-same-length-18 (merge-projections-calls t) (merge-projections-at t) merge-projections.Post
-merge-projections-same-length-18 t c = search needs
-
-merge-projections-same-length-19 : (t : ℕ) → merge-projections-lts.Need-same-length-19 (merge-projections-calls t) (merge-projections-at t) merge-projections.Post
-merge-projections-same-length-19 t c = search needs
-
-merge-projections-same-length-20 : (t : ℕ) → merge-projections-lts.Need-same-length-20 (merge-projections-calls t) (merge-projections-at t) merge-projections.Post
-merge-projections-same-length-20 t c = search needs
-
-merge-projections-same-length-21 : (t : ℕ) → merge-projections-lts.Need-same-length-21 (merge-projections-calls t) (merge-projections-at t) merge-projections.Post
-merge-projections-same-length-21 t c = search needs
+merge-projections-returns-2 t c = down-after _ _ _ (sym (rw (c .before .before .before .before .before .before .before .before .before .before .before .before .before .before .before .before .before .before .before .kind .given .1) at (c .before .before .before .before .before .before .before .before .before .before .before .before .before .before .before .before .before .before .before .before .before .kind-of .ensures)) ∙ c .before .before .before .before .before .before .before .before .before .before .before .before .before .before .before .before .before .before .before .before .before .before .node-at .ensures .is) _ _ _ (rw (c .before .before .before .before .before .before .before .before .enum-told2 .given .1) at (c .before .before .before .before .before .before .before .before .before .before .merge-step .ensures)) refl (c .before .before .before .before .before .before .before .before .before .before .before .before .before .before .before .before .before .before .before .before .before .before .before .before .before .before .pre .1 .list) (c .merge-projections .ensures)
 
 merge-projections-returns-3 : (t : ℕ) → merge-projections-lts.Need-returns-3 (merge-projections-calls t) (merge-projections-at t) merge-projections.Post
 merge-projections-returns-3 t c =
-    let d = rw (c .before .before .before .before .before .before .before .before .before .before .before .before .before .before .before .before .before .before .before .before .before .before .enum-told3 .given .1) at (c .before .before .before .before .before .before .before .before .before .before .before .before .before .before .before .before .before .before .before .before .before .before .before .before .before .before .before .before .merge-step .ensures) in
-    down-after _ _ _ (sym (rw (c .before .before .before .before .before .before .before .before .before .before .before .before .before .before .before .before .before .before .before .before .before .before .before .before .before .before .before .before .before .before .before .before .before .before .kind .given .1) at (c .before .before .before .before .before .before .before .before .before .before .before .before .before .before .before .before .before .before .before .before .before .before .before .before .before .before .before .before .before .before .before .before .before .before .before .before .kind-of .ensures)) ∙ c .before .before .before .before .before .before .before .before .before .before .before .before .before .before .before .before .before .before .before .before .before .before .before .before .before .before .before .before .before .before .before .before .before .before .before .before .before .node-at .ensures .is) _ _ _ (d .0) refl (record { rows-ok = d .1 .rows-ok; tags = d .1 .few; few = c .before .before .before .before .before .before .before .before .before .before .before .before .before .before .before .before .before .before .before .before .before .before .before .before .before .before .before .before .before .before .before .before .before .before .before .before .before .before .before .before .before .before .before .before .before .before .before .before .before .before .before .pre .1 .0 .list .few }) (c .before .before .before .before .before .before .before .before .before .before .before .before .before .before .merge-projections2 .ensures)
-
-merge-projections-same-length-22 : (t : ℕ) → merge-projections-lts.Need-same-length-22 (merge-projections-calls t) (merge-projections-at t) merge-projections.Post
-merge-projections-same-length-22 t c = search needs
-
-merge-projections-same-length-23 : (t : ℕ) → merge-projections-lts.Need-same-length-23 (merge-projections-calls t) (merge-projections-at t) merge-projections.Post
-merge-projections-same-length-23 t c = search needs
-
-merge-projections-same-length-24 : (t : ℕ) → merge-projections-lts.Need-same-length-24 (merge-projections-calls t) (merge-projections-at t) merge-projections.Post
-merge-projections-same-length-24 t c = search needs
-
-merge-projections-same-length-25 : (t : ℕ) → merge-projections-lts.Need-same-length-25 (merge-projections-calls t) (merge-projections-at t) merge-projections.Post
-merge-projections-same-length-25 t c = search needs
-
-merge-projections-same-length-26 : (t : ℕ) → merge-projections-lts.Need-same-length-26 (merge-projections-calls t) (merge-projections-at t) merge-projections.Post
-merge-projections-same-length-26 t c = search needs
-
-merge-projections-same-length-27 : (t : ℕ) → merge-projections-lts.Need-same-length-27 (merge-projections-calls t) (merge-projections-at t) merge-projections.Post
-merge-projections-same-length-27 t c = search needs
-
-merge-projections-same-length-28 : (t : ℕ) → merge-projections-lts.Need-same-length-28 (merge-projections-calls t) (merge-projections-at t) merge-projections.Post
-merge-projections-same-length-28 t c = search needs
+    let d = rw (c .before .before .before .before .before .before .before .before .enum-told3 .given .1) at (c .before .before .before .before .before .before .before .before .before .before .merge-step .ensures) in
+    down-after _ _ _ (sym (rw (c .before .before .before .before .before .before .before .before .before .before .before .before .before .before .before .before .before .before .before .kind .given .1) at (c .before .before .before .before .before .before .before .before .before .before .before .before .before .before .before .before .before .before .before .before .before .kind-of .ensures)) ∙ c .before .before .before .before .before .before .before .before .before .before .before .before .before .before .before .before .before .before .before .before .before .before .node-at .ensures .is) _ _ _ (d .0) refl (record { rows-ok = d .1 .rows-ok; tags = d .1 .few; few = c .before .before .before .before .before .before .before .before .before .before .before .before .before .before .before .before .before .before .before .before .before .before .before .before .before .before .pre .1 .list .few }) (c .merge-projections2 .ensures)
 
 merge-projections-returns-4 : (t : ℕ) → merge-projections-lts.Need-returns-4 (merge-projections-calls t) (merge-projections-at t) merge-projections.Post
-merge-projections-returns-4 t c = stop-after _ _ _ (sym (rw (c .before .before .before .before .before .before .before .before .before .before .before .before .before .before .before .before .before .before .before .before .before .before .before .before .before .before .before .before .before .before .before .before .before .before .kind .given .1) at (c .before .before .before .before .before .before .before .before .before .before .before .before .before .before .before .before .before .before .before .before .before .before .before .before .before .before .before .before .before .before .before .before .before .before .before .before .kind-of .ensures)) ∙ c .before .before .before .before .before .before .before .before .before .before .before .before .before .before .before .before .before .before .before .before .before .before .before .before .before .before .before .before .before .before .before .before .before .before .before .before .before .node-at .ensures .is) (rw (c .before .before .before .before .before .before .before .before .before .before .before .before .before .before .before .before .before .before .before .before .before .before .enum-told4 .given .1) at (c .before .before .before .before .before .before .before .before .before .before .before .before .before .before .before .before .before .before .before .before .before .before .before .before .before .before .before .before .merge-step .ensures)) (c .before .before .before .before .before .before .before .before .before .before .before .before .before .before .rewrite-projection-given-requirements2 .ensures)
-
-merge-projections-same-length-29 : (t : ℕ) → merge-projections-lts.Need-same-length-29 (merge-projections-calls t) (merge-projections-at t) merge-projections.Post
-merge-projections-same-length-29 t c = search needs
-
-merge-projections-same-length-30 : (t : ℕ) → merge-projections-lts.Need-same-length-30 (merge-projections-calls t) (merge-projections-at t) merge-projections.Post
-merge-projections-same-length-30 t c = search needs
-
-merge-projections-same-length-31 : (t : ℕ) → merge-projections-lts.Need-same-length-31 (merge-projections-calls t) (merge-projections-at t) merge-projections.Post
-merge-projections-same-length-31 t c = search needs
-
-merge-projections-same-length-32 : (t : ℕ) → merge-projections-lts.Need-same-length-32 (merge-projections-calls t) (merge-projections-at t) merge-projections.Post
-merge-projections-same-length-32 t c = search needs
+merge-projections-returns-4 t c = stop-after _ _ _ (sym (rw (c .before .before .before .before .before .before .before .before .before .before .before .before .before .before .before .before .before .before .before .kind .given .1) at (c .before .before .before .before .before .before .before .before .before .before .before .before .before .before .before .before .before .before .before .before .before .kind-of .ensures)) ∙ c .before .before .before .before .before .before .before .before .before .before .before .before .before .before .before .before .before .before .before .before .before .before .node-at .ensures .is) (rw (c .before .before .before .before .before .before .before .before .enum-told4 .given .1) at (c .before .before .before .before .before .before .before .before .before .before .merge-step .ensures)) (c .rewrite-projection-given-requirements2 .ensures)
 
 merge-projections-returns-5 : (t : ℕ) → merge-projections-lts.Need-returns-5 (merge-projections-calls t) (merge-projections-at t) merge-projections.Post
-merge-projections-returns-5 t c = over-large _ _ _ (sym (rw (c .before .before .before .before .before .before .before .before .before .before .before .before .kind .given .1) at (c .before .before .before .before .before .before .before .before .before .before .before .before .before .before .kind-of .ensures)) ∙ c .before .before .before .before .before .before .before .before .before .before .before .before .before .before .before .node-at .ensures .is) (rw (c .enum-told5 .given .1) at (c .before .before .before .before .before .before .merge-step .ensures)) refl
+merge-projections-returns-5 t c = over-large _ _ _ (sym (rw (c .before .before .before .before .before .before .before .before .before .before .before .kind .given .1) at (c .before .before .before .before .before .before .before .before .before .before .before .before .before .kind-of .ensures)) ∙ c .before .before .before .before .before .before .before .before .before .before .before .before .before .before .node-at .ensures .is) (rw (c .enum-told5 .given .1) at (c .before .before .merge-step .ensures)) refl
 
 optimize-input-optimize-projections-requires : (t : ℕ) → optimize-input-lts.Need-optimize-projections-requires (optimize-input-calls t) (optimize-input-at t) optimize-input.Post
-optimize-input-optimize-projections-requires t c κs = (omega (arith, c .before .before .before .before .before .before .before .before .before .before .before .before .before .before .before .before .before .before .before .before .pre .0), (c .before .before .before .before .before .before .before .before .before .before .before .before .before .before .before .before .before .before .before .before .pre .1 .0, (c .before .before .before .before .before .before .before .before .before .before .before .before .before .before .before .before .before .before .before .before .pre .1 .1 .0, c .before .before .before .before .before .before .before .before .before .before .before .before .before .before .before .before .before .before .before .before .pre .1 .1 .1)))
+optimize-input-optimize-projections-requires t c κs = (omega (arith, c .before .before .before .before .before .before .before .before .before .pre .0), c .before .before .before .before .before .before .before .before .before .pre .1)
 
 optimize-input-top-up-requires : (t : ℕ) → optimize-input-lts.Need-top-up-requires (optimize-input-calls t) (optimize-input-at t) optimize-input.Post
-optimize-input-top-up-requires t c κs = omega (arith, c .before .before .before .before .before .before .before .before .before .before .before .before .before .before .before .before .before .before .before .before .before .before .before .before .before .before .before .before .before .before .before .before .before .before .before .before .pre .1 .0 .ready .records-long, c .before .before .before .before .before .before .before .before .before .before .before .before .before .before .before .optimize-projections .kept .1 .1 .1 .1 .1 .1 .1 .1 .1 .1 .1 .1 .1 .0)
-
-optimize-input-same-length : (t : ℕ) → optimize-input-lts.Need-same-length (optimize-input-calls t) (optimize-input-at t) optimize-input.Post
-optimize-input-same-length t c = search needs
-
-optimize-input-same-length-2 : (t : ℕ) → optimize-input-lts.Need-same-length-2 (optimize-input-calls t) (optimize-input-at t) optimize-input.Post
-optimize-input-same-length-2 t c = search needs
-
-optimize-input-same-length-3 : (t : ℕ) → optimize-input-lts.Need-same-length-3 (optimize-input-calls t) (optimize-input-at t) optimize-input.Post
-optimize-input-same-length-3 t c = search needs
-
-optimize-input-same-length-4 : (t : ℕ) → optimize-input-lts.Need-same-length-4 (optimize-input-calls t) (optimize-input-at t) optimize-input.Post
-optimize-input-same-length-4 t c = search needs
-
-optimize-input-same-length-5 : (t : ℕ) → optimize-input-lts.Need-same-length-5 (optimize-input-calls t) (optimize-input-at t) optimize-input.Post
-optimize-input-same-length-5 t c = search needs
-
-optimize-input-same-length-6 : (t : ℕ) → optimize-input-lts.Need-same-length-6 (optimize-input-calls t) (optimize-input-at t) optimize-input.Post
-optimize-input-same-length-6 t c = search needs
-
-optimize-input-same-length-7 : (t : ℕ) → optimize-input-lts.Need-same-length-7 (optimize-input-calls t) (optimize-input-at t) optimize-input.Post
-optimize-input-same-length-7 t c = search needs
+optimize-input-top-up-requires t c κs = omega (arith, c .top-up-arg .given .0 .1)
 
 optimize-input-returns : (t : ℕ) → optimize-input-lts.Need-returns (optimize-input-calls t) (optimize-input-at t) optimize-input.Post
-optimize-input-returns t c = topped-after _ _ _ (c .before .before .before .before .before .before .before .before .before .before .before .before .before .before .before .before .before .before .optimize-projections .ensures) (c .before .before .top-up .ensures)
+optimize-input-returns t c = topped-after _ _ _ (c .before .before .optimize-projections .ensures) (c .top-up .ensures)
 
 optimize-inputs-enum-told : (t : ℕ) → optimize-inputs-lts.Need-enum-told (optimize-inputs-calls t) (optimize-inputs-at t) optimize-inputs.Post
 optimize-inputs-enum-told t c = search needs
@@ -393,7 +269,7 @@ optimize-inputs-add-optimize-input : (t : ℕ) → optimize-inputs-lts.Need-add-
 optimize-inputs-add-optimize-input t c = search needs
 
 optimize-inputs-optimize-input-requires : (t : ℕ) → optimize-inputs-lts.Need-optimize-input-requires (optimize-inputs-calls t) (optimize-inputs-at t) optimize-inputs.Post
-optimize-inputs-optimize-input-requires t c κs = (omega (arith, c .before .before .before .before .before .before .before .before .before .before .before .before .before .before .before .before .before .before .before .before .before .before .before .pre .0, c .before .before .before .before .before .before .before .before .before .before .before .before .before .before .before .before .before .before .before .before .before .before .before .pre .1 .0 .within, c .before .before .before .before .before .before .before .before .before .before .before .before .before .before .before .before .before .before .before .before .before .before .before .pre .1 .0 .standing .tree .few), (same-before (c .before .before .before .before .before .before .before .enum-told3 .given .1) (c .before .before .before .before .before .before .before .before .before .before .before .before .before .before .before .before .before .before .before .before .before .before .before .pre .1 .0), (c .before .before .before .before .before .before .before .before .before .before .before .before .before .before .before .before .before .before .before .before .before .before .before .pre .1 .1 .0, c .before .before .before .before .before .before .before .before .before .before .before .before .before .before .before .before .before .before .before .before .before .before .before .pre .1 .1 .1)))
+optimize-inputs-optimize-input-requires t c κs = (omega (arith, c .before .before .before .before .before .before .before .before .before .before .before .before .pre .0, c .before .before .before .before .before .before .before .before .before .before .before .before .pre .1 .within, c .before .before .before .before .before .before .before .before .before .before .before .before .pre .1 .standing .tree .few), (same-before (c .before .before .before .before .before .before .before .enum-told3 .given .1) (c .before .before .before .before .before .before .before .before .before .before .before .before .pre .1)))
 
 optimize-inputs-one-input-requires : (t : ℕ) → optimize-inputs-lts.Need-one-input-requires (optimize-inputs-calls t) (optimize-inputs-at t) optimize-inputs.Post
 optimize-inputs-one-input-requires t c κs = search needs
@@ -405,7 +281,7 @@ optimize-inputs-add-optimize-input-2 : (t : ℕ) → optimize-inputs-lts.Need-ad
 optimize-inputs-add-optimize-input-2 t c = search needs
 
 optimize-inputs-optimize-input-requires-2 : (t : ℕ) → optimize-inputs-lts.Need-optimize-input-requires-2 (optimize-inputs-calls t) (optimize-inputs-at t) optimize-inputs.Post
-optimize-inputs-optimize-input-requires-2 t c κs = (omega (arith, c .before .before .before .before .before .before .before .before .before .before .before .before .before .before .before .before .before .before .before .before .before .before .before .before .pre .0, c .before .before .before .before .before .before .before .before .before .before .before .before .before .before .before .before .before .before .before .before .before .before .before .before .pre .1 .0 .within, c .before .before .before .before .before .before .before .before .before .before .before .before .before .before .before .before .before .before .before .before .before .before .before .before .pre .1 .0 .standing .tree .few), (one-before _ (c .before .before .before .before .before .before .before .before .todo .given .1) (c .before .before .before .before .before .before .before .before .before .before .before .before .before .before .before .before .before .before .before .before .before .before .before .before .pre .1 .0), (c .before .before .before .before .before .before .before .before .before .before .before .before .before .before .before .before .before .before .before .before .before .before .before .before .pre .1 .1 .0, c .before .before .before .before .before .before .before .before .before .before .before .before .before .before .before .before .before .before .before .before .before .before .before .before .pre .1 .1 .1)))
+optimize-inputs-optimize-input-requires-2 t c κs = (omega (arith, c .before .before .before .before .before .before .before .before .before .before .before .before .before .pre .0, c .before .before .before .before .before .before .before .before .before .before .before .before .before .pre .1 .within, c .before .before .before .before .before .before .before .before .before .before .before .before .before .pre .1 .standing .tree .few), (one-before _ (c .before .before .before .before .before .before .before .before .todo .given .1) (c .before .before .before .before .before .before .before .before .before .before .before .before .before .pre .1)))
 
 optimize-inputs-one-input-requires-2 : (t : ℕ) → optimize-inputs-lts.Need-one-input-requires-2 (optimize-inputs-calls t) (optimize-inputs-at t) optimize-inputs.Post
 optimize-inputs-one-input-requires-2 t c κs = search needs
@@ -417,7 +293,7 @@ optimize-inputs-add-optimize-input-3 : (t : ℕ) → optimize-inputs-lts.Need-ad
 optimize-inputs-add-optimize-input-3 t c = search needs
 
 optimize-inputs-optimize-input-requires-3 : (t : ℕ) → optimize-inputs-lts.Need-optimize-input-requires-3 (optimize-inputs-calls t) (optimize-inputs-at t) optimize-inputs.Post
-optimize-inputs-optimize-input-requires-3 t c κs = (omega (arith, c .before .before .before .before .before .before .before .before .before .before .before .before .before .before .before .before .before .before .before .before .before .before .before .before .pre .0, c .before .before .before .before .before .before .before .before .before .before .before .before .before .before .before .before .before .before .before .before .before .before .before .before .pre .1 .0 .within, c .before .before .before .before .before .before .before .before .before .before .before .before .before .before .before .before .before .before .before .before .before .before .before .before .pre .1 .0 .standing .tree .few), (first-before _ (c .before .before .before .before .before .before .before .before .todo2 .given .1) (c .before .before .before .before .before .before .before .before .before .before .before .before .before .before .before .before .before .before .before .before .before .before .before .before .pre .1 .0), (c .before .before .before .before .before .before .before .before .before .before .before .before .before .before .before .before .before .before .before .before .before .before .before .before .pre .1 .1 .0, c .before .before .before .before .before .before .before .before .before .before .before .before .before .before .before .before .before .before .before .before .before .before .before .before .pre .1 .1 .1)))
+optimize-inputs-optimize-input-requires-3 t c κs = (omega (arith, c .before .before .before .before .before .before .before .before .before .before .before .before .before .pre .0, c .before .before .before .before .before .before .before .before .before .before .before .before .before .pre .1 .within, c .before .before .before .before .before .before .before .before .before .before .before .before .before .pre .1 .standing .tree .few), (first-before _ (c .before .before .before .before .before .before .before .before .todo2 .given .1) (c .before .before .before .before .before .before .before .before .before .before .before .before .before .pre .1)))
 
 optimize-inputs-enum-known-end : (t : ℕ) → optimize-inputs-lts.Need-enum-known-end (optimize-inputs-calls t) (optimize-inputs-at t) optimize-inputs.Post
 optimize-inputs-enum-known-end t c = search needs
@@ -425,37 +301,13 @@ optimize-inputs-enum-known-end t c = search needs
 optimize-inputs-enum-told-4 : (t : ℕ) → optimize-inputs-lts.Need-enum-told-4 (optimize-inputs-calls t) (optimize-inputs-at t) optimize-inputs.Post
 optimize-inputs-enum-told-4 t c = search needs
 
-optimize-inputs-same-length : (t : ℕ) → optimize-inputs-lts.Need-same-length (optimize-inputs-calls t) (optimize-inputs-at t) optimize-inputs.Post
-optimize-inputs-same-length t c = search needs
-
-optimize-inputs-same-length-2 : (t : ℕ) → optimize-inputs-lts.Need-same-length-2 (optimize-inputs-calls t) (optimize-inputs-at t) optimize-inputs.Post
-optimize-inputs-same-length-2 t c = search needs
-
-optimize-inputs-same-length-3 : (t : ℕ) → optimize-inputs-lts.Need-same-length-3 (optimize-inputs-calls t) (optimize-inputs-at t) optimize-inputs.Post
-optimize-inputs-same-length-3 t c = search needs
-
-optimize-inputs-same-length-4 : (t : ℕ) → optimize-inputs-lts.Need-same-length-4 (optimize-inputs-calls t) (optimize-inputs-at t) optimize-inputs.Post
-optimize-inputs-same-length-4 t c = search needs
-
-optimize-inputs-same-length-5 : (t : ℕ) → optimize-inputs-lts.Need-same-length-5 (optimize-inputs-calls t) (optimize-inputs-at t) optimize-inputs.Post
-optimize-inputs-same-length-5 t c = search needs
-
-optimize-inputs-same-length-6 : (t : ℕ) → optimize-inputs-lts.Need-same-length-6 (optimize-inputs-calls t) (optimize-inputs-at t) optimize-inputs.Post
-optimize-inputs-same-length-6 t c = search needs
-
-optimize-inputs-same-length-7 : (t : ℕ) → optimize-inputs-lts.Need-same-length-7 (optimize-inputs-calls t) (optimize-inputs-at t) optimize-inputs.Post
-optimize-inputs-same-length-7 t c = search needs
-
 optimize-inputs-returns : (t : ℕ) → optimize-inputs-lts.Need-returns (optimize-inputs-calls t) (optimize-inputs-at t) optimize-inputs.Post
-optimize-inputs-returns t c = first-too-large _ _ (c .before .before .before .before .before .before .before .before .before .before .before .before .before .before .before .before .before .before .before .before .before .before .before .before .before .before .todo2 .given .1) (c .before .before .before .before .before .before .before .before .before .before .before .before .before .before .before .before .before .optimize-input3 .ensures) (c .enum-told4 .given .1) refl
+optimize-inputs-returns t c = first-too-large _ _ (c .before .before .before .before .before .before .before .before .before .before .before .before .todo2 .given .1) (c .before .before .before .optimize-input3 .ensures) (c .enum-told4 .given .1) refl
 
 optimize-inputs-optimize-input-requires-4 : (t : ℕ) → optimize-inputs-lts.Need-optimize-input-requires-4 (optimize-inputs-calls t) (optimize-inputs-at t) optimize-inputs.Post
 optimize-inputs-optimize-input-requires-4 t c κs = (
-  omega (arith, c .before .before .before .before .before .before .before .before .before .before .before .before .before .before .before .before .before .before .before .before .before .before .before .before .before .before .before .before .before .before .before .before .before .before .before .before .before .before .before .before .before .before .before .before .before .before .before .before .before .before .before .pre .0, c .before .before .before .before .before .before .before .before .before .before .before .before .before .before .before .before .before .before .before .before .before .before .before .before .before .before .before .before .before .before .before .before .before .before .before .before .before .before .before .before .before .before .before .before .before .before .before .before .before .before .before .pre .1 .0 .within, c .before .before .before .before .before .before .before .before .before .before .before .before .before .before .before .before .before .before .before .before .before .before .before .before .before .before .before .before .before .before .before .before .before .before .before .before .before .before .before .before .before .before .before .before .before .before .before .before .before .before .before .pre .1 .0 .standing .tree .few, right-above _ (c .before .before .before .before .before .before .before .before .before .before .before .before .before .before .before .before .before .before .before .before .before .before .before .before .before .before .before .before .before .before .before .before .before .before .before .todo2 .given .1) (c .before .before .before .before .before .before .before .before .before .before .before .before .before .before .before .before .before .before .before .before .before .before .before .before .before .before .before .before .before .before .before .before .before .before .before .before .before .before .before .before .before .before .before .before .before .before .before .before .before .before .before .pre .1 .0)),
-  (
-    second-before _ _ (c .before .before .before .before .before .before .before .before .before .before .before .before .before .before .before .before .before .before .before .before .before .before .before .before .before .before .before .before .before .before .before .before .before .before .before .todo2 .given .1) (c .before .before .before .before .before .before .before .before .before .before .before .before .before .before .before .before .before .before .before .before .before .before .before .before .before .before .optimize-input3 .ensures) _ _ (c .before .before .before .before .before .before .before .before .before .end .given .1) (c .before .before .before .before .before .before .before .before .before .before .before .before .before .before .before .before .before .before .before .before .before .before .before .before .before .before .before .before .before .before .before .before .before .before .before .before .before .before .before .before .before .before .before .before .before .before .before .before .before .before .before .pre .1 .0),
-    (scratch-kept (c .before .before .before .before .before .before .before .before .before .before .before .before .before .before .before .before .before .before .before .before .before .before .before .before .before .before .before .before .before .before .before .before .before .before .before .before .before .before .before .before .before .before .before .before .before .before .before .before .before .before .before .pre .1 .1 .0) (c .before .before .before .before .before .before .before .before .before .before .before .before .before .before .before .before .before .before .before .before .before .before .before .before .before .before .optimize-input3 .kept .1 .1 .1 .1 .1 .1 .1 .1 .1 .1 .0) (c .before .before .before .before .before .before .before .before .before .before .before .before .before .before .before .before .before .before .before .before .before .before .before .before .before .before .optimize-input3 .kept .1 .1 .1 .1 .1 .1 .1 .1 .1 .1 .1 .0), scratch-kept (c .before .before .before .before .before .before .before .before .before .before .before .before .before .before .before .before .before .before .before .before .before .before .before .before .before .before .before .before .before .before .before .before .before .before .before .before .before .before .before .before .before .before .before .before .before .before .before .before .before .before .before .pre .1 .1 .1) (c .before .before .before .before .before .before .before .before .before .before .before .before .before .before .before .before .before .before .before .before .before .before .before .before .before .before .optimize-input3 .kept .1 .1 .1 .1 .1 .1 .1 .1 .1 .1 .1 .1 .0) (c .before .before .before .before .before .before .before .before .before .before .before .before .before .before .before .before .before .before .before .before .before .before .before .before .before .before .optimize-input3 .kept .1 .1 .1 .1 .1 .1 .1 .1 .1 .1 .1 .1 .1 .0)),
-  ),
+  omega (arith, c .before .before .before .before .before .before .before .before .before .before .before .before .before .before .before .before .before .before .before .before .before .before .before .before .before .before .pre .0, c .before .before .before .before .before .before .before .before .before .before .before .before .before .before .before .before .before .before .before .before .before .before .before .before .before .before .pre .1 .within, c .before .before .before .before .before .before .before .before .before .before .before .before .before .before .before .before .before .before .before .before .before .before .before .before .before .before .pre .1 .standing .tree .few, right-above _ (c .before .before .before .before .before .before .before .before .before .before .before .before .before .before .before .before .before .before .before .before .before .todo2 .given .1) (c .before .before .before .before .before .before .before .before .before .before .before .before .before .before .before .before .before .before .before .before .before .before .before .before .before .before .pre .1)),
+  second-before _ _ (c .before .before .before .before .before .before .before .before .before .before .before .before .before .before .before .before .before .before .before .before .before .todo2 .given .1) (c .before .before .before .before .before .before .before .before .before .before .before .before .optimize-input3 .ensures) _ _ (c .before .before .before .before .before .before .before .before .before .end .given .1) (c .before .before .before .before .before .before .before .before .before .before .before .before .before .before .before .before .before .before .before .before .before .before .before .before .before .before .pre .1),
 )
 
 optimize-inputs-two-inputs-requires : (t : ℕ) → optimize-inputs-lts.Need-two-inputs-requires (optimize-inputs-calls t) (optimize-inputs-at t) optimize-inputs.Post
@@ -467,80 +319,17 @@ optimize-inputs-returns-2 t c = leaf-after _ (c .before .enum-told .given .1) (a
 optimize-inputs-returns-3 : (t : ℕ) → optimize-inputs-lts.Need-returns-3 (optimize-inputs-calls t) (optimize-inputs-at t) optimize-inputs.Post
 optimize-inputs-returns-3 t c = nothing-after _ (c .before .enum-told2 .given .1) (ap (λ i. i .end) (c .no-input2 .ensures))
 
-optimize-inputs-same-length-8 : (t : ℕ) → optimize-inputs-lts.Need-same-length-8 (optimize-inputs-calls t) (optimize-inputs-at t) optimize-inputs.Post
-optimize-inputs-same-length-8 t c = search needs
-
-optimize-inputs-same-length-9 : (t : ℕ) → optimize-inputs-lts.Need-same-length-9 (optimize-inputs-calls t) (optimize-inputs-at t) optimize-inputs.Post
-optimize-inputs-same-length-9 t c = search needs
-
-optimize-inputs-same-length-10 : (t : ℕ) → optimize-inputs-lts.Need-same-length-10 (optimize-inputs-calls t) (optimize-inputs-at t) optimize-inputs.Post
-optimize-inputs-same-length-10 t c = search needs
-
-optimize-inputs-same-length-11 : (t : ℕ) → optimize-inputs-lts.Need-same-length-11 (optimize-inputs-calls t) (optimize-inputs-at t) optimize-inputs.Post
-optimize-inputs-same-length-11 t c = search needs
-
-optimize-inputs-same-length-12 : (t : ℕ) → optimize-inputs-lts.Need-same-length-12 (optimize-inputs-calls t) (optimize-inputs-at t) optimize-inputs.Post
-optimize-inputs-same-length-12 t c = search needs
-
-optimize-inputs-same-length-13 : (t : ℕ) → optimize-inputs-lts.Need-same-length-13 (optimize-inputs-calls t) (optimize-inputs-at t) optimize-inputs.Post
-optimize-inputs-same-length-13 t c = search needs
-
-optimize-inputs-same-length-14 : (t : ℕ) → optimize-inputs-lts.Need-same-length-14 (optimize-inputs-calls t) (optimize-inputs-at t) optimize-inputs.Post
-optimize-inputs-same-length-14 t c = search needs
-
 optimize-inputs-returns-4 : (t : ℕ) → optimize-inputs-lts.Need-returns-4 (optimize-inputs-calls t) (optimize-inputs-at t) optimize-inputs.Post
-optimize-inputs-returns-4 t c = same-after _ (c .one-input .ensures) (c .before .before .before .before .before .before .before .before .before .before .before .before .before .before .before .before .before .before .before .before .before .before .before .enum-told3 .given .1) (c .before .before .before .before .before .before .before .before .before .before .before .before .before .before .before .optimize-input .ensures)
-
-optimize-inputs-same-length-15 : (t : ℕ) → optimize-inputs-lts.Need-same-length-15 (optimize-inputs-calls t) (optimize-inputs-at t) optimize-inputs.Post
-optimize-inputs-same-length-15 t c = search needs
-
-optimize-inputs-same-length-16 : (t : ℕ) → optimize-inputs-lts.Need-same-length-16 (optimize-inputs-calls t) (optimize-inputs-at t) optimize-inputs.Post
-optimize-inputs-same-length-16 t c = search needs
-
-optimize-inputs-same-length-17 : (t : ℕ) → optimize-inputs-lts.Need-same-length-17 (optimize-inputs-calls t) (optimize-inputs-at t) optimize-inputs.Post
-optimize-inputs-same-length-17 t c = search needs
-
-optimize-inputs-same-length-18 : (t : ℕ) → optimize-inputs-lts.Need-same-length-18 (optimize-inputs-calls t) (optimize-inputs-at t) optimize-inputs.Post
-optimize-inputs-same-length-18 t c = search needs
-
-optimize-inputs-same-length-19 : (t : ℕ) → optimize-inputs-lts.Need-same-length-19 (optimize-inputs-calls t) (optimize-inputs-at t) optimize-inputs.Post
-optimize-inputs-same-length-19 t c = search needs
-
-optimize-inputs-same-length-20 : (t : ℕ) → optimize-inputs-lts.Need-same-length-20 (optimize-inputs-calls t) (optimize-inputs-at t) optimize-inputs.Post
-optimize-inputs-same-length-20 t c = search needs
-
-optimize-inputs-same-length-21 : (t : ℕ) → optimize-inputs-lts.Need-same-length-21 (optimize-inputs-calls t) (optimize-inputs-at t) optimize-inputs.Post
-optimize-inputs-same-length-21 t c = search needs
+optimize-inputs-returns-4 t c = same-after _ (c .one-input .ensures) (c .before .before .before .before .before .before .before .before .before .enum-told3 .given .1) (c .before .optimize-input .ensures)
 
 optimize-inputs-returns-5 : (t : ℕ) → optimize-inputs-lts.Need-returns-5 (optimize-inputs-calls t) (optimize-inputs-at t) optimize-inputs.Post
-optimize-inputs-returns-5 t c = one-after _ (c .one-input2 .ensures) _ (c .before .before .before .before .before .before .before .before .before .before .before .before .before .before .before .before .before .before .before .before .before .before .before .before .todo .given .1) (c .before .before .before .before .before .before .before .before .before .before .before .before .before .before .before .optimize-input2 .ensures)
-
-optimize-inputs-same-length-22 : (t : ℕ) → optimize-inputs-lts.Need-same-length-22 (optimize-inputs-calls t) (optimize-inputs-at t) optimize-inputs.Post
-optimize-inputs-same-length-22 t c = omega (arith, c .before .before .before .before .before .before .before .before .before .before .before .before .before .before .before .before .before .before .before .before .before .before .before .before .before .before .before .before .before .before .before .before .before .before .before .before .before .before .before .before .before .before .optimize-input3 .kept .1 .1 .1 .1 .1 .1 .1 .1 .1 .1 .0, c .before .before .before .before .before .before .before .before .before .before .before .before .before .before .before .optimize-input4 .kept .1 .1 .1 .1 .1 .1 .1 .1 .1 .1 .0)
-
-optimize-inputs-same-length-23 : (t : ℕ) → optimize-inputs-lts.Need-same-length-23 (optimize-inputs-calls t) (optimize-inputs-at t) optimize-inputs.Post
-optimize-inputs-same-length-23 t c = omega (arith, c .before .before .before .before .before .before .before .before .before .before .before .before .before .before .before .before .before .before .before .before .before .before .before .before .before .before .before .before .before .before .before .before .before .before .before .before .before .before .before .before .before .before .optimize-input3 .kept .1 .1 .1 .1 .1 .1 .1 .1 .1 .1 .1 .0, c .before .before .before .before .before .before .before .before .before .before .before .before .before .before .before .optimize-input4 .kept .1 .1 .1 .1 .1 .1 .1 .1 .1 .1 .1 .0)
-
-optimize-inputs-same-length-24 : (t : ℕ) → optimize-inputs-lts.Need-same-length-24 (optimize-inputs-calls t) (optimize-inputs-at t) optimize-inputs.Post
-optimize-inputs-same-length-24 t c = omega (arith, c .before .before .before .before .before .before .before .before .before .before .before .before .before .before .before .before .before .before .before .before .before .before .before .before .before .before .before .before .before .before .before .before .before .before .before .before .before .before .before .before .before .before .optimize-input3 .kept .1 .1 .1 .1 .1 .1 .1 .1 .1 .1 .1 .1 .0, c .before .before .before .before .before .before .before .before .before .before .before .before .before .before .before .optimize-input4 .kept .1 .1 .1 .1 .1 .1 .1 .1 .1 .1 .1 .1 .0)
-
-optimize-inputs-same-length-25 : (t : ℕ) → optimize-inputs-lts.Need-same-length-25 (optimize-inputs-calls t) (optimize-inputs-at t) optimize-inputs.Post
-optimize-inputs-same-length-25 t c = omega (arith, c .before .before .before .before .before .before .before .before .before .before .before .before .before .before .before .before .before .before .before .before .before .before .before .before .before .before .before .before .before .before .before .before .before .before .before .before .before .before .before .before .before .before .optimize-input3 .kept .1 .1 .1 .1 .1 .1 .1 .1 .1 .1 .1 .1 .1 .0, c .before .before .before .before .before .before .before .before .before .before .before .before .before .before .before .optimize-input4 .kept .1 .1 .1 .1 .1 .1 .1 .1 .1 .1 .1 .1 .1 .0)
-
-optimize-inputs-same-length-26 : (t : ℕ) → optimize-inputs-lts.Need-same-length-26 (optimize-inputs-calls t) (optimize-inputs-at t) optimize-inputs.Post
-optimize-inputs-same-length-26 t c = omega (arith, c .before .before .before .before .before .before .before .before .before .before .before .before .before .before .before .before .before .before .before .before .before .before .before .before .before .before .before .before .before .before .before .before .before .before .before .before .before .before .before .before .before .before .optimize-input3 .kept .1 .1 .1 .1 .1 .1 .1 .1 .1 .1 .1 .1 .1 .1 .0, c .before .before .before .before .before .before .before .before .before .before .before .before .before .before .before .optimize-input4 .kept .1 .1 .1 .1 .1 .1 .1 .1 .1 .1 .1 .1 .1 .1 .0)
-
-optimize-inputs-same-length-27 : (t : ℕ) → optimize-inputs-lts.Need-same-length-27 (optimize-inputs-calls t) (optimize-inputs-at t) optimize-inputs.Post
-optimize-inputs-same-length-27 t c = omega (arith, c .before .before .before .before .before .before .before .before .before .before .before .before .before .before .before .before .before .before .before .before .before .before .before .before .before .before .before .before .before .before .before .before .before .before .before .before .before .before .before .before .before .before .optimize-input3 .kept .1 .1 .1 .1 .1 .1 .1 .1 .1 .1 .1 .1 .1 .1 .1 .0, c .before .before .before .before .before .before .before .before .before .before .before .before .before .before .before .optimize-input4 .kept .1 .1 .1 .1 .1 .1 .1 .1 .1 .1 .1 .1 .1 .1 .1 .0)
-
-optimize-inputs-same-length-28 : (t : ℕ) → optimize-inputs-lts.Need-same-length-28 (optimize-inputs-calls t) (optimize-inputs-at t) optimize-inputs.Post
-optimize-inputs-same-length-28 t c = omega (arith, c .before .before .before .before .before .before .before .before .before .before .before .before .before .before .before .before .before .before .before .before .before .before .before .before .before .before .before .before .before .before .before .before .before .before .before .before .before .before .before .before .before .before .optimize-input3 .kept .1 .1 .1 .1 .1 .1 .1 .1 .1 .1 .1 .1 .1 .1 .1 .1 .0, c .before .before .before .before .before .before .before .before .before .before .before .before .before .before .before .optimize-input4 .kept .1 .1 .1 .1 .1 .1 .1 .1 .1 .1 .1 .1 .1 .1 .1 .1 .0)
+optimize-inputs-returns-5 t c = one-after _ (c .one-input2 .ensures) _ (c .before .before .before .before .before .before .before .before .before .before .todo .given .1) (c .before .optimize-input2 .ensures)
 
 optimize-inputs-returns-6 : (t : ℕ) → optimize-inputs-lts.Need-returns-6 (optimize-inputs-calls t) (optimize-inputs-at t) optimize-inputs.Post
-optimize-inputs-returns-6 t c = two-after _ _ (c .before .before .before .before .before .before .before .before .before .before .before .before .before .before .before .before .before .before .before .before .before .before .before .before .before .before .before .before .before .before .before .before .before .before .before .before .before .before .before .before .before .before .before .before .before .before .before .before .before .before .before .todo2 .given .1) (c .before .before .before .before .before .before .before .before .before .before .before .before .before .before .before .before .before .before .before .before .before .before .before .before .before .before .before .before .before .before .before .before .before .before .before .before .before .before .before .before .before .before .optimize-input3 .ensures) _ _ (c .before .before .before .before .before .before .before .before .before .before .before .before .before .before .before .before .before .before .before .before .before .before .before .before .before .end .given .1) _ (c .before .before .before .before .before .before .before .before .before .before .before .before .before .before .before .optimize-input4 .ensures) (c .two-inputs .ensures)
+optimize-inputs-returns-6 t c = two-after _ _ (c .before .before .before .before .before .before .before .before .before .before .before .before .before .before .before .before .before .before .before .before .before .before .before .todo2 .given .1) (c .before .before .before .before .before .before .before .before .before .before .before .before .before .before .optimize-input3 .ensures) _ _ (c .before .before .before .before .before .before .before .before .before .before .before .end .given .1) _ (c .before .optimize-input4 .ensures) (c .two-inputs .ensures)
 
 optimize-projections-node-at-requires : (t : ℕ) → optimize-projections-lts.Need-node-at-requires (optimize-projections-calls t) (optimize-projections-at t) optimize-projections.Post
-optimize-projections-node-at-requires t c κs = c .before .before .before .before .before .before .before .before .before .before .before .before .before .pre .1 .0 .standing .tree .each _ (c .before .before .before .before .before .before .before .before .before .before .before .before .before .pre .1 .0 .within) .numbers
+optimize-projections-node-at-requires t c κs = c .before .before .before .pre .1 .standing .tree .each _ (c .before .before .before .pre .1 .within) .numbers
 
 optimize-projections-kind-of-requires : (t : ℕ) → optimize-projections-lts.Need-kind-of-requires (optimize-projections-calls t) (optimize-projections-at t) optimize-projections.Post
 optimize-projections-kind-of-requires t c κs = search needs
@@ -553,69 +342,27 @@ optimize-projections-add-merge-projections t c = search needs
 
 optimize-projections-merge-projections-requires : (t : ℕ) → optimize-projections-lts.Need-merge-projections-requires (optimize-projections-calls t) (optimize-projections-at t) optimize-projections.Post
 optimize-projections-merge-projections-requires t c κs = (
-  omega (arith, c .before .before .before .before .before .before .before .before .before .before .before .before .before .before .before .before .before .before .before .before .before .before .before .before .before .pre .0, c .before .before .before .before .before .before .before .before .before .before .before .before .before .before .before .before .before .before .before .before .before .before .before .before .before .pre .1 .0 .within, c .before .before .before .before .before .before .before .before .before .before .before .before .before .before .before .before .before .before .before .before .before .before .before .before .before .pre .1 .0 .standing .tree .few),
-  (file-list _ _ _ _ (sym (rw (c .before .before .before .before .before .before .before .before .kind .given .1) at (c .before .before .before .before .before .before .before .before .before .before .kind-of .ensures)) ∙ c .before .before .before .before .before .before .before .before .before .before .before .node-at .ensures .is) (c .before .before .before .before .before .before .before .before .before .before .before .before .before .before .before .before .before .before .before .before .before .before .before .before .before .pre .1 .0), (c .before .before .before .before .before .before .before .before .before .before .before .before .before .before .before .before .before .before .before .before .before .before .before .before .before .pre .1 .1 .0, c .before .before .before .before .before .before .before .before .before .before .before .before .before .before .before .before .before .before .before .before .before .before .before .before .before .pre .1 .1 .1)),
+  omega (arith, c .before .before .before .before .before .before .before .before .before .before .before .before .before .before .before .pre .0, c .before .before .before .before .before .before .before .before .before .before .before .before .before .before .before .pre .1 .within, c .before .before .before .before .before .before .before .before .before .before .before .before .before .before .before .pre .1 .standing .tree .few),
+  (file-list _ _ _ _ (sym (rw (c .before .before .before .before .before .before .before .before .kind .given .1) at (c .before .before .before .before .before .before .before .before .before .before .kind-of .ensures)) ∙ c .before .before .before .before .before .before .before .before .before .before .before .node-at .ensures .is) (c .before .before .before .before .before .before .before .before .before .before .before .before .before .before .before .pre .1)),
 )
 
 optimize-projections-enum-told : (t : ℕ) → optimize-projections-lts.Need-enum-told (optimize-projections-calls t) (optimize-projections-at t) optimize-projections.Post
 optimize-projections-enum-told t c = search needs
 
 optimize-projections-job-at-requires : (t : ℕ) → optimize-projections-lts.Need-job-at-requires (optimize-projections-calls t) (optimize-projections-at t) optimize-projections.Post
-optimize-projections-job-at-requires t c κs = other-asked (c .before .before .before .node-at .ensures .is) (rw (c .enum-told .given .1) at (c .before .before .kind-of .ensures)) (c .before .before .before .before .before .before .before .before .before .before .before .before .before .before .before .before .before .pre .1 .0)
+optimize-projections-job-at-requires t c κs = other-asked (c .before .before .before .before .before .before .node-at .ensures .is) (rw (c .before .before .before .enum-told .given .1) at (c .before .before .before .before .before .kind-of .ensures)) (c .before .before .before .before .before .before .before .before .before .before .pre .1)
 
 optimize-projections-optimize-inputs-requires : (t : ℕ) → optimize-projections-lts.Need-optimize-inputs-requires (optimize-projections-calls t) (optimize-projections-at t) optimize-projections.Post
-optimize-projections-optimize-inputs-requires t c κs = (omega (arith, c .before .before .before .before .before .before .before .before .before .before .before .before .before .before .before .before .before .before .before .before .before .before .before .before .before .pre .0), (inputs-before (c .before .before .before .before .before .before .before .before .before .before .before .node-at .ensures .is) (rw (c .before .before .before .before .before .before .before .before .enum-told .given .1) at (c .before .before .before .before .before .before .before .before .before .before .kind-of .ensures)) (c .before .before .before .before .before .before .before .job-at .ensures) (c .before .before .before .before .before .before .before .before .before .before .before .before .before .before .before .before .before .before .before .before .before .before .before .before .before .pre .1 .0), (c .before .before .before .before .before .before .before .before .before .before .before .before .before .before .before .before .before .before .before .before .before .before .before .before .before .pre .1 .1 .0, c .before .before .before .before .before .before .before .before .before .before .before .before .before .before .before .before .before .before .before .before .before .before .before .before .before .pre .1 .1 .1)))
+optimize-projections-optimize-inputs-requires t c κs = (omega (arith, c .before .before .before .before .before .before .before .before .before .before .before .before .before .before .before .before .before .before .pre .0), (inputs-before (c .before .before .before .before .before .before .before .before .before .before .before .before .before .before .node-at .ensures .is) (rw (c .before .before .before .before .before .before .before .before .before .before .before .enum-told .given .1) at (c .before .before .before .before .before .before .before .before .before .before .before .before .before .kind-of .ensures)) (c .before .before .before .before .before .before .before .job-at .ensures) (c .before .before .before .before .before .before .before .before .before .before .before .before .before .before .before .before .before .before .pre .1)))
 
 optimize-projections-put-node-requires : (t : ℕ) → optimize-projections-lts.Need-put-node-requires (optimize-projections-calls t) (optimize-projections-at t) optimize-projections.Post
-optimize-projections-put-node-requires t c κs = (omega (arith, c .before .before .before .before .before .before .before .before .before .before .before .before .before .before .before .before .before .before .before .before .before .before .before .before .before .before .before .before .before .before .before .before .before .before .before .before .before .before .before .before .before .pre .1 .0 .ready .records-long, c .before .before .before .before .before .before .before .before .before .before .before .before .before .before .before .optimize-inputs .kept .1 .1 .1 .1 .1 .1 .1 .1 .1 .1 .1 .1 .1 .0), inputs-left (c .before .before .before .before .before .before .before .before .before .before .before .before .before .before .before .before .before .before .before .before .before .before .before .before .before .before .before .node-at .ensures .is) (rw (c .before .before .before .before .before .before .before .before .before .before .before .before .before .before .before .before .before .before .before .before .before .before .before .before .enum-told .given .1) at (c .before .before .before .before .before .before .before .before .before .before .before .before .before .before .before .before .before .before .before .before .before .before .before .before .before .before .kind-of .ensures)) (c .before .before .before .before .before .before .before .before .before .before .before .before .before .before .before .before .before .before .before .before .before .before .before .job-at .ensures) (c .before .before .before .before .before .before .before .before .before .before .before .before .before .before .before .before .before .before .before .before .before .before .before .before .before .before .before .before .before .before .before .before .before .before .before .before .before .before .before .before .before .pre .1 .0))
-
-optimize-projections-same-length : (t : ℕ) → optimize-projections-lts.Need-same-length (optimize-projections-calls t) (optimize-projections-at t) optimize-projections.Post
-optimize-projections-same-length t c = search needs
-
-optimize-projections-same-length-2 : (t : ℕ) → optimize-projections-lts.Need-same-length-2 (optimize-projections-calls t) (optimize-projections-at t) optimize-projections.Post
-optimize-projections-same-length-2 t c = search needs
-
-optimize-projections-same-length-3 : (t : ℕ) → optimize-projections-lts.Need-same-length-3 (optimize-projections-calls t) (optimize-projections-at t) optimize-projections.Post
-optimize-projections-same-length-3 t c = search needs
-
-optimize-projections-same-length-4 : (t : ℕ) → optimize-projections-lts.Need-same-length-4 (optimize-projections-calls t) (optimize-projections-at t) optimize-projections.Post
-optimize-projections-same-length-4 t c = search needs
-
-optimize-projections-same-length-5 : (t : ℕ) → optimize-projections-lts.Need-same-length-5 (optimize-projections-calls t) (optimize-projections-at t) optimize-projections.Post
-optimize-projections-same-length-5 t c = search needs
-
-optimize-projections-same-length-6 : (t : ℕ) → optimize-projections-lts.Need-same-length-6 (optimize-projections-calls t) (optimize-projections-at t) optimize-projections.Post
-optimize-projections-same-length-6 t c = search needs
-
-optimize-projections-same-length-7 : (t : ℕ) → optimize-projections-lts.Need-same-length-7 (optimize-projections-calls t) (optimize-projections-at t) optimize-projections.Post
-optimize-projections-same-length-7 t c = search needs
+optimize-projections-put-node-requires t c κs = (omega (arith, c .put-node-arg .given .0 .1), inputs-left (c .before .before .before .before .before .before .before .before .before .before .before .before .before .before .before .before .node-at .ensures .is) (rw (c .before .before .before .before .before .before .before .before .before .before .before .before .before .enum-told .given .1) at (c .before .before .before .before .before .before .before .before .before .before .before .before .before .before .before .kind-of .ensures)) (c .before .before .before .before .before .before .before .before .before .job-at .ensures) (c .before .before .before .before .before .before .before .before .before .before .before .before .before .before .before .before .before .before .before .before .pre .1))
 
 optimize-projections-returns : (t : ℕ) → optimize-projections-lts.Need-returns (optimize-projections-calls t) (optimize-projections-at t) optimize-projections.Post
-optimize-projections-returns t c = load-after _ _ _ _ (sym (rw (c .before .before .before .before .before .before .before .before .before .before .before .before .before .before .before .before .before .before .before .before .before .before .before .kind .given .1) at (c .before .before .before .before .before .before .before .before .before .before .before .before .before .before .before .before .before .before .before .before .before .before .before .before .before .kind-of .ensures)) ∙ c .before .before .before .before .before .before .before .before .before .before .before .before .before .before .before .before .before .before .before .before .before .before .before .before .before .before .node-at .ensures .is) (c .before .before .before .before .before .before .before .before .before .before .before .before .before .before .merge-projections .ensures)
-
-optimize-projections-same-length-8 : (t : ℕ) → optimize-projections-lts.Need-same-length-8 (optimize-projections-calls t) (optimize-projections-at t) optimize-projections.Post
-optimize-projections-same-length-8 t c = search needs
-
-optimize-projections-same-length-9 : (t : ℕ) → optimize-projections-lts.Need-same-length-9 (optimize-projections-calls t) (optimize-projections-at t) optimize-projections.Post
-optimize-projections-same-length-9 t c = search needs
-
-optimize-projections-same-length-10 : (t : ℕ) → optimize-projections-lts.Need-same-length-10 (optimize-projections-calls t) (optimize-projections-at t) optimize-projections.Post
-optimize-projections-same-length-10 t c = search needs
-
-optimize-projections-same-length-11 : (t : ℕ) → optimize-projections-lts.Need-same-length-11 (optimize-projections-calls t) (optimize-projections-at t) optimize-projections.Post
-optimize-projections-same-length-11 t c = search needs
-
-optimize-projections-same-length-12 : (t : ℕ) → optimize-projections-lts.Need-same-length-12 (optimize-projections-calls t) (optimize-projections-at t) optimize-projections.Post
-optimize-projections-same-length-12 t c = search needs
-
-optimize-projections-same-length-13 : (t : ℕ) → optimize-projections-lts.Need-same-length-13 (optimize-projections-calls t) (optimize-projections-at t) optimize-projections.Post
-optimize-projections-same-length-13 t c = search needs
-
-optimize-projections-same-length-14 : (t : ℕ) → optimize-projections-lts.Need-same-length-14 (optimize-projections-calls t) (optimize-projections-at t) optimize-projections.Post
-optimize-projections-same-length-14 t c = search needs
+optimize-projections-returns t c = load-after _ _ _ _ (sym (rw (c .before .before .before .before .before .before .before .before .before .kind .given .1) at (c .before .before .before .before .before .before .before .before .before .before .before .kind-of .ensures)) ∙ c .before .before .before .before .before .before .before .before .before .before .before .before .node-at .ensures .is) (c .merge-projections .ensures)
 
 optimize-projections-returns-2 : (t : ℕ) → optimize-projections-lts.Need-returns-2 (optimize-projections-calls t) (optimize-projections-at t) optimize-projections.Post
-optimize-projections-returns-2 t c = node-after (c .before .before .before .before .before .before .before .before .before .before .before .before .before .before .before .before .before .before .before .before .before .before .before .before .before .before .before .before .before .before .node-at .ensures .is) (rw (c .before .before .before .before .before .before .before .before .before .before .before .before .before .before .before .before .before .before .before .before .before .before .before .before .before .before .before .enum-told .given .1) at (c .before .before .before .before .before .before .before .before .before .before .before .before .before .before .before .before .before .before .before .before .before .before .before .before .before .before .before .before .before .kind-of .ensures)) (c .before .before .before .before .before .before .before .before .before .before .before .before .before .before .before .before .before .before .before .before .before .before .before .before .before .before .job-at .ensures) (c .before .before .before .before .before .before .before .before .before .before .before .before .before .before .before .before .before .before .optimize-inputs .ensures) _ (c .before .before .put-node .ensures)
+optimize-projections-returns-2 t c = node-after (c .before .before .before .before .before .before .before .before .before .before .before .before .before .before .before .before .before .node-at .ensures .is) (rw (c .before .before .before .before .before .before .before .before .before .before .before .before .before .before .enum-told .given .1) at (c .before .before .before .before .before .before .before .before .before .before .before .before .before .before .before .before .kind-of .ensures)) (c .before .before .before .before .before .before .before .before .before .before .job-at .ensures) (c .before .before .optimize-inputs .ensures) _ (c .put-node .ensures)
 
 rewrite-projection-given-requirements-first-at-requires : (t : ℕ) → rewrite-projection-given-requirements-lts.Need-first-at-requires (rewrite-projection-given-requirements-calls t) (rewrite-projection-given-requirements-at t) rewrite-projection-given-requirements.Post
 rewrite-projection-given-requirements-first-at-requires t c κs = search needs
@@ -624,25 +371,13 @@ rewrite-projection-given-requirements-width-at-requires : (t : ℕ) → rewrite-
 rewrite-projection-given-requirements-width-at-requires t c κs = search needs
 
 rewrite-projection-given-requirements-get-at-indices-requires : (t : ℕ) → rewrite-projection-given-requirements-lts.Need-get-at-indices-requires (rewrite-projection-given-requirements-calls t) (rewrite-projection-given-requirements-at t) rewrite-projection-given-requirements.Post
-rewrite-projection-given-requirements-get-at-indices-requires t c κs = (c .before .before .before .before .before .before .before .before .before .before .before .before .before .before .before .before .before .before .before .pre .1 .0 .list, (request-within (c .before .before .before .before .before .before .before .before .before .before .before .before .before .before .before .before .before .before .before .pre .1 .0), (row-below (c .before .before .before .before .before .before .before .before .before .before .before .before .before .before .before .before .before .before .before .pre .1 .0 .standing) _ (c .before .before .before .before .before .before .before .before .before .before .before .before .before .before .before .before .before .before .before .pre .1 .0 .within) (c .before .before .before .before .before .first-at .ensures) (c .before .before .before .before .width-at .ensures), c .before .before .before .before .before .before .before .before .before .before .before .before .before .before .before .before .before .before .before .pre .1 .0 .ready .room)))
-
-rewrite-projection-given-requirements-same-length : (t : ℕ) → rewrite-projection-given-requirements-lts.Need-same-length (rewrite-projection-given-requirements-calls t) (rewrite-projection-given-requirements-at t) rewrite-projection-given-requirements.Post
-rewrite-projection-given-requirements-same-length t c = search needs
-
-rewrite-projection-given-requirements-same-length-2 : (t : ℕ) → rewrite-projection-given-requirements-lts.Need-same-length-2 (rewrite-projection-given-requirements-calls t) (rewrite-projection-given-requirements-at t) rewrite-projection-given-requirements.Post
-rewrite-projection-given-requirements-same-length-2 t c = search needs
-
-rewrite-projection-given-requirements-same-length-3 : (t : ℕ) → rewrite-projection-given-requirements-lts.Need-same-length-3 (rewrite-projection-given-requirements-calls t) (rewrite-projection-given-requirements-at t) rewrite-projection-given-requirements.Post
-rewrite-projection-given-requirements-same-length-3 t c = search needs
-
-rewrite-projection-given-requirements-same-length-4 : (t : ℕ) → rewrite-projection-given-requirements-lts.Need-same-length-4 (rewrite-projection-given-requirements-calls t) (rewrite-projection-given-requirements-at t) rewrite-projection-given-requirements.Post
-rewrite-projection-given-requirements-same-length-4 t c = search needs
+rewrite-projection-given-requirements-get-at-indices-requires t c κs = (c .before .before .before .before .before .before .before .before .before .before .before .before .before .pre .1 .list, (request-within (c .before .before .before .before .before .before .before .before .before .before .before .before .before .pre .1), (row-below (c .before .before .before .before .before .before .before .before .before .before .before .before .before .pre .1 .standing) _ (c .before .before .before .before .before .before .before .before .before .before .before .before .before .pre .1 .within) (c .before .before .before .before .before .before .before .before .before .first-at .ensures) (c .before .before .before .before .before .before .before .width-at .ensures), c .before .before .before .before .before .before .before .before .before .before .before .before .before .pre .1 .ready .room)))
 
 rewrite-projection-given-requirements-returns : (t : ℕ) → rewrite-projection-given-requirements-lts.Need-returns (rewrite-projection-given-requirements-calls t) (rewrite-projection-given-requirements-at t) rewrite-projection-given-requirements.Post
-rewrite-projection-given-requirements-returns t c = copies-large _ _ _ (rw (c .before .before .before .before .before .before .before .before .before .before .before .before .before .first-at .ensures, c .before .before .before .before .before .before .before .before .before .before .before .before .width-at .ensures) at (c .before .before .before .before .before .before .before .get-at-indices .ensures)) _ (c .if1 .taken) refl
+rewrite-projection-given-requirements-returns t c = copies-large _ _ _ (rw (c .before .before .before .before .before .before .before .before .before .before .before .before .before .first-at .ensures, c .before .before .before .before .before .before .before .before .before .before .before .width-at .ensures) at (c .before .before .before .get-at-indices .ensures)) _ (c .if1 .taken) refl
 
 rewrite-projection-given-requirements-optimize-projections-requires : (t : ℕ) → rewrite-projection-given-requirements-lts.Need-optimize-projections-requires (rewrite-projection-given-requirements-calls t) (rewrite-projection-given-requirements-at t) rewrite-projection-given-requirements.Post
-rewrite-projection-given-requirements-optimize-projections-requires t c κs = (omega (arith, c .before .before .before .before .before .before .before .before .before .before .before .before .before .before .before .before .before .before .before .before .before .before .before .before .before .before .before .before .before .before .before .before .before .before .pre .0), (input-before _ _ _ (rw (c .before .before .before .before .before .before .before .before .before .before .before .before .before .before .before .before .before .before .before .before .first-at .ensures, c .before .before .before .before .before .before .before .before .before .before .before .before .before .before .before .before .before .before .before .width-at .ensures) at (c .before .before .before .before .before .before .before .before .before .before .before .before .before .before .get-at-indices .ensures)) (c .before .before .before .before .before .before .before .before .before .before .before .before .before .before .before .before .before .before .before .before .before .before .before .before .before .before .before .before .before .before .before .before .before .before .pre .1 .0) (c .before .before .before .before .before .before .before .if1 .left), (c .before .before .before .before .before .before .before .before .before .before .before .before .before .before .before .before .before .before .before .before .before .before .before .before .before .before .before .before .before .before .before .before .before .before .pre .1 .1 .0, c .before .before .before .before .before .before .before .before .before .before .before .before .before .before .before .before .before .before .before .before .before .before .before .before .before .before .before .before .before .before .before .before .before .before .pre .1 .1 .1)))
+rewrite-projection-given-requirements-optimize-projections-requires t c κs = (omega (arith, c .before .before .before .before .before .before .before .before .before .before .before .before .before .before .before .before .before .before .before .before .before .before .before .before .pre .0), (input-before _ _ _ (rw (c .before .before .before .before .before .before .before .before .before .before .before .before .before .before .before .before .before .before .before .before .first-at .ensures, c .before .before .before .before .before .before .before .before .before .before .before .before .before .before .before .before .before .before .width-at .ensures) at (c .before .before .before .before .before .before .before .before .before .before .get-at-indices .ensures)) (c .before .before .before .before .before .before .before .before .before .before .before .before .before .before .before .before .before .before .before .before .before .before .before .before .pre .1) (c .before .before .before .before .before .before .before .if1 .left)))
 
 rewrite-projection-given-requirements-first-at-requires-2 : (t : ℕ) → rewrite-projection-given-requirements-lts.Need-first-at-requires-2 (rewrite-projection-given-requirements-calls t) (rewrite-projection-given-requirements-at t) rewrite-projection-given-requirements.Post
 rewrite-projection-given-requirements-first-at-requires-2 t c κs = search needs
@@ -652,36 +387,15 @@ rewrite-projection-given-requirements-width-at-requires-2 t c κs = search needs
 
 rewrite-projection-given-requirements-put-list-requires : (t : ℕ) → rewrite-projection-given-requirements-lts.Need-put-list-requires (rewrite-projection-given-requirements-calls t) (rewrite-projection-given-requirements-at t) rewrite-projection-given-requirements.Post
 rewrite-projection-given-requirements-put-list-requires t c κs = (
-  omega (arith, c .before .before .before .before .before .before .before .before .before .before .before .before .before .before .before .before .before .before .before .before .before .before .before .before .before .before .before .before .before .before .before .before .before .before .before .before .before .before .before .before .before .before .before .before .before .before .before .before .before .before .before .before .pre .1 .0 .ready .records-long, c .before .before .before .before .before .before .before .before .before .before .before .before .before .before .before .before .before .optimize-projections .kept .1 .1 .1 .1 .1 .1 .1 .1 .1 .1 .1 .1 .1 .0),
+  omega (arith, c .put-list-arg .given .0 .1),
   (
-    rw (c .before .before .first-at2 .ensures, c .before .width-at2 .ensures) (top-fields (c .before .before .before .before .before .before .before .before .before .before .before .before .before .before .before .before .before .before .before .before .before .before .before .before .before .before .before .before .before .before .before .before .before .before .before .before .before .before .before .before .before .before .before .before .before .before .before .before .before .before .before .before .pre .1 .0)),
-    rw (c .before .before .before .before .before .before .before .before .before .before .before .before .before .before .before .before .before .before .before .before .before .before .before .before .before .before .before .before .before .before .before .before .before .before .before .before .before .before .first-at .ensures, c .before .before .before .before .before .before .before .before .before .before .before .before .before .before .before .before .before .before .before .before .before .before .before .before .before .before .before .before .before .before .before .before .before .before .before .before .before .width-at .ensures) (list-fields _ _ _ (rw (c .before .before .before .before .before .before .before .before .before .before .before .before .before .before .before .before .before .before .before .before .before .before .before .before .before .before .before .before .before .before .before .before .before .before .before .before .before .before .first-at .ensures, c .before .before .before .before .before .before .before .before .before .before .before .before .before .before .before .before .before .before .before .before .before .before .before .before .before .before .before .before .before .before .before .before .before .before .before .before .before .width-at .ensures) at (c .before .before .before .before .before .before .before .before .before .before .before .before .before .before .before .before .before .before .before .before .before .before .before .before .before .before .before .before .before .before .before .before .get-at-indices .ensures)) _ (c .before .before .before .before .before .before .before .before .before .before .before .before .before .before .before .before .before .before .before .before .before .before .before .before .before .if1 .left) (c .before .before .before .before .before .before .before .before .before .before .before .before .before .before .before .before .before .optimize-projections .ensures) (c .before .before .before .before .before .before .before .before .before .before .before .before .before .before .before .before .before .before .before .before .before .before .before .before .before .before .before .before .before .before .before .before .before .before .before .before .before .before .before .before .before .before .before .before .before .before .before .before .before .before .before .before .pre .1 .0)),
+    rw (c .before .before .before .first-at2 .ensures, c .before .width-at2 .ensures) (top-fields (c .before .before .before .before .before .before .before .before .before .before .before .before .before .before .before .before .before .before .before .before .before .before .before .before .before .before .before .before .before .before .pre .1)),
+    rw (c .before .before .before .before .before .before .before .before .before .before .before .before .before .before .before .before .before .before .before .before .before .before .before .before .before .before .first-at .ensures, c .before .before .before .before .before .before .before .before .before .before .before .before .before .before .before .before .before .before .before .before .before .before .before .before .width-at .ensures) (list-fields _ _ _ (rw (c .before .before .before .before .before .before .before .before .before .before .before .before .before .before .before .before .before .before .before .before .before .before .before .before .before .before .first-at .ensures, c .before .before .before .before .before .before .before .before .before .before .before .before .before .before .before .before .before .before .before .before .before .before .before .before .width-at .ensures) at (c .before .before .before .before .before .before .before .before .before .before .before .before .before .before .before .before .get-at-indices .ensures)) _ (c .before .before .before .before .before .before .before .before .before .before .before .before .before .if1 .left) (c .before .before .before .before .before .optimize-projections .ensures) (c .before .before .before .before .before .before .before .before .before .before .before .before .before .before .before .before .before .before .before .before .before .before .before .before .before .before .before .before .before .before .pre .1)),
   ),
 )
 
-rewrite-projection-given-requirements-same-length-5 : (t : ℕ) → rewrite-projection-given-requirements-lts.Need-same-length-5 (rewrite-projection-given-requirements-calls t) (rewrite-projection-given-requirements-at t) rewrite-projection-given-requirements.Post
-rewrite-projection-given-requirements-same-length-5 t c = search needs
-
-rewrite-projection-given-requirements-same-length-6 : (t : ℕ) → rewrite-projection-given-requirements-lts.Need-same-length-6 (rewrite-projection-given-requirements-calls t) (rewrite-projection-given-requirements-at t) rewrite-projection-given-requirements.Post
-rewrite-projection-given-requirements-same-length-6 t c = search needs
-
-rewrite-projection-given-requirements-same-length-7 : (t : ℕ) → rewrite-projection-given-requirements-lts.Need-same-length-7 (rewrite-projection-given-requirements-calls t) (rewrite-projection-given-requirements-at t) rewrite-projection-given-requirements.Post
-rewrite-projection-given-requirements-same-length-7 t c = search needs
-
-rewrite-projection-given-requirements-same-length-8 : (t : ℕ) → rewrite-projection-given-requirements-lts.Need-same-length-8 (rewrite-projection-given-requirements-calls t) (rewrite-projection-given-requirements-at t) rewrite-projection-given-requirements.Post
-rewrite-projection-given-requirements-same-length-8 t c = search needs
-
-rewrite-projection-given-requirements-same-length-9 : (t : ℕ) → rewrite-projection-given-requirements-lts.Need-same-length-9 (rewrite-projection-given-requirements-calls t) (rewrite-projection-given-requirements-at t) rewrite-projection-given-requirements.Post
-rewrite-projection-given-requirements-same-length-9 t c = search needs
-
-rewrite-projection-given-requirements-same-length-10 : (t : ℕ) → rewrite-projection-given-requirements-lts.Need-same-length-10 (rewrite-projection-given-requirements-calls t) (rewrite-projection-given-requirements-at t) rewrite-projection-given-requirements.Post
-rewrite-projection-given-requirements-same-length-10 t c = omega (arith, c .before .before .before .before .before .before .before .before .before .before .before .before .before .before .before .before .before .before .before .before .before .before .before .before .before .before .before .before .before .before .before .before .before .before .before .get-at-indices .kept .1 .1 .1 .1 .1 .1 .1 .1 .1 .0, c .before .before .before .before .before .before .before .before .before .before .before .before .before .before .before .before .before .before .before .before .optimize-projections .kept .1 .1 .1 .1 .1 .1 .1 .1 .1 .1 .1 .1 .1 .1 .0)
-
-rewrite-projection-given-requirements-same-length-11 : (t : ℕ) → rewrite-projection-given-requirements-lts.Need-same-length-11 (rewrite-projection-given-requirements-calls t) (rewrite-projection-given-requirements-at t) rewrite-projection-given-requirements.Post
-rewrite-projection-given-requirements-same-length-11 t c = omega (arith, c .before .before .before .before .before .before .before .before .before .before .before .before .before .before .before .before .before .before .before .before .before .before .before .before .before .before .before .before .before .before .before .before .before .before .before .get-at-indices .kept .1 .1 .1 .1 .1 .1 .1 .1 .1 .1 .0, c .before .before .before .before .before .before .before .before .before .before .before .before .before .before .before .before .before .before .before .before .optimize-projections .kept .1 .1 .1 .1 .1 .1 .1 .1 .1 .1 .1 .1 .1 .1 .1 .0)
-
 rewrite-projection-given-requirements-returns-2 : (t : ℕ) → rewrite-projection-given-requirements-lts.Need-returns-2 (rewrite-projection-given-requirements-calls t) (rewrite-projection-given-requirements-at t) rewrite-projection-given-requirements.Post
-rewrite-projection-given-requirements-returns-2 t c = put-after _ _ _ (rw (c .before .before .before .before .before .before .before .before .before .before .before .before .before .before .before .before .before .before .before .before .before .before .before .before .before .before .before .before .before .before .before .before .before .before .before .before .before .before .before .before .before .first-at .ensures, c .before .before .before .before .before .before .before .before .before .before .before .before .before .before .before .before .before .before .before .before .before .before .before .before .before .before .before .before .before .before .before .before .before .before .before .before .before .before .before .before .width-at .ensures) at (c .before .before .before .before .before .before .before .before .before .before .before .before .before .before .before .before .before .before .before .before .before .before .before .before .before .before .before .before .before .before .before .before .before .before .before .get-at-indices .ensures)) _ (c .before .before .before .before .before .before .before .before .before .before .before .before .before .before .before .before .before .before .before .before .before .before .before .before .before .before .before .before .if1 .left) (c .before .before .before .before .before .before .before .before .before .before .before .before .before .before .before .before .before .before .before .before .optimize-projections .ensures) _ (rw (c .before .before .before .before .before .before .before .before .before .before .before .before .before .before .before .before .before .before .before .before .before .before .before .before .before .before .before .before .before .before .before .before .before .before .before .before .before .before .before .before .before .first-at .ensures, c .before .before .before .before .before .before .before .before .before .before .before .before .before .before .before .before .before .before .before .before .before .before .before .before .before .before .before .before .before .before .before .before .before .before .before .before .before .before .before .before .width-at .ensures, c .before .before .before .before .before .first-at2 .ensures, c .before .before .before .before .width-at2 .ensures) at (c .before .before .put-list .ensures))
+rewrite-projection-given-requirements-returns-2 t c = put-after _ _ _ (rw (c .before .before .before .before .before .before .before .before .before .before .before .before .before .before .before .before .before .before .before .before .before .before .before .before .before .before .before .first-at .ensures, c .before .before .before .before .before .before .before .before .before .before .before .before .before .before .before .before .before .before .before .before .before .before .before .before .before .width-at .ensures) at (c .before .before .before .before .before .before .before .before .before .before .before .before .before .before .before .before .before .get-at-indices .ensures)) _ (c .before .before .before .before .before .before .before .before .before .before .before .before .before .before .if1 .left) (c .before .before .before .before .before .before .optimize-projections .ensures) _ (rw (c .before .before .before .before .before .before .before .before .before .before .before .before .before .before .before .before .before .before .before .before .before .before .before .before .before .before .before .first-at .ensures, c .before .before .before .before .before .before .before .before .before .before .before .before .before .before .before .before .before .before .before .before .before .before .before .before .before .width-at .ensures, c .before .before .before .before .first-at2 .ensures, c .before .before .width-at2 .ensures) at (c .put-list .ensures))
 
 pub +merge-projections+optimize-input+optimize-inputs+optimize-projections+rewrite-projection-given-requirements-spec :
     {M : Type 1} → statement M
@@ -711,13 +425,6 @@ pub +merge-projections+optimize-input+optimize-inputs+optimize-projections+rewri
     (merge-projections-enum-known-kind t)
     (merge-projections-enum-told t)
     (merge-projections-rewrite-projection-given-requirements-requires t)
-    (merge-projections-same-length t)
-    (merge-projections-same-length-2 t)
-    (merge-projections-same-length-3 t)
-    (merge-projections-same-length-4 t)
-    (merge-projections-same-length-5 t)
-    (merge-projections-same-length-6 t)
-    (merge-projections-same-length-7 t)
     (merge-projections-returns t)
     (merge-projections-merge-step-requires t)
     (merge-projections-enum-told-2 t)
@@ -729,47 +436,15 @@ pub +merge-projections+optimize-input+optimize-inputs+optimize-projections+rewri
     (merge-projections-enum-told-4 t)
     (merge-projections-rewrite-projection-given-requirements-requires-2 t)
     (merge-projections-enum-told-5 t)
-    (merge-projections-same-length-8 t)
-    (merge-projections-same-length-9 t)
-    (merge-projections-same-length-10 t)
-    (merge-projections-same-length-11 t)
-    (merge-projections-same-length-12 t)
-    (merge-projections-same-length-13 t)
-    (merge-projections-same-length-14 t)
     (merge-projections-returns-2 t)
-    (merge-projections-same-length-15 t)
-    (merge-projections-same-length-16 t)
-    (merge-projections-same-length-17 t)
-    (merge-projections-same-length-18 t)
-    (merge-projections-same-length-19 t)
-    (merge-projections-same-length-20 t)
-    (merge-projections-same-length-21 t)
     (merge-projections-returns-3 t)
-    (merge-projections-same-length-22 t)
-    (merge-projections-same-length-23 t)
-    (merge-projections-same-length-24 t)
-    (merge-projections-same-length-25 t)
-    (merge-projections-same-length-26 t)
-    (merge-projections-same-length-27 t)
-    (merge-projections-same-length-28 t)
     (merge-projections-returns-4 t)
-    (merge-projections-same-length-29 t)
-    (merge-projections-same-length-30 t)
-    (merge-projections-same-length-31 t)
-    (merge-projections-same-length-32 t)
     (merge-projections-returns-5 t))
     (λ t. optimize-input-lts.spec (optimize-input-calls t)
     (optimize-input-at t)
     optimize-input.Post
     (optimize-input-optimize-projections-requires t)
     (optimize-input-top-up-requires t)
-    (optimize-input-same-length t)
-    (optimize-input-same-length-2 t)
-    (optimize-input-same-length-3 t)
-    (optimize-input-same-length-4 t)
-    (optimize-input-same-length-5 t)
-    (optimize-input-same-length-6 t)
-    (optimize-input-same-length-7 t)
     (optimize-input-returns t))
     (λ t. optimize-inputs-lts.spec (
       no-input-reads.Asked,
@@ -800,41 +475,13 @@ pub +merge-projections+optimize-input+optimize-inputs+optimize-projections+rewri
     (optimize-inputs-optimize-input-requires-3 t)
     (optimize-inputs-enum-known-end t)
     (optimize-inputs-enum-told-4 t)
-    (optimize-inputs-same-length t)
-    (optimize-inputs-same-length-2 t)
-    (optimize-inputs-same-length-3 t)
-    (optimize-inputs-same-length-4 t)
-    (optimize-inputs-same-length-5 t)
-    (optimize-inputs-same-length-6 t)
-    (optimize-inputs-same-length-7 t)
     (optimize-inputs-returns t)
     (optimize-inputs-optimize-input-requires-4 t)
     (optimize-inputs-two-inputs-requires t)
     (optimize-inputs-returns-2 t)
     (optimize-inputs-returns-3 t)
-    (optimize-inputs-same-length-8 t)
-    (optimize-inputs-same-length-9 t)
-    (optimize-inputs-same-length-10 t)
-    (optimize-inputs-same-length-11 t)
-    (optimize-inputs-same-length-12 t)
-    (optimize-inputs-same-length-13 t)
-    (optimize-inputs-same-length-14 t)
     (optimize-inputs-returns-4 t)
-    (optimize-inputs-same-length-15 t)
-    (optimize-inputs-same-length-16 t)
-    (optimize-inputs-same-length-17 t)
-    (optimize-inputs-same-length-18 t)
-    (optimize-inputs-same-length-19 t)
-    (optimize-inputs-same-length-20 t)
-    (optimize-inputs-same-length-21 t)
     (optimize-inputs-returns-5 t)
-    (optimize-inputs-same-length-22 t)
-    (optimize-inputs-same-length-23 t)
-    (optimize-inputs-same-length-24 t)
-    (optimize-inputs-same-length-25 t)
-    (optimize-inputs-same-length-26 t)
-    (optimize-inputs-same-length-27 t)
-    (optimize-inputs-same-length-28 t)
     (optimize-inputs-returns-6 t))
     (λ t. optimize-projections-lts.spec (
       node-at-reads.Asked,
@@ -861,21 +508,7 @@ pub +merge-projections+optimize-input+optimize-inputs+optimize-projections+rewri
     (optimize-projections-job-at-requires t)
     (optimize-projections-optimize-inputs-requires t)
     (optimize-projections-put-node-requires t)
-    (optimize-projections-same-length t)
-    (optimize-projections-same-length-2 t)
-    (optimize-projections-same-length-3 t)
-    (optimize-projections-same-length-4 t)
-    (optimize-projections-same-length-5 t)
-    (optimize-projections-same-length-6 t)
-    (optimize-projections-same-length-7 t)
     (optimize-projections-returns t)
-    (optimize-projections-same-length-8 t)
-    (optimize-projections-same-length-9 t)
-    (optimize-projections-same-length-10 t)
-    (optimize-projections-same-length-11 t)
-    (optimize-projections-same-length-12 t)
-    (optimize-projections-same-length-13 t)
-    (optimize-projections-same-length-14 t)
     (optimize-projections-returns-2 t))
     λ t. rewrite-projection-given-requirements-lts.spec (rewrite-projection-given-requirements-calls t)
     (rewrite-projection-given-requirements-at t)
@@ -883,20 +516,9 @@ pub +merge-projections+optimize-input+optimize-inputs+optimize-projections+rewri
     (rewrite-projection-given-requirements-first-at-requires t)
     (rewrite-projection-given-requirements-width-at-requires t)
     (rewrite-projection-given-requirements-get-at-indices-requires t)
-    (rewrite-projection-given-requirements-same-length t)
-    (rewrite-projection-given-requirements-same-length-2 t)
-    (rewrite-projection-given-requirements-same-length-3 t)
-    (rewrite-projection-given-requirements-same-length-4 t)
     (rewrite-projection-given-requirements-returns t)
     (rewrite-projection-given-requirements-optimize-projections-requires t)
     (rewrite-projection-given-requirements-first-at-requires-2 t)
     (rewrite-projection-given-requirements-width-at-requires-2 t)
     (rewrite-projection-given-requirements-put-list-requires t)
-    (rewrite-projection-given-requirements-same-length-5 t)
-    (rewrite-projection-given-requirements-same-length-6 t)
-    (rewrite-projection-given-requirements-same-length-7 t)
-    (rewrite-projection-given-requirements-same-length-8 t)
-    (rewrite-projection-given-requirements-same-length-9 t)
-    (rewrite-projection-given-requirements-same-length-10 t)
-    (rewrite-projection-given-requirements-same-length-11 t)
     (rewrite-projection-given-requirements-returns-2 t)

@@ -20,16 +20,16 @@ same-length c = search needs
 returns : tie.Need-returns
 returns c =
     let put = c .before .before .put in
-    let pre = c .before .before .before .before .before .before .before .before .pre in
+    let pre = c .before .before .before .before .before .before .before .before .before .before .before .before .pre in
     let if1 = c .before .before .before .before .if1 in
-    let len = c .before .before .before .before .before .before .len in
+    let len = c .before .before .before .before .before .before .before .before .len in
     let len2 = c .before .before .before .before .before .len2 in
     topped-put (put .result) pre (omega (arith, if1 .taken, len .ensures, len2 .ensures)) (put .ensures)
 
 returns-2 : tie.Need-returns-2
 returns-2 c =
     let if1 = c .if1 in
-    let len = c .before .before .len in
+    let len = c .before .before .before .before .len in
     let len2 = c .before .len2 in
     topped-stays (omega (arith, if1 .left, len .ensures, len2 .ensures))
 

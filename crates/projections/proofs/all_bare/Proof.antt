@@ -29,30 +29,30 @@ enum-told c = search needs
 
 returns : tie.Need-returns Inv-loop μ-loop
 returns c =
-    let pre = c .before .before .before .before .before .pre in
-    let loop = c .before .before .before .loop in
+    let pre = c .before .before .before .before .before .before .before .pre in
+    let loop = c .before .before .before .before .before .loop in
     let next = c .before .before .next in
     let enum-told = c .enum-told in
     bare-all _ _ _ _ (pre .1) _ (loop .inv) (next .result) (next .ensures) (enum-told .given .1)
 
 add-row-at : tie.Need-add-row-at Inv-loop μ-loop
 add-row-at c =
-    let pre = c .before .before .before .before .before .before .pre in
+    let pre = c .before .before .before .before .before .before .before .before .pre in
     let next = c .before .before .before .next in
     let i = c .before .i in
     omega (arith, pre .0, found _ _ (pre .1) _ (next .result) (next .ensures) _ (i .given .1))
 
 row-at-requires : tie.Need-row-at-requires Inv-loop μ-loop
 row-at-requires c κs =
-    let pre = c .before .before .before .before .before .before .pre in
+    let pre = c .before .before .before .before .before .before .before .before .pre in
     let next = c .before .before .before .next in
     let i = c .before .i in
     omega (arith, pre .0, found _ _ (pre .1) _ (next .result) (next .ensures) _ (i .given .1))
 
 returns-2 : tie.Need-returns-2 Inv-loop μ-loop
 returns-2 c =
-    let pre = c .before .before .before .before .before .before .before .before .before .pre in
-    let loop = c .before .before .before .before .before .before .before .loop in
+    let pre = c .before .before .before .before .before .before .before .before .before .before .before .pre in
+    let loop = c .before .before .before .before .before .before .before .before .before .loop in
     let next = c .before .before .before .before .before .before .next in
     let i = c .before .before .before .before .i in
     let row-at = c .before .before .row-at in
@@ -61,22 +61,22 @@ returns-2 c =
 
 add-from : tie.Need-add-from Inv-loop μ-loop
 add-from c =
-    let pre = c .before .before .before .before .before .before .before .before .before .pre in
+    let pre = c .before .before .before .before .before .before .before .before .before .before .before .pre in
     let next = c .before .before .before .before .before .before .next in
     let i = c .before .before .before .before .i in
     omega (arith, pre .0, found _ _ (pre .1) _ (next .result) (next .ensures) _ (i .given .1))
 
 loop-less : tie.Need-loop-less Inv-loop μ-loop
 loop-less c =
-    let pre = c .before .before .before .before .before .before .before .before .before .pre in
+    let pre = c .before .before .before .before .before .before .before .before .before .before .before .pre in
     let next = c .before .before .before .before .before .before .next in
     let i = c .before .before .before .before .i in
     omega (arith, found _ _ (pre .1) _ (next .result) (next .ensures) _ (i .given .1))
 
 loop-again : tie.Need-loop-again Inv-loop μ-loop
 loop-again c =
-    let pre = c .before .before .before .before .before .before .before .before .before .pre in
-    let loop = c .before .before .before .before .before .before .before .loop in
+    let pre = c .before .before .before .before .before .before .before .before .before .before .before .pre in
+    let loop = c .before .before .before .before .before .before .before .before .before .loop in
     let next = c .before .before .before .before .before .before .next in
     let i = c .before .before .before .before .i in
     let row-at = c .before .before .row-at in

@@ -2,18 +2,18 @@
 use Prim.Native.Nat.{_-_}
 use Rattle.arena.proofs.Rows.{row-fits, row-ok}
 use Rattle.projections.proofs.Chosen.{found}
-use Rattle.projections.proofs.Copying.{Copying, copying-all, copying-dst, copying-full, copying-more, copying-none, copying-room}
+use Rattle.projections.proofs.Copying.{Copying, copying-all, copying-dst, copying-few, copying-full, copying-more, copying-none, copying-room}
 use borrow.Author.Needs.{needs}
 use native.Mathlib.Omega.{arith}
 use Rattle.projections.proofs.copy_kept.Statement.{statement}
 use Rattle.projections.proofs.copy_kept.Tie as tie
 
 abbrev Inv-loop : tie.InvT-loop
-Inv-loop items first count cells kept out-items₀ row out-cells₀ used most₀ rows₀ from₀ out-items out-cells most rows from =
+Inv-loop items first count cells out-items₀ row out-cells₀ used kept most₀ rows₀ from₀ out-items out-cells most rows from =
     Copying items cells first count kept row out-items₀ out-cells₀ used from rows most out-items out-cells
 
 abbrev μ-loop : tie.MeasureT-loop
-μ-loop items first count cells kept out-items₀ row out-cells₀ used most₀ rows₀ from₀ out-items out-cells most rows from = count - from
+μ-loop items first count cells out-items₀ row out-cells₀ used kept most₀ rows₀ from₀ out-items out-cells most rows from = count - from
 
 loop-holds : tie.Need-loop-holds Inv-loop μ-loop
 loop-holds c =
@@ -37,31 +37,31 @@ same-length-2 c = search needs
 
 returns : tie.Need-returns Inv-loop μ-loop
 returns c =
-    let pre = c .before .before .before .before .before .before .before .before .pre in
-    let loop = c .before .before .before .loop in
+    let pre = c .before .before .before .before .before .before .before .before .before .before .pre in
+    let loop = c .before .before .before .before .before .loop in
     let next = c .before .before .next in
     let enum-told = c .enum-told in
     copying-all _ _ _ _ _ (pre .1 .0) _ _ _ _ (pre .1 .1) (loop .inv) (next .result) (next .ensures) (enum-told .given .1)
 
 add-at : tie.Need-add-at Inv-loop μ-loop
 add-at c =
-    let pre = c .before .before .before .before .before .before .before .before .before .pre in
+    let pre = c .before .before .before .before .before .before .before .before .before .before .before .pre in
     let next = c .before .before .before .next in
     let i = c .before .i in
     omega (arith, row-fits (pre .0) _ (found _ _ (pre .1 .0) _ (next .result) (next .ensures) _ (i .given .1) .1))
 
 add-to : tie.Need-add-to Inv-loop μ-loop
 add-to c =
-    let pre = c .before .before .before .before .before .before .before .before .before .pre in
-    let loop = c .before .before .before .before .loop in
+    let pre = c .before .before .before .before .before .before .before .before .before .before .before .pre in
+    let loop = c .before .before .before .before .before .before .loop in
     omega (arith, copying-room _ _ _ _ _ (pre .1 .0) _ _ _ _ (pre .1 .1) (loop .inv))
 
 copy-item-requires : tie.Need-copy-item-requires Inv-loop μ-loop
 copy-item-requires c κs =
-    let pre = c .before .before .before .before .before .before .before .before .before .before .before .pre in
+    let pre = c .before .before .before .before .before .before .before .before .before .before .before .before .before .pre in
     let next = c .before .before .before .before .before .next in
     let i = c .before .before .before .i in
-    let loop = c .before .before .before .before .before .before .loop in
+    let loop = c .before .before .before .before .before .before .before .before .loop in
     (row-ok _ _ _ _ (pre .0) _ (found _ _ (pre .1 .0) _ (next .result) (next .ensures) _ (i .given .1) .1), (copying-room _ _ _ _ _ (pre .1 .0) _ _ _ _ (pre .1 .1) (loop .inv), copying-dst _ _ _ _ _ (pre .1 .0) _ _ _ _ (pre .1 .1) (loop .inv)))
 
 enum-known-b : tie.Need-enum-known-b Inv-loop μ-loop
@@ -78,8 +78,8 @@ same-length-4 c = search needs
 
 returns-2 : tie.Need-returns-2 Inv-loop μ-loop
 returns-2 c =
-    let pre = c .before .before .before .before .before .before .before .before .before .before .before .before .before .before .before .before .before .before .pre in
-    let loop = c .before .before .before .before .before .before .before .before .before .before .before .before .before .loop in
+    let pre = c .before .before .before .before .before .before .before .before .before .before .before .before .before .before .before .before .before .before .before .before .pre in
+    let loop = c .before .before .before .before .before .before .before .before .before .before .before .before .before .before .before .loop in
     let next = c .before .before .before .before .before .before .before .before .before .before .before .before .next in
     let i = c .before .before .before .before .before .before .before .before .before .before .i in
     let enum-told2 = c .enum-told2 in
@@ -88,28 +88,28 @@ returns-2 c =
 
 add-rows : tie.Need-add-rows Inv-loop μ-loop
 add-rows c =
-    let pre = c .before .before .before .before .before .before .before .before .before .before .before .before .before .before .before .before .before .before .before .pre in
-    let loop = c .before .before .before .before .before .before .before .before .before .before .before .before .before .before .loop in
-    omega (arith, copying-room _ _ _ _ _ (pre .1 .0) _ _ _ _ (pre .1 .1) (loop .inv))
+    let pre = c .before .before .before .before .before .before .before .before .before .before .before .before .before .before .before .before .before .before .before .before .before .pre in
+    let loop = c .before .before .before .before .before .before .before .before .before .before .before .before .before .before .before .before .loop in
+    omega (arith, copying-few _ _ _ _ _ (pre .1 .0) _ _ _ _ (pre .1 .1) (loop .inv))
 
 add-from : tie.Need-add-from Inv-loop μ-loop
 add-from c =
-    let pre = c .before .before .before .before .before .before .before .before .before .before .before .before .before .before .before .before .before .before .before .pre in
+    let pre = c .before .before .before .before .before .before .before .before .before .before .before .before .before .before .before .before .before .before .before .before .before .pre in
     let next = c .before .before .before .before .before .before .before .before .before .before .before .before .before .next in
     let i = c .before .before .before .before .before .before .before .before .before .before .before .i in
     omega (arith, row-fits (pre .0) _ (found _ _ (pre .1 .0) _ (next .result) (next .ensures) _ (i .given .1) .1))
 
 loop-less : tie.Need-loop-less Inv-loop μ-loop
 loop-less c =
-    let pre = c .before .before .before .before .before .before .before .before .before .before .before .before .before .before .before .before .before .before .before .pre in
+    let pre = c .before .before .before .before .before .before .before .before .before .before .before .before .before .before .before .before .before .before .before .before .before .pre in
     let next = c .before .before .before .before .before .before .before .before .before .before .before .before .before .next in
     let i = c .before .before .before .before .before .before .before .before .before .before .before .i in
     omega (arith, found _ _ (pre .1 .0) _ (next .result) (next .ensures) _ (i .given .1))
 
 loop-again : tie.Need-loop-again Inv-loop μ-loop
 loop-again c =
-    let pre = c .before .before .before .before .before .before .before .before .before .before .before .before .before .before .before .before .before .before .before .pre in
-    let loop = c .before .before .before .before .before .before .before .before .before .before .before .before .before .before .loop in
+    let pre = c .before .before .before .before .before .before .before .before .before .before .before .before .before .before .before .before .before .before .before .before .before .pre in
+    let loop = c .before .before .before .before .before .before .before .before .before .before .before .before .before .before .before .before .loop in
     let next = c .before .before .before .before .before .before .before .before .before .before .before .before .before .next in
     let i = c .before .before .before .before .before .before .before .before .before .before .before .i in
     let b = c .before .b in

@@ -2,7 +2,7 @@
 use Rattle.cpl.specs.Read.{any}
 use Rattle.reader_parts.proofs.Counts.{from-any}
 use Rattle.reader.proofs.Files.{file-count, file-keys, file-right, file-tables}
-use Rattle.reader.proofs.Names.{catalogueAt, few-columns, widths}
+use Rattle.catalogue.proofs.Names.{catalogueAt, few-columns, widths}
 use Rattle.versions.proofs.Small.{small}
 use Rattle.versions.specs.Versions.{versionOf}
 use borrow.Author.Needs.{needs}

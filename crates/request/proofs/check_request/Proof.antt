@@ -2,6 +2,7 @@
 use Prim.Native.Nat.{_-_}
 use Rattle.request.proofs.Steps.{Taken, taken-all, taken-more, taken-none, too-high, too-low}
 use Rattle.request.specs.Requests.{RequestIs}
+use Rattle.required_indices.specs.Request.{Lent}
 use borrow.Author.Needs.{needs}
 use lib.ListN.{length}
 use mathlib.Core.Path.{refl, subst, sym}
@@ -10,10 +11,10 @@ use Rattle.request.proofs.check_request.Statement.{statement}
 use Rattle.request.proofs.check_request.Tie as tie
 
 abbrev Inv-loop : tie.InvT-loop
-Inv-loop request width set₀ least₀ i₀ set least i = Taken width request set least i
+Inv-loop request width set₀ used₀ least₀ i₀ set used least i = Taken width request (record { indices = set .indices; used = used; «projection_beneficial» = set .«projection_beneficial» }) least i × Lent (set .indices)
 
 abbrev μ-loop : tie.MeasureT-loop
-μ-loop request width set₀ least₀ i₀ set least i = length request - i
+μ-loop request width set₀ used₀ least₀ i₀ set used least i = length request - i
 
 new-requires : tie.Need-new-requires Inv-loop μ-loop
 new-requires c κs = search needs
@@ -21,7 +22,7 @@ new-requires c κs = search needs
 loop-holds : tie.Need-loop-holds Inv-loop μ-loop
 loop-holds c =
     let new = c .new in
-    taken-none _ _ _ (new .ensures)
+    (taken-none _ _ _ (new .ensures), search needs)
 
 mul-x : tie.Need-mul-x Inv-loop μ-loop
 mul-x c = omega arith
@@ -45,7 +46,7 @@ returns c =
     let loop = c .before .before .before .before .loop in
     let loop-test = c .before .before .before .loop-test in
     let if1 = c .before .if1 in
-    subst (RequestIs (args .width) (args .request .now) (refused-at .result)) (sym (too-low (args .width) (args .request .now) (loop .set) (loop .least) (loop .i) (loop .inv) (loop-test .taken) (if1 .taken))) (refused-at .ensures)
+    subst (RequestIs (args .width) (args .request .now) (refused-at .result)) (sym (too-low (args .width) (args .request .now) _ (loop .least) (loop .i) (loop .inv .0) (loop-test .taken) (if1 .taken))) (refused-at .ensures)
 
 refused-at-requires-2 : tie.Need-refused-at-requires-2 Inv-loop μ-loop
 refused-at-requires-2 c κs = search needs
@@ -58,18 +59,19 @@ returns-2 c =
     let loop-test = c .before .before .before .before .loop-test in
     let if1 = c .before .before .if1 in
     let if2 = c .before .if2 in
-    subst (RequestIs (args .width) (args .request .now) (refused-at2 .result)) (sym (too-high (args .width) (args .request .now) (loop .set) (loop .least) (loop .i) (loop .inv) (loop-test .taken) (if1 .left) (if2 .taken))) (refused-at2 .ensures)
+    subst (RequestIs (args .width) (args .request .now) (refused-at2 .result)) (sym (too-high (args .width) (args .request .now) _ (loop .least) (loop .i) (loop .inv .0) (loop-test .taken) (if1 .left) (if2 .taken))) (refused-at2 .ensures)
 
-with-index-requires : tie.Need-with-index-requires Inv-loop μ-loop
-with-index-requires c κs =
-    let if2 = c .if2 in
-    let pre = c .before .before .before .before .before .before .before .pre in
-    omega (arith, if2 .left, pre)
+insert-requires : tie.Need-insert-requires Inv-loop μ-loop
+insert-requires c κs =
+    let if2 = c .before .if2 in
+    let pre = c .before .before .before .before .before .before .before .before .pre in
+    let loop = c .before .before .before .before .before .loop in
+    (loop .inv .1, omega (arith, if2 .left, pre))
 
 add-least : tie.Need-add-least Inv-loop μ-loop
 add-least c =
-    let if2 = c .before .if2 in
-    let pre = c .before .before .before .before .before .before .before .before .pre in
+    let if2 = c .before .before .if2 in
+    let pre = c .before .before .before .before .before .before .before .before .before .pre in
     omega (arith, if2 .left, pre)
 
 add-i : tie.Need-add-i Inv-loop μ-loop
@@ -80,20 +82,20 @@ loop-less c = omega arith
 
 loop-again : tie.Need-loop-again Inv-loop μ-loop
 loop-again c =
-    let args = c .before .before .before .before .before .before .before .before .args in
-    let loop = c .before .before .before .before .before .loop in
-    let loop-test = c .before .before .before .before .loop-test in
-    let if1 = c .before .before .if1 in
-    let if2 = c .before .if2 in
-    let with-index = c .with-index in
-    taken-more (args .width) (args .request .now) (loop .set) (loop .least) (loop .i) (loop .inv) _ (loop-test .taken) (if1 .left) (if2 .left) (with-index .ensures)
+    let args = c .before .before .before .before .before .before .before .before .before .args in
+    let loop = c .before .before .before .before .before .before .loop in
+    let loop-test = c .before .before .before .before .before .loop-test in
+    let if1 = c .before .before .before .if1 in
+    let if2 = c .before .before .if2 in
+    let insert = c .insert in
+    (taken-more (args .width) (args .request .now) _ (loop .least) (loop .i) (loop .inv .0) _ (loop-test .taken) (if1 .left) (if2 .left) (record { set = insert .ensures .0; flag = refl }), insert .ensures .1)
 
 returns-3 : tie.Need-returns-3 Inv-loop μ-loop
 returns-3 c =
     let args = c .before .before .before .before .args in
     let loop = c .before .loop in
     let loop-test = c .loop-test in
-    taken-all (args .width) (args .request .now) (loop .set) (loop .least) (loop .i) (loop .inv) _ (loop-test .left) refl refl refl
+    taken-all (args .width) (args .request .now) _ (loop .least) (loop .i) (loop .inv .0) _ (loop-test .left) refl refl refl
 
 pub check-request-spec : {M : Type 1} → statement M
-check-request-spec = tie.close (tie.spec Inv-loop μ-loop new-requires loop-holds mul-x shared-slice-read-x cast-x refused-at-requires returns refused-at-requires-2 returns-2 with-index-requires add-least add-i loop-less loop-again returns-3)
+check-request-spec = tie.close (tie.spec Inv-loop μ-loop new-requires loop-holds mul-x shared-slice-read-x cast-x refused-at-requires returns refused-at-requires-2 returns-2 insert-requires add-least add-i loop-less loop-again returns-3)

@@ -16,60 +16,60 @@ use Rattle.requests.proofs.with_aggregates.Statement.{statement}
 use Rattle.requests.proofs.with_aggregates.Tie as tie
 
 abbrev Inv-loop : tie.InvT-loop
-Inv-loop rows first count cells kept fields start width out₀ i₀ out i =
+Inv-loop rows first count cells fields start width kept out₀ i₀ out i =
     Picked (concatMap aggExprs (select (requestMask count kept) (aggsAt rows cells first count))) aggExprs count (setOf kept) (rowAt fields start width) out₀ i (rest (aggAt rows cells) first count i) out
 
 abbrev μ-loop : tie.MeasureT-loop
-μ-loop rows first count cells kept fields start width out₀ i₀ out i = count - i
+μ-loop rows first count cells fields start width kept out₀ i₀ out i = count - i
 
 loop-holds : tie.Need-loop-holds Inv-loop μ-loop
 loop-holds c =
     let args = c .before .before .before .args in
-    picked-none (ap (λ z. concatMap aggExprs (select (requestMask (args .count) (args .kept)) z)) (rest-all _ _ _))
+    picked-none (ap (λ z. concatMap aggExprs (select (requestMask (args .count) (args .t6)) z)) (rest-all _ _ _))
 
 contains-requires : tie.Need-contains-requires Inv-loop μ-loop
 contains-requires c κs = search needs
 
 add-agg-at : tie.Need-add-agg-at Inv-loop μ-loop
 add-agg-at c =
-    let pre = c .before .before .before .before .before .before .before .pre in
-    let loop-test = c .before .before .loop-test in
+    let pre = c .before .before .before .before .before .before .before .before .before .pre in
+    let loop-test = c .before .before .before .before .loop-test in
     omega (arith, pre .0 .room, loop-test .taken)
 
 agg-at-requires : tie.Need-agg-at-requires Inv-loop μ-loop
 agg-at-requires c κs =
-    let pre = c .before .before .before .before .before .before .before .pre in
-    let args = c .before .before .before .before .before .before .before .args in
-    let loop = c .before .before .before .loop in
-    let loop-test = c .before .before .loop-test in
+    let pre = c .before .before .before .before .before .before .before .before .before .pre in
+    let args = c .before .before .before .before .before .before .before .before .before .args in
+    let loop = c .before .before .before .before .before .loop in
+    let loop-test = c .before .before .before .before .loop-test in
     pre .0 .each (args .first + loop .i) (omega arith) (omega (arith, loop-test .taken)) .inside
 
 with-call-requires : tie.Need-with-call-requires Inv-loop μ-loop
 with-call-requires c κs =
     let agg-at = c .agg-at in
-    let pre = c .before .before .before .before .before .before .before .before .pre in
-    let args = c .before .before .before .before .before .before .before .before .args in
-    let loop = c .before .before .before .before .loop in
-    let loop-test = c .before .before .before .loop-test in
+    let pre = c .before .before .before .before .before .before .before .before .before .before .pre in
+    let args = c .before .before .before .before .before .before .before .before .before .before .args in
+    let loop = c .before .before .before .before .before .before .loop in
+    let loop-test = c .before .before .before .before .before .loop-test in
     (λ h. agg-at .ensures .node _ (pre .0 .each (args .first + loop .i) (omega arith) (omega (arith, loop-test .taken))) h, pre .1)
 
 add-i : tie.Need-add-i Inv-loop μ-loop
 add-i c =
-    let loop-test = c .before .before .loop-test in
+    let loop-test = c .before .before .before .before .loop-test in
     omega (arith, loop-test .taken)
 
 loop-less : tie.Need-loop-less Inv-loop μ-loop
 loop-less c =
-    let loop-test = c .before .before .loop-test in
+    let loop-test = c .before .before .before .before .loop-test in
     omega (arith, loop-test .taken)
 
 loop-again : tie.Need-loop-again Inv-loop μ-loop
 unfolding aggExprs
 loop-again c =
-    let loop-test = c .before .before .loop-test in
-    let loop = c .before .before .before .loop in
+    let loop-test = c .before .before .before .before .loop-test in
+    let loop = c .before .before .before .before .before .loop in
     let contains = c .before .contains in
-    let args = c .before .before .before .before .before .before .before .args in
+    let args = c .before .before .before .before .before .before .before .before .before .args in
     let if1 = c .if1 in
     let next = rest-next _ _ _ _ (loop-test .taken) in
     ⊎-elim

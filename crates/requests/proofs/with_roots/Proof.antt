@@ -1,21 +1,25 @@
 -- `requests::with_roots` meets its contract. The invariant: what is left to be added is the rest of the list. Assumes nothing.
 use borrow.Author.Needs.{needs}
-use mathlib.Core.Path.{_≡_, ap, _∙_}
+use mathlib.Core.Path.{_≡_, refl, ap, _∙_}
 use Prim.Native.Nat.{ℕ, _+_, _*_, _-_, _<_}
 use native.Mathlib.Omega.{arith}
+use Rattle.required_indices.specs.Request.{Lent, flagOf}
 use Rattle.lookup.specs.Fields.{rowAt}
+use Rattle.requests.specs.Asked.{ofWords}
+use Rattle.requests.proofs.Adding.{adds-words}
 use Rattle.requests.proofs.Lists.{Rooted, rooted-all, rooted-more, rooted-none}
 use Rattle.requests.proofs.with_roots.Statement.{statement}
 use Rattle.requests.proofs.with_roots.Tie as tie
 
 abbrev Inv-loop : tie.InvT-loop
-Inv-loop rows first count at cells fields start width out₀ i₀ out i = Rooted rows cells at first count (rowAt fields start width) out₀ i out
+Inv-loop rows first count at cells fields start width out₀ used₀ i₀ out used i =
+    Rooted rows cells at first count (rowAt fields start width) (ofWords (out₀ .indices) used₀) i (ofWords (out .indices) used) × Lent (out .indices) × (flagOf out ≡ flagOf out₀)
 
 abbrev μ-loop : tie.MeasureT-loop
-μ-loop rows first count at cells fields start width out₀ i₀ out i = count - i
+μ-loop rows first count at cells fields start width out₀ used₀ i₀ out used i = count - i
 
 loop-holds : tie.Need-loop-holds Inv-loop μ-loop
-loop-holds c = rooted-none _ _ _ _ _
+loop-holds c = (rooted-none _ _ _ _ _, search needs, refl)
 
 add-wide : tie.Need-add-wide Inv-loop μ-loop
 add-wide c =
@@ -45,11 +49,12 @@ shared-slice-read-wide c =
 wide-requires : tie.Need-wide-requires Inv-loop μ-loop
 wide-requires c κs = search needs
 
-add-expr-requires : tie.Need-add-expr-requires Inv-loop μ-loop
-add-expr-requires c κs =
-    let wide = c .wide in
-    let pre = c .before .before .before .before .before .before .before .pre in
-    (rw (wide .ensures) (pre .0 .rows .each _ (omega arith) (omega arith)), pre .1)
+add-requires : tie.Need-add-requires Inv-loop μ-loop
+add-requires c κs =
+    let wide = c .before .wide in
+    let pre = c .before .before .before .before .before .before .before .before .pre in
+    let loop = c .before .before .before .before .loop in
+    (rw (wide .ensures) (pre .0 .rows .each _ (omega arith) (omega arith)), (pre .1, loop .inv .1))
 
 add-i : tie.Need-add-i Inv-loop μ-loop
 add-i c = search needs
@@ -59,17 +64,17 @@ loop-less c = search needs
 
 loop-again : tie.Need-loop-again Inv-loop μ-loop
 loop-again c =
-    let loop-test = c .before .before .before .loop-test in
-    let loop = c .before .before .before .before .loop in
-    let wide = c .before .wide in
-    let add-expr = c .add-expr in
-    rooted-more _ _ _ _ _ (loop-test .taken) (loop .inv) (rw (wide .ensures) at (add-expr .ensures))
+    let loop-test = c .before .before .before .before .loop-test in
+    let loop = c .before .before .before .before .before .loop in
+    let wide = c .before .before .wide in
+    let add = c .add in
+    (rooted-more _ _ _ _ _ (loop-test .taken) (loop .inv .0) (rw (wide .ensures) at (add .ensures .0)), add .ensures .1, loop .inv .2)
 
 returns : tie.Need-returns Inv-loop μ-loop
 returns c =
     let loop-test = c .loop-test in
     let loop = c .before .loop in
-    rooted-all _ _ _ _ _ (loop-test .left) (loop .inv)
+    adds-words _ (loop .inv .2) (rooted-all _ _ _ _ _ (loop-test .left) (loop .inv .0))
 
 pub with-roots-spec : {M : Type 1} → statement M
-with-roots-spec = tie.close (tie.spec Inv-loop μ-loop loop-holds add-wide mul-wide add-wide-2 mul-wide-2 shared-slice-read-wide wide-requires add-expr-requires add-i loop-less loop-again returns)
+with-roots-spec = tie.close (tie.spec Inv-loop μ-loop loop-holds add-wide mul-wide add-wide-2 mul-wide-2 shared-slice-read-wide wide-requires add-requires add-i loop-less loop-again returns)

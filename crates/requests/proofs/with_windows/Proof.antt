@@ -15,12 +15,12 @@ use Rattle.requests.proofs.with_windows.Statement.{statement}
 use Rattle.requests.proofs.with_windows.Tie as tie
 
 abbrev Inv-loop : tie.InvT-loop
-Inv-loop rows first count cells kept fields start width out₀ at₀ i₀ out at i =
+Inv-loop rows first count cells fields start width kept out₀ at₀ i₀ out at i =
     Picked (concatMap winExprs (select (requestMask count kept) (winsAt rows cells first count))) winExprs count (setOf kept) (rowAt fields start width) out₀ i (winsAt rows cells at (count - i)) out
     × AllAt (WinOk rows cells) (winSize rows) at (count - i)
 
 abbrev μ-loop : tie.MeasureT-loop
-μ-loop rows first count cells kept fields start width out₀ at₀ i₀ out at i = count - i
+μ-loop rows first count cells fields start width kept out₀ at₀ i₀ out at i = count - i
 
 loop-holds : tie.Need-loop-holds Inv-loop μ-loop
 loop-holds c =
@@ -40,26 +40,26 @@ contains-requires c κs = search needs
 
 with-window-requires : tie.Need-with-window-requires Inv-loop μ-loop
 with-window-requires c κs =
-    let loop-test = c .before .before .before .loop-test in
-    let loop = c .before .before .before .before .loop in
-    let pre = c .before .before .before .before .before .before .before .before .pre in
+    let loop-test = c .before .before .before .before .before .loop-test in
+    let loop = c .before .before .before .before .before .before .loop in
+    let pre = c .before .before .before .before .before .before .before .before .before .before .pre in
     (all-here _ _ _ _ _ (loop-test .taken) (loop .inv .1) .0, pre .1)
 
 add-i : tie.Need-add-i Inv-loop μ-loop
 add-i c =
-    let loop-test = c .before .before .before .loop-test in
+    let loop-test = c .before .before .before .before .before .loop-test in
     omega (arith, loop-test .taken)
 
 loop-less : tie.Need-loop-less Inv-loop μ-loop
 loop-less c =
-    let loop-test = c .before .before .before .loop-test in
+    let loop-test = c .before .before .before .before .before .loop-test in
     omega (arith, loop-test .taken)
 
 loop-again : tie.Need-loop-again Inv-loop μ-loop
 loop-again c =
-    let loop-test = c .before .before .before .loop-test in
-    let win-at = c .before .before .win-at in
-    let loop = c .before .before .before .before .loop in
+    let loop-test = c .before .before .before .before .before .loop-test in
+    let win-at = c .before .before .before .before .win-at in
+    let loop = c .before .before .before .before .before .before .loop in
     let contains = c .before .contains in
     let if1 = c .if1 in
     let next = list-next _ _ _ _ _ (loop-test .taken) in

@@ -44,8 +44,8 @@ number-requires c κs = search needs
 
 add-at : tie.Need-add-at Inv-loop μ-loop
 add-at c =
-    let s = c .before .before .before .before .before .before .before in
-    let r = s .before .args .r in
+    let s = c .before .before .before .before .before .before .before .before .before in
+    let r = s .before .args .t1 in
     let n = c .before .before .before .before .before .before .next in
     let i = c .before .before .before .before .i in
     let b = found r (search needs) (words (r .indices) (λ j. search needs)) (s .loop .at) (n .result) (n .ensures) (i .given .0 .0) (i .given .1) in
@@ -53,8 +53,8 @@ add-at c =
 
 loop-less : tie.Need-loop-less Inv-loop μ-loop
 loop-less c =
-    let s = c .before .before .before .before .before .before .before in
-    let r = s .before .args .r in
+    let s = c .before .before .before .before .before .before .before .before .before in
+    let r = s .before .args .t1 in
     let n = c .before .before .before .before .before .before .next in
     let i = c .before .before .before .before .i in
     let b = found r (search needs) (words (r .indices) (λ j. search needs)) (s .loop .at) (n .result) (n .ensures) (i .given .0 .0) (i .given .1) in
@@ -62,8 +62,8 @@ loop-less c =
 
 loop-again : tie.Need-loop-again Inv-loop μ-loop
 loop-again c =
-    let s = c .before .before .before .before .before .before .before in
-    let r = s .before .args .r in
+    let s = c .before .before .before .before .before .before .before .before .before in
+    let r = s .before .args .t1 in
     let n = c .before .before .before .before .before .before .next in
     let i = c .before .before .before .before .i in
     let b = found r (search needs) (words (r .indices) (λ j. search needs)) (s .loop .at) (n .result) (n .ensures) (i .given .0 .0) (i .given .1) in

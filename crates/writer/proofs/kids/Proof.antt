@@ -12,8 +12,8 @@ enum-known-form c = search needs
 
 node-at-requires : tie.Need-node-at-requires
 node-at-requires c κs =
-    let record-at = c .before .before .before .record-at in
-    let form = c .before .form in
+    let record-at = c .before .before .before .before .record-at in
+    let form = c .before .before .form in
     let pre = c .before .before .before .before .before .before .pre in
     (rw (sym (record-at .ensures), form .given .1) at (pre .1)) .0
 
@@ -38,8 +38,8 @@ enum-told c = search needs
 returns : tie.Need-returns
 returns c =
     let node-inputs = c .node-inputs in
-    let record-at = c .before .before .before .before .before .record-at in
-    let form = c .before .before .before .form in
+    let record-at = c .before .before .before .before .before .before .record-at in
+    let form = c .before .before .before .before .form in
     let node-at = c .before .node-at in
     node-inputs .ensures ∙ rw (sym (record-at .ensures), form .given .1, node-at .ensures .is)
 

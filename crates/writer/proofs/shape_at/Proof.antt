@@ -12,9 +12,9 @@ enum-known-form c = search needs
 
 node-at-requires : tie.Need-node-at-requires
 node-at-requires c κs =
-    let record-at = c .before .before .before .record-at in
-    let form = c .before .form in
-    let pre = c .before .before .before .before .before .before .before .pre in
+    let record-at = c .before .before .before .before .record-at in
+    let form = c .before .before .form in
+    let pre = c .before .before .before .before .before .before .pre in
     (rw (sym (record-at .ensures), form .given .1) at (pre .1)) .0
 
 width-at-requires : tie.Need-width-at-requires
@@ -22,9 +22,9 @@ width-at-requires c κs = search needs
 
 shape-of-requires : tie.Need-shape-of-requires
 shape-of-requires c κs =
-    let node-at = c .before .node-at in
-    let record-at = c .before .before .before .before .before .record-at in
-    let form = c .before .before .before .form in
+    let node-at = c .before .before .node-at in
+    let record-at = c .before .before .before .before .before .before .before .record-at in
+    let form = c .before .before .before .before .before .form in
     let pre = c .before .before .before .before .before .before .before .before .before .pre in
     rw (node-at .ensures .is) ((rw (sym (record-at .ensures), form .given .1) at (pre .1)) .1)
 
@@ -58,19 +58,19 @@ empty-shape-requires c κs = search needs
 returns : tie.Need-returns
 returns c =
     let shape-of = c .shape-of in
-    let node-at = c .before .before .node-at in
+    let node-at = c .before .before .before .node-at in
     let width-at = c .before .width-at in
-    let record-at = c .before .before .before .before .before .before .record-at in
-    let form = c .before .before .before .before .form in
+    let record-at = c .before .before .before .before .before .before .before .before .record-at in
+    let form = c .before .before .before .before .before .before .form in
     shape-of .ensures ∙ rw (node-at .ensures .is, width-at .ensures, sym (record-at .ensures), form .given .1)
 
 returns-2 : tie.Need-returns-2
 returns-2 c =
     let plain = c .plain in
     let width-at2 = c .before .width-at2 in
-    let first-at = c .before .before .first-at in
-    let record-at = c .before .before .before .before .before .before .record-at in
-    let form2 = c .before .before .before .before .form2 in
+    let first-at = c .before .before .before .first-at in
+    let record-at = c .before .before .before .before .before .before .before .before .record-at in
+    let form2 = c .before .before .before .before .before .before .form2 in
     plain .ensures ∙ rw (width-at2 .ensures, first-at .ensures, sym (record-at .ensures), form2 .given .1)
 
 returns-3 : tie.Need-returns-3

@@ -4,7 +4,7 @@ use Rattle.writer_parts.proofs.is_taken.Statement.{statement}
 use Rattle.writer_parts.proofs.is_taken.Tie as tie
 
 contains-requires : tie.Need-contains-requires
-contains-requires c κs = search needs
+contains-requires c κs = c .before .pre
 
 returns : tie.Need-returns
 returns c = search needs

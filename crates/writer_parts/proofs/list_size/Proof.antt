@@ -7,29 +7,30 @@ use Prim.Native.Nat.{ℕ, _+_, _-_, _≤_}
 use lib.ListN.{length}
 use Rattle.writer_parts.specs.Wrote.{Counts}
 use Rattle.writer_parts.specs.Parts.{partBytes, partTags}
-use Rattle.writer_parts.specs.Lists.{chosen, chosenSum, takes}
+use Rattle.required_indices.specs.Request.{setIn}
+use Rattle.writer_parts.specs.Lists.{chosen, chosenSum, takes, which}
 use Rattle.writer_parts.proofs.Lists.{all-counts, cond-length, none-counts, sum-fits, turn-counts, turn-fits}
 use Rattle.writer_parts.proofs.list_size.Statement.{statement}
 use Rattle.writer_parts.proofs.list_size.Tie as tie
 
 abbrev Inv-loop : tie.InvT-loop
-Inv-loop part rows cells first n which sum₀ i₀ sum i =
-    (i ≤ n) × Counts (length (chosen (λ j. partBytes part rows cells (first + j)) (takes which) 0 i)) (chosenSum (λ j. partTags part rows cells (first + j)) (takes which) 0 i) sum
+Inv-loop part rows cells first n all indices used sum₀ i₀ sum i =
+    (i ≤ n) × Counts (length (chosen (λ j. partBytes part rows cells (first + j)) (takes (which all (setIn indices used))) 0 i)) (chosenSum (λ j. partTags part rows cells (first + j)) (takes (which all (setIn indices used))) 0 i) sum
 
 abbrev μ-loop : tie.MeasureT-loop
-μ-loop part rows cells first n which sum₀ i₀ sum i = n - i
+μ-loop part rows cells first n all indices used sum₀ i₀ sum i = n - i
 
 loop-holds : tie.Need-loop-holds Inv-loop μ-loop
 loop-holds c = (omega arith, none-counts _ _ _ refl refl)
 
 is-taken-requires : tie.Need-is-taken-requires Inv-loop μ-loop
-is-taken-requires c κs = search needs
+is-taken-requires c κs = c .before .before .before .before .pre .0
 
 add-size-if : tie.Need-add-size-if Inv-loop μ-loop
 add-size-if c =
     let pre = c .before .before .before .before .before .pre in
     let loop-test = c .before .loop-test in
-    omega (arith, pre .0 .fits, loop-test .taken)
+    omega (arith, pre .1 .0 .fits, loop-test .taken)
 
 size-if-requires : tie.Need-size-if-requires Inv-loop μ-loop
 size-if-requires c κs =
@@ -40,10 +41,10 @@ size-if-requires c κs =
     let is-taken = c .is-taken in
     let F : ℕ → List ℕ = λ j. partBytes (args .part) (args .rows .now) (args .cells .now) (args .first + j) in
     let G : ℕ → ℕ = λ j. partTags (args .part) (args .rows .now) (args .cells .now) (args .first + j) in
-    let t = takes (args .which) in
+    let t = takes (which (args .all) (setIn (args .indices .now) (args .used))) in
     let p = turn-fits F t (loop .i) (args .n) (loop-test .taken) in
     let q = sum-fits G t (loop .i) (args .n) (loop-test .taken) in
-    (pre .0 .each (loop .i) (loop-test .taken), rw (is-taken .ensures) (omega (arith, pre .1, p, q, cond-length (t (loop .i)) (F (loop .i)))))
+    (pre .1 .0 .each (loop .i) (loop-test .taken), rw (is-taken .ensures) (omega (arith, pre .1 .1, p, q, cond-length (t (loop .i)) (F (loop .i)))))
 
 both-requires : tie.Need-both-requires Inv-loop μ-loop
 both-requires c κs =
@@ -55,11 +56,11 @@ both-requires c κs =
     let pre = c .before .before .before .before .before .before .pre in
     let F : ℕ → List ℕ = λ j. partBytes (args .part) (args .rows .now) (args .cells .now) (args .first + j) in
     let G : ℕ → ℕ = λ j. partTags (args .part) (args .rows .now) (args .cells .now) (args .first + j) in
-    let t = takes (args .which) in
+    let t = takes (which (args .all) (setIn (args .indices .now) (args .used))) in
     let p = turn-fits F t (loop .i) (args .n) (loop-test .taken) in
     let q = sum-fits G t (loop .i) (args .n) (loop-test .taken) in
     let z = rw (is-taken .ensures) at (size-if .ensures) in
-    omega (arith, pre .1, p, q, cond-length (t (loop .i)) (F (loop .i)), z, loop .inv .1)
+    omega (arith, pre .1 .1, p, q, cond-length (t (loop .i)) (F (loop .i)), z, loop .inv .1)
 
 add-i : tie.Need-add-i Inv-loop μ-loop
 add-i c =

@@ -4,7 +4,7 @@ use Rattle.writer_parts.proofs.taken_count.Statement.{statement}
 use Rattle.writer_parts.proofs.taken_count.Tie as tie
 
 len-requires : tie.Need-len-requires
-len-requires c κs = search needs
+len-requires c κs = c .before .pre
 
 returns : tie.Need-returns
 returns c = search needs

@@ -8,26 +8,27 @@ use lib.ListN.{length}
 use Rattle.cpl.specs.Bytes.{winBytes}
 use Rattle.cpl.specs.Exprs.{winTags}
 use Rattle.tree.specs.Rows.{winAt, winSize}
-use Rattle.writer_parts.specs.Lists.{chosen, chosenSum, rowFrom, takes}
+use Rattle.required_indices.specs.Request.{setIn}
+use Rattle.writer_parts.specs.Lists.{chosen, chosenSum, rowFrom, takes, which}
 use Rattle.writer_parts.specs.Wrote.{Counts}
 use Rattle.writer_parts.proofs.Lists.{all-counts, cond-length, none-counts, row-next, sum-fits, turn-counts, turn-fits}
 use Rattle.writer_parts.proofs.wins_size.Statement.{statement}
 use Rattle.writer_parts.proofs.wins_size.Tie as tie
 
 abbrev Inv-loop : tie.InvT-loop
-Inv-loop rows cells first n which sum₀ row₀ i₀ sum row i =
+Inv-loop rows cells first n all indices used sum₀ row₀ i₀ sum row i =
     (i ≤ n) × (row ≡ rowFrom (winSize rows) first i)
-    × Counts (length (chosen (λ j. winBytes (winAt rows cells (rowFrom (winSize rows) first j))) (takes which) 0 i)) (chosenSum (λ j. winTags (winAt rows cells (rowFrom (winSize rows) first j))) (takes which) 0 i) sum
+    × Counts (length (chosen (λ j. winBytes (winAt rows cells (rowFrom (winSize rows) first j))) (takes (which all (setIn indices used))) 0 i)) (chosenSum (λ j. winTags (winAt rows cells (rowFrom (winSize rows) first j))) (takes (which all (setIn indices used))) 0 i) sum
 
 abbrev μ-loop : tie.MeasureT-loop
-μ-loop rows cells first n which sum₀ row₀ i₀ sum row i = n - i
+μ-loop rows cells first n all indices used sum₀ row₀ i₀ sum row i = n - i
 
 loop-holds : tie.Need-loop-holds Inv-loop μ-loop
 unfolding rowFrom
 loop-holds c = (omega arith, refl, none-counts _ _ _ refl refl)
 
 is-taken-requires : tie.Need-is-taken-requires Inv-loop μ-loop
-is-taken-requires c κs = search needs
+is-taken-requires c κs = c .before .before .before .before .pre .0
 
 win-size-if-requires : tie.Need-win-size-if-requires Inv-loop μ-loop
 win-size-if-requires c κs =
@@ -38,10 +39,10 @@ win-size-if-requires c κs =
     let is-taken = c .is-taken in
     let F : ℕ → List ℕ = λ j. winBytes (winAt (args .rows .now) (args .cells .now) (rowFrom (winSize (args .rows .now)) (args .first) j)) in
     let G : ℕ → ℕ = λ j. winTags (winAt (args .rows .now) (args .cells .now) (rowFrom (winSize (args .rows .now)) (args .first) j)) in
-    let t = takes (args .which) in
+    let t = takes (which (args .all) (setIn (args .indices .now) (args .used))) in
     let p = turn-fits F t (loop .i) (args .n) (loop-test .taken) in
     let q = sum-fits G t (loop .i) (args .n) (loop-test .taken) in
-    (rw (loop .inv .1) (pre .0 .each (loop .i) (loop-test .taken)), rw (is-taken .ensures, (loop .inv .1)) (omega (arith, pre .1, p, q, cond-length (t (loop .i)) (F (loop .i)))))
+    (rw (loop .inv .1) (pre .1 .0 .each (loop .i) (loop-test .taken)), rw (is-taken .ensures, (loop .inv .1)) (omega (arith, pre .1 .1, p, q, cond-length (t (loop .i)) (F (loop .i)))))
 
 both-requires : tie.Need-both-requires Inv-loop μ-loop
 both-requires c κs =
@@ -53,18 +54,18 @@ both-requires c κs =
     let pre = c .before .before .before .before .before .before .pre in
     let F : ℕ → List ℕ = λ j. winBytes (winAt (args .rows .now) (args .cells .now) (rowFrom (winSize (args .rows .now)) (args .first) j)) in
     let G : ℕ → ℕ = λ j. winTags (winAt (args .rows .now) (args .cells .now) (rowFrom (winSize (args .rows .now)) (args .first) j)) in
-    let t = takes (args .which) in
+    let t = takes (which (args .all) (setIn (args .indices .now) (args .used))) in
     let p = turn-fits F t (loop .i) (args .n) (loop-test .taken) in
     let q = sum-fits G t (loop .i) (args .n) (loop-test .taken) in
     let z = rw (is-taken .ensures, (loop .inv .1)) at (win-size-if .ensures) in
-    omega (arith, pre .1, p, q, cond-length (t (loop .i)) (F (loop .i)), z, loop .inv .2)
+    omega (arith, pre .1 .1, p, q, cond-length (t (loop .i)) (F (loop .i)), z, loop .inv .2)
 
 win-at-requires : tie.Need-win-at-requires Inv-loop μ-loop
 win-at-requires c κs =
     let loop = c .before .before .before .before .loop in
     let pre = c .before .before .before .before .before .before .before .pre in
     let loop-test = c .before .before .before .loop-test in
-    rw (loop .inv .1) (pre .0 .each (loop .i) (loop-test .taken) .inside)
+    rw (loop .inv .1) (pre .1 .0 .each (loop .i) (loop-test .taken) .inside)
 
 add-i : tie.Need-add-i Inv-loop μ-loop
 add-i c =

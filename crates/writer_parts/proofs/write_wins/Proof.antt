@@ -6,7 +6,8 @@ use mathlib.Core.Path.{_≡_, refl, sym, ap, _∙_}
 use Prim.Native.Nat.{ℕ, _+_, _-_, _≤_}
 use Rattle.cpl.specs.Bytes.{winBytes}
 use Rattle.tree.specs.Rows.{winAt, winSize}
-use Rattle.writer_parts.specs.Lists.{chosen, rowFrom, takes}
+use Rattle.required_indices.specs.Request.{setIn}
+use Rattle.writer_parts.specs.Lists.{chosen, rowFrom, takes, which}
 use Rattle.writer_parts.specs.Wrote.{Wrote}
 use Rattle.writer_parts.proofs.Lists.{row-next, turn, turn-all, turn-fits, turn-none, upto-length}
 use Rattle.writer_parts.proofs.Over.{kept}
@@ -14,18 +15,18 @@ use Rattle.writer_parts.proofs.write_wins.Statement.{statement}
 use Rattle.writer_parts.proofs.write_wins.Tie as tie
 
 abbrev Inv-loop : tie.InvT-loop
-Inv-loop rows cells first n which out₀ at₀ row₀ i₀ out at row i =
-    (i ≤ n) × (row ≡ rowFrom (winSize rows) first i) × Wrote (chosen (λ j. winBytes (winAt rows cells (rowFrom (winSize rows) first j))) (takes which) 0 i) out₀ at out
+Inv-loop rows cells first n all indices used out₀ at₀ row₀ i₀ out at row i =
+    (i ≤ n) × (row ≡ rowFrom (winSize rows) first i) × Wrote (chosen (λ j. winBytes (winAt rows cells (rowFrom (winSize rows) first j))) (takes (which all (setIn indices used))) 0 i) out₀ at out
 
 abbrev μ-loop : tie.MeasureT-loop
-μ-loop rows cells first n which out₀ at₀ row₀ i₀ out at row i = n - i
+μ-loop rows cells first n all indices used out₀ at₀ row₀ i₀ out at row i = n - i
 
 loop-holds : tie.Need-loop-holds Inv-loop μ-loop
 unfolding rowFrom
 loop-holds c = (omega arith, refl, turn-none _ _)
 
 is-taken-requires : tie.Need-is-taken-requires Inv-loop μ-loop
-is-taken-requires c κs = search needs
+is-taken-requires c κs = c .before .before .before .before .before .pre .0
 
 sub-write-win-if : tie.Need-sub-write-win-if Inv-loop μ-loop
 sub-write-win-if c =
@@ -34,10 +35,10 @@ sub-write-win-if c =
     let loop-test = c .before .loop-test in
     let pre = c .before .before .before .before .before .before .pre in
     let F : ℕ → List ℕ = λ j. winBytes (winAt (args .rows .now) (args .cells .now) (rowFrom (winSize (args .rows .now)) (args .first) j)) in
-    let t = takes (args .which) in
+    let t = takes (which (args .all) (setIn (args .indices .now) (args .used))) in
     let p = turn-fits F t (loop .i) (args .n) (loop-test .taken) in
-    let k = kept (loop .inv .2) (omega (arith, pre .1, p, loop .inv .2 .long)) in
-    omega (arith, pre .1, p, loop .inv .2 .long, k)
+    let k = kept (loop .inv .2) (omega (arith, pre .1 .1, p, loop .inv .2 .long)) in
+    omega (arith, pre .1 .1, p, loop .inv .2 .long, k)
 
 part-write-win-if-start : tie.Need-part-write-win-if-start Inv-loop μ-loop
 part-write-win-if-start c =
@@ -46,10 +47,10 @@ part-write-win-if-start c =
     let loop-test = c .before .loop-test in
     let pre = c .before .before .before .before .before .before .pre in
     let F : ℕ → List ℕ = λ j. winBytes (winAt (args .rows .now) (args .cells .now) (rowFrom (winSize (args .rows .now)) (args .first) j)) in
-    let t = takes (args .which) in
+    let t = takes (which (args .all) (setIn (args .indices .now) (args .used))) in
     let p = turn-fits F t (loop .i) (args .n) (loop-test .taken) in
-    let k = kept (loop .inv .2) (omega (arith, pre .1, p, loop .inv .2 .long)) in
-    omega (arith, pre .1, p, loop .inv .2 .long, k)
+    let k = kept (loop .inv .2) (omega (arith, pre .1 .1, p, loop .inv .2 .long)) in
+    omega (arith, pre .1 .1, p, loop .inv .2 .long, k)
 
 part-write-win-if-end : tie.Need-part-write-win-if-end Inv-loop μ-loop
 part-write-win-if-end c =
@@ -58,10 +59,10 @@ part-write-win-if-end c =
     let loop-test = c .before .loop-test in
     let pre = c .before .before .before .before .before .before .pre in
     let F : ℕ → List ℕ = λ j. winBytes (winAt (args .rows .now) (args .cells .now) (rowFrom (winSize (args .rows .now)) (args .first) j)) in
-    let t = takes (args .which) in
+    let t = takes (which (args .all) (setIn (args .indices .now) (args .used))) in
     let p = turn-fits F t (loop .i) (args .n) (loop-test .taken) in
-    let k = kept (loop .inv .2) (omega (arith, pre .1, p, loop .inv .2 .long)) in
-    omega (arith, pre .1, p, loop .inv .2 .long, k)
+    let k = kept (loop .inv .2) (omega (arith, pre .1 .1, p, loop .inv .2 .long)) in
+    omega (arith, pre .1 .1, p, loop .inv .2 .long, k)
 
 write-win-if-requires : tie.Need-write-win-if-requires Inv-loop μ-loop
 write-win-if-requires c κs =
@@ -71,10 +72,10 @@ write-win-if-requires c κs =
     let pre = c .before .before .before .before .before .before .before .pre in
     let is-taken = c .before .is-taken in
     let F : ℕ → List ℕ = λ j. winBytes (winAt (args .rows .now) (args .cells .now) (rowFrom (winSize (args .rows .now)) (args .first) j)) in
-    let t = takes (args .which) in
+    let t = takes (which (args .all) (setIn (args .indices .now) (args .used))) in
     let p = turn-fits F t (loop .i) (args .n) (loop-test .taken) in
-    let k = kept (loop .inv .2) (omega (arith, pre .1, p, loop .inv .2 .long)) in
-    (rw (loop .inv .1) (pre .0 .each (loop .i) (loop-test .taken)), rw (is-taken .ensures, (loop .inv .1)) (omega (arith, pre .1, p, loop .inv .2 .long, k)))
+    let k = kept (loop .inv .2) (omega (arith, pre .1 .1, p, loop .inv .2 .long)) in
+    (rw (loop .inv .1) (pre .1 .0 .each (loop .i) (loop-test .taken)), rw (is-taken .ensures, (loop .inv .1)) (omega (arith, pre .1 .1, p, loop .inv .2 .long, k)))
 
 add-at : tie.Need-add-at Inv-loop μ-loop
 add-at c =
@@ -85,17 +86,17 @@ add-at c =
     let is-taken = c .before .before .before .before .is-taken in
     let write-win-if = c .before .before .write-win-if in
     let F : ℕ → List ℕ = λ j. winBytes (winAt (args .rows .now) (args .cells .now) (rowFrom (winSize (args .rows .now)) (args .first) j)) in
-    let t = takes (args .which) in
+    let t = takes (which (args .all) (setIn (args .indices .now) (args .used))) in
     let p = turn-fits F t (loop .i) (args .n) (loop-test .taken) in
-    let k = kept (loop .inv .2) (omega (arith, pre .1, p, loop .inv .2 .long)) in
-    omega (arith, pre .1, p, loop .inv .2 .long, k, (rw (is-taken .ensures, (loop .inv .1)) at (write-win-if .ensures)) .long)
+    let k = kept (loop .inv .2) (omega (arith, pre .1 .1, p, loop .inv .2 .long)) in
+    omega (arith, pre .1 .1, p, loop .inv .2 .long, k, (rw (is-taken .ensures, (loop .inv .1)) at (write-win-if .ensures)) .long)
 
 win-at-requires : tie.Need-win-at-requires Inv-loop μ-loop
 win-at-requires c κs =
     let loop = c .before .before .before .before .before .before .loop in
     let pre = c .before .before .before .before .before .before .before .before .before .before .pre in
     let loop-test = c .before .before .before .before .before .loop-test in
-    rw (loop .inv .1) (pre .0 .each (loop .i) (loop-test .taken) .inside)
+    rw (loop .inv .1) (pre .1 .0 .each (loop .i) (loop-test .taken) .inside)
 
 add-i : tie.Need-add-i Inv-loop μ-loop
 add-i c =
@@ -126,8 +127,8 @@ same-length c =
     let loop = c .before .loop in
     let pre = c .before .before .before .before .before .pre in
     let F : ℕ → List ℕ = λ j. winBytes (winAt (args .rows .now) (args .cells .now) (rowFrom (winSize (args .rows .now)) (args .first) j)) in
-    let p = upto-length F (takes (args .which)) (loop .i) (args .n) (loop .inv .0) in
-    kept (loop .inv .2) (omega (arith, pre .1, p, loop .inv .2 .long))
+    let p = upto-length F (takes (which (args .all) (setIn (args .indices .now) (args .used)))) (loop .i) (args .n) (loop .inv .0) in
+    kept (loop .inv .2) (omega (arith, pre .1 .1, p, loop .inv .2 .long))
 
 returns : tie.Need-returns Inv-loop μ-loop
 returns c =

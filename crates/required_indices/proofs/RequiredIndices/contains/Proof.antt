@@ -25,13 +25,14 @@ shr-result c = search needs
 returns : tie.Need-returns
 unfolding has
 returns c =
-    let a = c .before .before .before .before .args in
-    let r = a .t1 in
+    let a = c .before .before .args in
+    let ws = a .indices .now in
     let n = c .before .smaller .result in
     let e = c .before .smaller .ensures in
-    let long : length (r .indices) ≡ wordsN = search needs in
-    let hs = words-take (r .used) (words (r .indices) (λ j. search needs)) in
-    ap (λ (x : ℕ). has x (a .i % 64)) (c .word .ensures ∙ ap (λ (x : List ℕ). getD x (a .i / 64) 0) (sym (in-use (r .used) n (r .indices) (omega arith)))) ∙ sym (has-at hs (a .i))
+    let pre = c .before .before .pre in
+    let long : length ws ≡ wordsN = pre .0 in
+    let hs = words-take (a .used) (words ws (pre .1)) in
+    ap (λ (x : ℕ). has x (a .i % 64)) (c .word .ensures ∙ ap (λ (x : List ℕ). getD x (a .i / 64) 0) (sym (in-use (a .used) n ws (omega arith)))) ∙ sym (has-at hs (a .i))
 
 pub contains-spec : {M : Type 1} → statement M
 contains-spec = tie.close (tie.spec smaller-requires word-requires shr-result returns)

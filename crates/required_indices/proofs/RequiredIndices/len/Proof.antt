@@ -4,9 +4,9 @@ use native.Mathlib.Omega.{arith}
 use Prim.Native.Nat.{_+_, _-_}
 use mathlib.Core.Path.{_≡_, ap}
 use lib.Count.{ones}
-use lib.ListN.{length, drop, length-take, drop-of-length-le}
+use lib.ListN.{length, drop, take, length-take, drop-of-length-le}
 use lib.Seq.{getD-take}
-use Rattle.required_indices.specs.Request.{wordsN, wordsOf}
+use Rattle.required_indices.specs.Request.{wordsN}
 use Rattle.required_indices.proofs.Pads.{words-take}
 use Rattle.required_indices.proofs.Places.{words}
 use Rattle.required_indices.proofs.Words.{onesW, number-ones}
@@ -15,10 +15,10 @@ use Rattle.required_indices.proofs.RequiredIndices.len.Statement.{state
 use Rattle.required_indices.proofs.RequiredIndices.len.Tie as tie
 
 abbrev Inv-loop : tie.InvT-loop
-Inv-loop self last n₀ k₀ n k = n + onesW (drop k (wordsOf self)) ≡ onesW (wordsOf self)
+Inv-loop indices used last n₀ k₀ n k = n + onesW (drop k (take used indices)) ≡ onesW (take used indices)
 
 abbrev μ-loop : tie.MeasureT-loop
-μ-loop self last n₀ k₀ n k = last - k
+μ-loop indices used last n₀ k₀ n k = last - k
 
 smaller-requires : tie.Need-smaller-requires Inv-loop μ-loop
 smaller-requires c κs = search needs
@@ -35,20 +35,24 @@ element-copy-out-n c = search needs
 cast-n : tie.Need-cast-n Inv-loop μ-loop
 cast-n c =
     let s = c .before .before in
-    let a = s .before .before .args .t1 in
-    let few = length-take (a .used) (a .indices) in
-    let long : length (a .indices) ≡ wordsN = search needs in
-    let get = ap ones (getD-take (a .used) (a .indices) (s .loop .k) 0 (omega arith)) in
-    omega (arith, ones-turn (wordsOf a) (s .loop .k) (omega arith), ones-most (words-take (a .used) (words (a .indices) (λ i. search needs))), get)
+    let a = s .before .before .args in
+    let pre = s .before .before .pre in
+    let ws = a .indices .now in
+    let few = length-take (a .used) ws in
+    let long : length ws ≡ wordsN = pre .0 in
+    let get = ap ones (getD-take (a .used) ws (s .loop .k) 0 (omega arith)) in
+    omega (arith, ones-turn (take (a .used) ws) (s .loop .k) (omega arith), ones-most (words-take (a .used) (words ws (pre .1))), get)
 
 add-n : tie.Need-add-n Inv-loop μ-loop
 add-n c =
     let s = c .before .before in
-    let a = s .before .before .args .t1 in
-    let few = length-take (a .used) (a .indices) in
-    let long : length (a .indices) ≡ wordsN = search needs in
-    let get = ap ones (getD-take (a .used) (a .indices) (s .loop .k) 0 (omega arith)) in
-    omega (arith, ones-turn (wordsOf a) (s .loop .k) (omega arith), ones-most (words-take (a .used) (words (a .indices) (λ i. search needs))), get)
+    let a = s .before .before .args in
+    let pre = s .before .before .pre in
+    let ws = a .indices .now in
+    let few = length-take (a .used) ws in
+    let long : length ws ≡ wordsN = pre .0 in
+    let get = ap ones (getD-take (a .used) ws (s .loop .k) 0 (omega arith)) in
+    omega (arith, ones-turn (take (a .used) ws) (s .loop .k) (omega arith), ones-most (words-take (a .used) (words ws (pre .1))), get)
 
 add-k : tie.Need-add-k Inv-loop μ-loop
 add-k c = search needs
@@ -59,20 +63,24 @@ loop-less c = omega arith
 loop-again : tie.Need-loop-again Inv-loop μ-loop
 loop-again c =
     let s = c .before .before in
-    let a = s .before .before .args .t1 in
-    let few = length-take (a .used) (a .indices) in
-    let long : length (a .indices) ≡ wordsN = search needs in
-    let get = ap ones (getD-take (a .used) (a .indices) (s .loop .k) 0 (omega arith)) in
-    omega (arith, ones-turn (wordsOf a) (s .loop .k) (omega arith), ones-most (words-take (a .used) (words (a .indices) (λ i. search needs))), get)
+    let a = s .before .before .args in
+    let pre = s .before .before .pre in
+    let ws = a .indices .now in
+    let few = length-take (a .used) ws in
+    let long : length ws ≡ wordsN = pre .0 in
+    let get = ap ones (getD-take (a .used) ws (s .loop .k) 0 (omega arith)) in
+    omega (arith, ones-turn (take (a .used) ws) (s .loop .k) (omega arith), ones-most (words-take (a .used) (words ws (pre .1))), get)
 
 returns : tie.Need-returns Inv-loop μ-loop
 unfolding onesW
 returns c =
     let s = c .before in
-    let a = s .before .before .args .t1 in
-    let few = length-take (a .used) (a .indices) in
-    let long : length (a .indices) ≡ wordsN = search needs in
-    omega (arith, number-ones (words-take (a .used) (words (a .indices) (λ i. search needs))), ap onesW (drop-of-length-le (wordsOf a) {i = s .loop .k} (omega arith)))
+    let a = s .before .before .args in
+    let pre = s .before .before .pre in
+    let ws = a .indices .now in
+    let few = length-take (a .used) ws in
+    let long : length ws ≡ wordsN = pre .0 in
+    omega (arith, number-ones (words-take (a .used) (words ws (pre .1))), ap onesW (drop-of-length-le (take (a .used) ws) {i = s .loop .k} (omega arith)))
 
 pub len-spec : {M : Type 1} → statement M
 len-spec =

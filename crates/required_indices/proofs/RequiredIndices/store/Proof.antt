@@ -4,18 +4,18 @@ use native.Mathlib.Omega.{arith}
 use Prim.Native.Nat.{ℕ, suc, _+_, _-_, _≤_}
 use mathlib.Core.Path.{_≡_, sym, ap, ap₂, _∙_}
 use mathlib.Core.List.{_∷_}
-use lib.ListN.{length, set, length-take, length-set}
+use lib.ListN.{length, set, take, length-take, length-set}
 use lib.Seq.{paste, paste-zero, length-paste, getD-take}
-use Rattle.required_indices.specs.Request.{wordsN, wordsOf}
+use Rattle.required_indices.specs.Request.{wordsN}
 use Rattle.required_indices.proofs.Stored.{store-turn, store-whole}
 use Rattle.required_indices.proofs.RequiredIndices.store.Statement.{statement}
 use Rattle.required_indices.proofs.RequiredIndices.store.Tie as tie
 
 abbrev Inv-loop : tie.InvT-loop
-Inv-loop words₀ at self last k₀ words k = (k ≤ last) × (words ≡ paste words₀ (at + 1) (wordsOf self) k)
+Inv-loop indices used words₀ at last k₀ words k = (k ≤ last) × (words ≡ paste words₀ (at + 1) (take used indices) k)
 
 abbrev μ-loop : tie.MeasureT-loop
-μ-loop words₀ at self last k₀ words k = last - k
+μ-loop indices used words₀ at last k₀ words k = last - k
 
 smaller-requires : tie.Need-smaller-requires Inv-loop μ-loop
 smaller-requires c κs = search needs
@@ -29,7 +29,7 @@ slice-write-words c = search needs
 loop-holds : tie.Need-loop-holds Inv-loop μ-loop
 loop-holds c =
     let a = c .before .before .args in
-    (omega arith, paste-zero (set (a .words .now) (a .at) (c .smaller .result)) (a .at + 1) (wordsOf (a .t1)))
+    (omega arith, paste-zero (set (a .words .now) (a .at) (c .smaller .result)) (a .at + 1) (take (a .used) (a .indices .now)))
 
 mul-words-2 : tie.Need-mul-words-2 Inv-loop μ-loop
 mul-words-2 c = search needs
@@ -50,14 +50,16 @@ slice-write-words-2 : tie.Need-slice-write-words-2 Inv-loop μ-loop
 slice-write-words-2 c =
     let s = c .before .before in
     let a = s .before .before .before .args in
-    let r = a .t1 in
+    let pre = s .before .before .before .pre in
+    let room = pre .1 in
+    let ws = a .indices .now in
     let last = s .before .smaller .result in
     let e = s .before .smaller .ensures in
-    let long : length (r .indices) ≡ wordsN = search needs in
-    let few = length-take (r .used) (r .indices) in
+    let long : length ws ≡ wordsN = pre .0 .0 in
+    let few = length-take (a .used) ws in
     let first = set (a .words .now) (a .at) last in
     let g = length-set (a .words .now) (a .at) last in
-    let f = length-paste first (a .at + 1) (wordsOf r) (s .loop .k) (omega arith) (omega arith) in
+    let f = length-paste first (a .at + 1) (take (a .used) ws) (s .loop .k) (omega arith) (omega arith) in
     omega (arith, ap length (s .loop .inv .1), f)
 
 add-k : tie.Need-add-k Inv-loop μ-loop
@@ -70,47 +72,53 @@ loop-again : tie.Need-loop-again Inv-loop μ-loop
 loop-again c =
     let s = c .before .before in
     let a = s .before .before .before .args in
+    let pre = s .before .before .before .pre in
+    let room = pre .1 in
     let k = s .loop .k in
-    let r = a .t1 in
+    let ws = a .indices .now in
     let last = s .before .smaller .result in
     let e = s .before .smaller .ensures in
-    let long : length (r .indices) ≡ wordsN = search needs in
-    let few = length-take (r .used) (r .indices) in
+    let long : length ws ≡ wordsN = pre .0 .0 in
+    let few = length-take (a .used) ws in
     let first = set (a .words .now) (a .at) last in
     let g = length-set (a .words .now) (a .at) last in
-    let get = sym (getD-take (r .used) (r .indices) k 0 (omega arith)) in (
+    let get = sym (getD-take (a .used) ws k 0 (omega arith)) in (
       omega arith,
-      ap (set (s .loop .words) (a .at + 1 + k)) get ∙ store-turn first (wordsOf r) (s .loop .words) (a .at + 1) k (s .loop .inv .1) (omega arith) (omega arith),
+      ap (set (s .loop .words) (a .at + 1 + k)) get ∙ store-turn first (take (a .used) ws) (s .loop .words) (a .at + 1) k (s .loop .inv .1) (omega arith) (omega arith),
     )
 
 same-length : tie.Need-same-length Inv-loop μ-loop
 same-length c =
     let s = c .before in
     let a = s .before .before .before .args in
-    let r = a .t1 in
+    let pre = s .before .before .before .pre in
+    let room = pre .1 in
+    let ws = a .indices .now in
     let last = s .before .smaller .result in
     let e = s .before .smaller .ensures in
-    let long : length (r .indices) ≡ wordsN = search needs in
-    let few = length-take (r .used) (r .indices) in
+    let long : length ws ≡ wordsN = pre .0 .0 in
+    let few = length-take (a .used) ws in
     let first = set (a .words .now) (a .at) last in
     let g = length-set (a .words .now) (a .at) last in
-    ap length (s .loop .inv .1) ∙ length-paste first (a .at + 1) (wordsOf r) (s .loop .k) (omega arith) (omega arith) ∙ g
+    ap length (s .loop .inv .1) ∙ length-paste first (a .at + 1) (take (a .used) ws) (s .loop .k) (omega arith) (omega arith) ∙ g
 
 returns : tie.Need-returns Inv-loop μ-loop
 returns c =
     let s = c .before in
     let a = s .before .before .before .args in
-    let r = a .t1 in
+    let pre = s .before .before .before .pre in
+    let room = pre .1 in
+    let ws = a .indices .now in
     let last = s .before .smaller .result in
     let e = s .before .smaller .ensures in
-    let long : length (r .indices) ≡ wordsN = search needs in
-    let few = length-take (r .used) (r .indices) in
+    let long : length ws ≡ wordsN = pre .0 .0 in
+    let few = length-take (a .used) ws in
     let first = set (a .words .now) (a .at) last in
     let g = length-set (a .words .now) (a .at) last in
-    let d : s .loop .k ≡ length (wordsOf r) = omega arith in
-    let h : last ≡ length (wordsOf r) = omega arith in
-    s .loop .inv .1 ∙ store-whole (a .words .now) (a .at) last (wordsOf r) (s .loop .k) (omega arith)
-    ∙ ap₂ (λ (x y : ℕ). paste (a .words .now) (a .at) (x ∷ wordsOf r) (suc y)) h d
+    let d : s .loop .k ≡ length (take (a .used) ws) = omega arith in
+    let h : last ≡ length (take (a .used) ws) = omega arith in
+    s .loop .inv .1 ∙ store-whole (a .words .now) (a .at) last (take (a .used) ws) (s .loop .k) (omega arith)
+    ∙ ap₂ (λ (x y : ℕ). paste (a .words .now) (a .at) (x ∷ take (a .used) ws) (suc y)) h d
 
 pub store-spec : {M : Type 1} → statement M
 store-spec =

@@ -1,0 +1,3 @@
+-- What the readers of a catalogue answer and store.
+pub mod Tables
+pub mod Keys

@@ -1,0 +1,3 @@
+-- Laws of the walk from the root and of its ends.
+pub mod Ends
+pub mod Walks
