@@ -6,13 +6,10 @@ use Rattle.key_vectors.proofs.lines.Statement.{statement}
 use Rattle.key_vectors.proofs.lines.Tie as tie
 
 abbrev Inv-loop : tie.InvT-loop
-Inv-loop all tally₀ from₀ tally from = from ≤ length all
+Inv-loop all tally₀ bad₀ from₀ at₀ tally bad from at = from ≤ length all
 
 abbrev μ-loop : tie.MeasureT-loop
-μ-loop all tally₀ from₀ tally from = length all - from
-
-new-requires : tie.Need-new-requires Inv-loop μ-loop
-new-requires c κs = search needs
+μ-loop all tally₀ bad₀ from₀ at₀ tally bad from at = length all - from
 
 loop-holds : tie.Need-loop-holds Inv-loop μ-loop
 loop-holds c = search needs
@@ -20,20 +17,20 @@ loop-holds c = search needs
 find-requires : tie.Need-find-requires Inv-loop μ-loop
 find-requires c κs = search needs
 
-sub-run : tie.Need-sub-run Inv-loop μ-loop
-sub-run c = search needs
+wrapping-add-u64-requires : tie.Need-wrapping-add-u64-requires Inv-loop μ-loop
+wrapping-add-u64-requires c κs = search needs
 
-part-run-start : tie.Need-part-run-start Inv-loop μ-loop
-part-run-start c = search needs
+sub-count : tie.Need-sub-count Inv-loop μ-loop
+sub-count c = search needs
 
-part-run-end : tie.Need-part-run-end Inv-loop μ-loop
-part-run-end c = search needs
+part-count-start : tie.Need-part-count-start Inv-loop μ-loop
+part-count-start c = search needs
 
-run-requires : tie.Need-run-requires Inv-loop μ-loop
-run-requires c κs = search needs
+part-count-end : tie.Need-part-count-end Inv-loop μ-loop
+part-count-end c = search needs
 
-with-requires : tie.Need-with-requires Inv-loop μ-loop
-with-requires c κs = search needs
+count-requires : tie.Need-count-requires Inv-loop μ-loop
+count-requires c κs = search needs
 
 returns : tie.Need-returns Inv-loop μ-loop
 returns c = search needs
@@ -56,14 +53,13 @@ lines-spec =
     (tie.spec
     Inv-loop
     μ-loop
-    new-requires
     loop-holds
     find-requires
-    sub-run
-    part-run-start
-    part-run-end
-    run-requires
-    with-requires
+    wrapping-add-u64-requires
+    sub-count
+    part-count-start
+    part-count-end
+    count-requires
     returns
     add-from
     loop-less

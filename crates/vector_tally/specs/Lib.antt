@@ -1,4 +1,0 @@
--- What a line states, what a verdict says, and what is counted.
-pub mod Cases
-pub mod Verdicts
-pub mod Tallies
