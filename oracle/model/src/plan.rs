@@ -156,9 +156,10 @@ impl Item {
     }
 }
 
-impl Plan {
-    pub fn children(&self) -> Vec<&Plan> {
-        match self {
+/// The inputs of a plan, lent as the plan is.
+macro_rules! inputs {
+    ($plan:expr) => {
+        match $plan {
             Plan::Projection(_, c)
             | Plan::Filter(_, c)
             | Plan::Sort(_, c)
@@ -170,22 +171,18 @@ impl Plan {
             Plan::Union(l, r) | Plan::Join(_, l, r) => vec![l, r],
             Plan::Scan { .. } | Plan::Empty { .. } => vec![],
         }
+    };
+}
+
+impl Plan {
+    pub fn children(&self) -> Vec<&Plan> {
+        inputs!(self)
     }
 
     pub fn children_mut(&mut self) -> Vec<&mut Plan> {
-        match self {
-            Plan::Projection(_, c)
-            | Plan::Filter(_, c)
-            | Plan::Sort(_, c)
-            | Plan::Limit(_, _, c)
-            | Plan::Aggregate(_, _, c)
-            | Plan::Window(_, c)
-            | Plan::SubqueryAlias(_, c)
-            | Plan::Distinct(c) => vec![c],
-            Plan::Union(l, r) | Plan::Join(_, l, r) => vec![l, r],
-            Plan::Scan { .. } | Plan::Empty { .. } => vec![],
-        }
+        inputs!(self)
     }
+
     pub fn kind(&self) -> &'static str {
         match self {
             Plan::Projection(..) => "projection",
