@@ -2,6 +2,8 @@
 //! of document 02; or none, and the fields of every node.
 //!
 //! `fields` and `widths` are lent, and a node's fields stand in them as crate verdicts says.
+#![tactic(auto)]
+
 ghost use Rattle.std.specs.Prelude.{◌≡◌};
 ghost use Rattle.accept.specs.Inputs.{KidsAre};
 ghost use Rattle.accept.specs.Verdicts.{Checked, Judgeable, Walking};
@@ -15,7 +17,7 @@ use verdicts::Verdict;
 use versions::Version;
 
 /// A node's inputs: the first is the next node.
-#[derive(Drop)]
+#[derive(Clone, Copy)]
 pub enum Kids {
     Nothing,
     One,

@@ -1,4 +1,6 @@
 //! Runs acceptance on plans of one node, lookups and requests, and writes what they answer.
+#![tactic(auto)]
+
 ghost use Rattle.std.specs.Prelude.{◌<◌, ◌≤◌};
 
 use libc::STDOUT_FILENO;

@@ -2,6 +2,8 @@
 //!
 //! `check` makes the arrays that a plan is read into; `check_in` is lent them, and says nothing of what they held or hold. `read_and_check` leaves an
 //! accepted plan in them, for what goes on with it.
+#![tactic(auto)]
+
 ghost use Rattle.std.specs.Prelude.{true, ◌≡◌};
 ghost use Rattle.rules.specs.Check.{check_file};
 ghost use Rattle.acceptance.specs.Readings.{CheckedIs, Narrow, NoneBelow, ReadingIs, Room};
@@ -11,7 +13,7 @@ use verdicts::Verdict;
 use versions::Version;
 
 /// Code 0, place 0, the number of nodes and of the root's fields; or a refusal's code and place, and 0 for both numbers.
-#[derive(Drop)]
+#[derive(Clone, Copy)]
 pub struct Checked {
     pub code: u8,
     pub place: usize,
@@ -20,7 +22,7 @@ pub struct Checked {
 }
 
 /// What was checked, the offset of its plan and its version.
-#[derive(Drop)]
+#[derive(Clone, Copy)]
 pub struct Reading {
     pub checked: Checked,
     pub start: usize,

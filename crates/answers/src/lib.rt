@@ -1,8 +1,10 @@
 //! answers: the answer of an entry, a code, a length and a place.
+#![tactic(auto)]
+
 ghost use Rattle.std.specs.Prelude.{◌≡◌};
 
 /// A code, a length and a place: 0 with the bytes written and place 0, or a refusal with length 0.
-#[derive(Drop)]
+#[derive(Clone, Copy)]
 pub struct Answer {
     pub code: u8,
     pub length: usize,

@@ -22,11 +22,11 @@ use Rattle.arena.proofs.Rows.{rest, rest_all, rest-next, rest-none}
 module _ {A : Type 0} (d : Dec A) where
   pub is_yes : A → true ≡ decide d
   unfolding decide
-  is_yes a = elim d [ yes b ↦ refl | no n ↦ absurd (n a) ]
+  is_yes a = elim d as (λ k. true ≡ decide k) [ yes b ↦ refl | no n ↦ absurd (n a) ]
 
   pub is_no : (A → ⊥) → false ≡ decide d
   unfolding decide
-  is_no n = elim d [ yes b ↦ absurd (n b) | no m ↦ refl ]
+  is_no n = elim d as (λ k. false ≡ decide k) [ yes b ↦ absurd (n b) | no m ↦ refl ]
 
   pub is_test : (b : Bool) → (b ≡ true → A) → (A → b ≡ true) → b ≡ decide d
   is_test true f g = is_yes (f refl)

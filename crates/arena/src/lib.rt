@@ -2,6 +2,8 @@
 //!
 //! A node of `cells` is three numbers (tag, x, y), and its operands stand at smaller node numbers. A row of `items` is four numbers
 //! (qualifier, name, mark, root): mark 0 is a bare column, any other mark an alias; root is the node of the item's expression.
+#![tactic(auto)]
+
 ghost use Rattle.std.specs.Prelude.{Bool, ◌≡◌, ℕ, ◌+◌, ◌*◌, ◌^◌, ◌<◌, ◌≤◌, length};
 ghost use Rattle.std.proofs.Math.Bool.{decide};
 ghost use Rattle.cpl.specs.Codes.{tag_of};
@@ -14,7 +16,7 @@ ghost use Rattle.arena.specs.Rows.{item_at, items_at, RowIs, RowOk, RowsOk};
 ghost use Rattle.arena.specs.View.{Shows};
 
 /// The three numbers of a node.
-#[derive(Drop)]
+#[derive(Clone, Copy)]
 pub struct Node {
     pub tag: u64,
     pub x: u64,
@@ -35,7 +37,7 @@ pub fn words_at(cells: &[u64], i: usize) -> Node
 }
 
 /// A node taken apart: a column's pair, a literal's bits, missing, an operator's tag with its operands.
-#[derive(Drop)]
+#[derive(Clone, Copy)]
 pub enum View {
     Col(u16, u16),
     Lit(u64),
@@ -91,7 +93,7 @@ pub fn is_column(cells: &[u64], i: usize, q: u16, n: u16) -> bool
 }
 
 /// The four numbers of a row.
-#[derive(Drop)]
+#[derive(Clone, Copy)]
 pub struct Row {
     pub qualifier: u16,
     pub name: u16,

@@ -2,6 +2,8 @@
 //!
 //! Every function keeps the nodes below `used` and the rows below the one that it writes. It answers `Full` exactly when the nodes
 //! that it needs are more than the array has left.
+#![tactic(auto)]
+
 ghost use Rattle.std.specs.Prelude.{map, ◌≡◌, ℕ, ◌+◌, ◌*◌, ◌<◌, ◌≤◌, length};
 ghost use Rattle.cpl.specs.Plan.{col, pair};
 ghost use Rattle.rules.specs.Merge.{replace, replace_item};
@@ -13,7 +15,7 @@ ghost use Rattle.arena_build.specs.Lists.{ItemAnswer, ListAnswer, Marked, put_ro
 use arena::View;
 
 /// What building an expression answers: its node and the nodes now in use, or that there is no room.
-#[derive(Drop)]
+#[derive(Clone, Copy)]
 pub enum Built {
     Done(usize, usize),
     Full,
@@ -34,7 +36,7 @@ pub fn push(cells: &mut [u64], used: usize, tag: u64, x: u64, y: u64) -> Built
 }
 
 /// What a reference finds among definitions: the node of one, or nothing.
-#[derive(Drop)]
+#[derive(Clone, Copy)]
 pub enum Found {
     At(usize),
     Nothing,
@@ -206,7 +208,7 @@ pub fn copy_item(
 }
 
 /// What building a list answers: the nodes now in use, or that there is no room.
-#[derive(Drop)]
+#[derive(Clone, Copy)]
 pub enum Listed {
     Done(usize),
     Full,

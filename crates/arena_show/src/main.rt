@@ -1,4 +1,6 @@
 //! Runs each function of `arena` and `arena_build` on samples, and writes what it answers.
+#![tactic(auto)]
+
 ghost use Rattle.std.specs.Prelude.{◌+◌, ◌*◌, ◌≤◌, length};
 ghost use Rattle.arena.specs.Cells.{Wf};
 ghost use Rattle.arena.specs.Rows.{RowsOk};

@@ -1,5 +1,6 @@
 //! call: a library entry as a program. Standard input names the entry and has its arguments, standard output gets its answer, as crate `calls` says,
 //! whose `run` says every byte that is written.
+#![tactic(auto)]
 
 // Standard input is read up to this many bytes; what is behind them counts as cut off. A file of 65,536 bytes and a request of 65,536 indices fit.
 const INPUT: usize = 262144;

@@ -8,6 +8,8 @@
 //! Another number is no entry: the text is empty.
 //!
 //! An entry is a function here and a definition in specs/Calls.antt, and a case of `run` and a member of `entries`.
+#![tactic(auto)]
+
 ghost use Rattle.std.specs.Prelude.{◌≡◌, ◌+◌, ◌*◌, ◌-◌, ◌^◌, ◌<◌, ◌≤◌, min, drop, length, take};
 ghost use Rattle.cpl.specs.Read.{little};
 ghost use Rattle.cpl.specs.ReadPlan.{read_file};
@@ -17,7 +19,7 @@ ghost use Rattle.listing.specs.Lines.{Counts};
 ghost use Rattle.calls.specs.Calls.{call_text, check_text, count_in, file_in, join_keys_text, list_call_text, list_plan_text, listed, most_asked, most_lent, numbers_text, prune_all_text, prune_text, request_in, said, spaced, text_of, without_keys_text};
 
 // The bytes of the input from an offset up to another.
-#[derive(Drop)]
+#[derive(Clone, Copy)]
 struct Span {
     from: usize,
     to: usize,

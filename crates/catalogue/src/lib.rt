@@ -1,5 +1,7 @@
 //! The catalogue of a plan file: the names of the tables' columns and the keys of the tables, read and checked. The names stand in a lent array, 513
 //! numbers for each table; the keys are put into the slots of their tables.
+#![tactic(auto)]
+
 ghost use Rattle.std.specs.Prelude.{◌≡◌, List, ℕ, ◌+◌, ◌*◌, ◌≤◌, ◌<◌, length, get_or};
 ghost use Rattle.cpl.specs.Plan.{Catalogue, TableKey, keyed_tables};
 ghost use Rattle.cpl.specs.Read.{nonzero, any, value, fresh, times, times_after, counted_after};
@@ -16,7 +18,7 @@ use required_indices::RequiredIndices;
 use versions::Version;
 
 /// The offset after a list, or a refusal.
-#[derive(Drop)]
+#[derive(Clone, Copy)]
 pub enum Next {
     At(usize),
     Bad(u8, usize),

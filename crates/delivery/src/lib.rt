@@ -1,5 +1,7 @@
 //! delivery: the answer for an accepted plan. It is walked from its root; what the walk left is too large, or it is counted and written to the output
 //! where that has room.
+#![tactic(auto)]
+
 ghost use Rattle.std.specs.Prelude.{◌≡◌, ◌++◌, ◌≤◌, length, take};
 ghost use Rattle.cpl.specs.Bytes.{plan_bytes};
 ghost use Rattle.cpl.specs.Exprs.{plan_tags};

@@ -1,5 +1,7 @@
 //! intake: from the bytes of a plan file and a request to an accepted plan in the lent arrays and the set of fields asked for. Codes 2 to 11, of which
 //! `acceptance` gives those up to 10.
+#![tactic(auto)]
+
 ghost use Rattle.std.specs.Prelude.{◌≡◌, ◌≤◌};
 ghost use Rattle.rules.specs.Request.{request_fault};
 ghost use Rattle.acceptance.specs.Readings.{Room};
@@ -10,7 +12,7 @@ use versions::Version;
 
 /// What came of a file and a request: a code and a place (0 and 0 where nothing is refused), the file's version, the offset of the plan, its number of
 /// nodes and the set of fields asked for.
-#[derive(Drop)]
+#[derive(Clone, Copy)]
 pub struct Intake {
     pub code: u8,
     pub place: usize,

@@ -3,6 +3,8 @@
 //!
 //! A job says what is to be done: a leaf is written; nothing is left but the one-row Empty; the input stands in the node's place; one
 //! input is rewritten, and topped up or not; or two are, and topped up.
+#![tactic(auto)]
+
 ghost use Rattle.std.specs.Prelude.{Bool, true, false, List, ◌≡◌, ℕ, ◌+◌, ◌<◌, ◌≤◌, length};
 ghost use Rattle.std.proofs.Math.Option.{Option};
 ghost use Rattle.cpl.specs.Plan.{Expr, Pair, aggregate, distinct, empty, filter, join, limit, scan, sort, subquery_alias, union, window};
@@ -24,7 +26,7 @@ use required_indices::RequiredIndices;
 use tree::{JoinNode, JoinType, Node};
 
 /// What is to be done with the inputs.
-#[derive(Drop)]
+#[derive(Clone, Copy)]
 pub enum Todo {
     Leaf,
     Nothing,
@@ -35,7 +37,7 @@ pub enum Todo {
 
 /// Which of the node's fields are left: those of the input that are; those, and behind the input's `width` fields the job's `set`; or the
 /// job's `kept`.
-#[derive(Drop)]
+#[derive(Clone, Copy)]
 pub enum Rest {
     Input,
     InputThen { width: usize },
@@ -44,7 +46,7 @@ pub enum Rest {
 
 /// A job: what is asked of the first and of the second input, the part of the node's own list that stays (of an Aggregate: groups, then
 /// aggregates), the fields that are left.
-#[derive(Drop)]
+#[derive(Clone, Copy)]
 pub struct Job {
     pub todo: Todo,
     pub rest: Rest,
@@ -55,7 +57,7 @@ pub struct Job {
 }
 
 /// Is a node a Projection, with its rows, or one of those that have a job?
-#[derive(Drop)]
+#[derive(Clone, Copy)]
 pub enum Kind {
     Projection { first: usize, n: usize },
     Other,

@@ -101,7 +101,7 @@ module _ {o : Option keys.JoinKeySet} {G : (pairs set : keys.JoinKeySet) → Opt
             ∙ f.step (expr_at cells l) (expr_at cells r) (rest cells s₀ first count (i + 1)) (keys_at cells s set.start set.size))
 
         pub work_65th : st (expr_at cells l) (expr_at cells r) (keys_at cells s set.start set.size) ≡ none → o ≡ none
-        work_65th n = next ∙ ap (◌and-then (λ t. G (rest cells s₀ first count (i + 1)) t)) n
+        work_65th n = next ∙ ap (◌and_then (λ t. G (rest cells s₀ first count (i + 1)) t)) n
 
         pub work_more : {more : JoinKeySet} {s' : List ℕ} → start + size ≤ first
             → Fills (st (expr_at cells l) (expr_at cells r) (keys_at cells s set.start set.size)) cells s set.start (set.size + 1) (Set more) s'
@@ -112,7 +112,7 @@ module _ {o : Option keys.JoinKeySet} {G : (pairs set : keys.JoinKeySet) → Opt
             record {
               upto = omega arith;
               starts = e₁;
-              is = next ∙ (ap (◌and-then (λ t. G (rest cells s₀ first count (i + 1)) t)) g.is ∙ ap (λ n. G (rest cells s₀ first count (i + 1)) (keys_at cells s' n more.size)) w.starts);
+              is = next ∙ (ap (◌and_then (λ t. G (rest cells s₀ first count (i + 1)) t)) g.is ∙ ap (λ n. G (rest cells s₀ first count (i + 1)) (keys_at cells s' n more.size)) w.starts);
               few = omega (arith, g.few, w.few);
               ok = rw w.starts at g.ok;
               kept = kept_trans (omega arith) w.kept (rw w.starts at g.kept);

@@ -3,6 +3,8 @@
 //!
 //! Expressions are nodes of `cells`, laid out as in crate `arena`. A pair is two node numbers in `pairs`, at twice its own number, and a set is a
 //! range of pairs in insertion order. No set stands on the stack: the sides of an `or` are worked out in the pairs behind the set being filled.
+#![tactic(auto)]
+
 ghost use Rattle.std.specs.Prelude.{◌≡◌, ℕ, ◌+◌, ◌*◌, ◌<◌, ◌≤◌, length};
 ghost use Rattle.cpl.specs.Plan.{on};
 ghost use Rattle.arena.specs.Cells.{expr_at, Wf};
@@ -27,7 +29,7 @@ const AND: u64 = 10;
 const OR: u64 = 11;
 
 /// The two nodes of a pair.
-#[derive(Drop)]
+#[derive(Clone, Copy)]
 pub struct Key {
     pub left: usize,
     pub right: usize,
@@ -68,14 +70,14 @@ fn is_pair(cells: &[u64], left: usize, right: usize, a: usize, b: usize) -> bool
 }
 
 /// A set: `size` pairs from pair `start` on.
-#[derive(Drop)]
+#[derive(Clone, Copy)]
 pub struct JoinKeySet {
     pub start: usize,
     pub size: usize,
 }
 
 /// What filling a set answers: the set, or that it would have a 65th pair.
-#[derive(Drop)]
+#[derive(Clone, Copy)]
 pub enum Filled {
     Set(JoinKeySet),
     Pairs,
@@ -283,7 +285,7 @@ fn put_node(cells: &mut [u64], i: usize, tag: u64, x: usize, y: usize)
 }
 
 /// What is left of a predicate: nothing, or a node; and the nodes now in use.
-#[derive(Drop)]
+#[derive(Clone, Copy)]
 pub enum Left {
     Nothing(usize),
     Node(usize, usize),

@@ -1,5 +1,7 @@
 //! key_rows: a list of pairs of nodes in its two layouts, each from the other. Rows, as those of a join's list, are what is read and written; pairs
 //! are what a `JoinKeySet` holds.
+#![tactic(auto)]
+
 ghost use Rattle.std.specs.Prelude.{◌*◌, ◌≤◌, length};
 ghost use Rattle.join_key_set.specs.Pairs.{KeysIn};
 ghost use Rattle.key_rows.specs.Rows.{SameKeys};

@@ -1,6 +1,8 @@
 //! key_sets: keys as sets of places in a lent array, each in a slot of nine numbers: those of 16 tables, then those of 256 nodes.
 //!
 //! A key is the set of its columns' places; the empty set is no key.
+#![tactic(auto)]
+
 ghost use Rattle.std.specs.Prelude.{◌≡◌, false, ◌+◌, ◌*◌, ◌≤◌, length};
 ghost use Rattle.required_indices.specs.Request.{Holds, set_of};
 ghost use Rattle.key_sets.specs.Slots.{PutKey, SlotIn, node_slot, slot_at};

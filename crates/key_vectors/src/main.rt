@@ -4,6 +4,8 @@
 //! out`. Numbers are decimal, bytes hexadecimal, `-` where there are none. The output buffer has `room` bytes, none of them 0 before the call. Code,
 //! length, place and every byte of the buffer are compared: past the length, and all of it on a refusal, the bytes must be as they were. A line of
 //! another form counts as one that differs.
+#![tactic(auto)]
+
 ghost use Rattle.std.specs.Prelude.{◌≡◌, length};
 
 use answers::Answer;
@@ -19,7 +21,7 @@ const CODES: usize = 19;
 const INPUT: usize = 524288;
 
 // The room of a vector, and the answer that it has.
-#[derive(Drop)]
+#[derive(Clone, Copy)]
 struct Numbers {
     room: usize,
     code: usize,
@@ -27,20 +29,20 @@ struct Numbers {
     place: usize,
 }
 
-#[derive(Drop)]
+#[derive(Clone, Copy)]
 enum Case {
     Of(Numbers),
     Not,
 }
 
-#[derive(Drop)]
+#[derive(Clone, Copy)]
 enum Called {
     Got(Answer),
     Not,
 }
 
 // What came of a vector: the code that it has and was given; the answer that it was given instead; or the line is none.
-#[derive(Drop)]
+#[derive(Clone, Copy)]
 enum Verdict {
     Same(usize),
     Differs(Answer),

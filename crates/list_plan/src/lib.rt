@@ -2,6 +2,8 @@
 //!
 //! `list_plan` makes the arrays that a plan is read into, by the file's version; `list_plan_in` is lent them, and says nothing of what they held or
 //! hold. The contracts determine every byte.
+#![tactic(auto)]
+
 ghost use Rattle.answers.specs.Answers.{AnswerIs};
 ghost use Rattle.plan_text.specs.Answers.{list_answer};
 ghost use Rattle.acceptance.specs.Readings.{Narrow, NoneBelow, Room};

@@ -2,6 +2,8 @@
 //!
 //! `run` makes all that the program prints, `list` the listing of a plan file as it stands; `list_in` is lent the arrays that `list` makes. The
 //! contracts determine every byte.
+#![tactic(auto)]
+
 ghost use Rattle.std.specs.Prelude.{◌++◌, ◌≡◌, ◌+◌, ◌*◌, ◌-◌, ◌<◌, ◌≤◌, drop, get_or, length, take};
 ghost use Rattle.writer_parts.specs.Wrote.{Wrote};
 ghost use Rattle.plan_text.specs.Decimal.{decimal};

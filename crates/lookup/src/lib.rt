@@ -2,6 +2,8 @@
 //!
 //! Field j is two numbers of `fields`, its qualifier and its name, at 2 * j. A row of fields is named by the number of its first. Node k's row
 //! stands in `widths`: at k how many fields it has, at 256 + k the number of the first.
+#![tactic(auto)]
+
 ghost use Rattle.std.specs.Prelude.{Bool, false, ◌++◌, map, ◌≡◌, ℕ, ◌+◌, ◌*◌, ◌<◌, ◌≤◌, length};
 ghost use Rattle.arena.specs.Cells.{expr_at, Wf};
 ghost use Rattle.cpl.specs.Accept.{clash, conflict};
@@ -17,7 +19,7 @@ ghost use Rattle.tree.specs.Rows.{list_at, one};
 use arena::View;
 
 /// A field: a qualifier, 0 for none, and a name.
-#[derive(Drop)]
+#[derive(Clone, Copy)]
 pub struct Field {
     pub qualifier: u16,
     pub name: u16,
@@ -25,7 +27,7 @@ pub struct Field {
 
 /// Two sides: `lwidth` fields from field `left` on, `rwidth` from field `right` on. What has one input or none has width 0 there. And are the
 /// fields of each side by themselves known not to clash?
-#[derive(Drop)]
+#[derive(Clone, Copy)]
 pub struct Sides {
     pub left: usize,
     pub lwidth: usize,
@@ -35,14 +37,14 @@ pub struct Sides {
 }
 
 /// The first field that fits a reference: its place, or there is none.
-#[derive(Drop)]
+#[derive(Clone, Copy)]
 pub enum Fit {
     At(usize),
     Nothing,
 }
 
 /// What a reference finds among fields: the place of the one that fits, or none fits, or more than one does.
-#[derive(Drop)]
+#[derive(Clone, Copy)]
 pub enum Lookup {
     Found(usize),
     Absent,
@@ -50,7 +52,7 @@ pub enum Lookup {
 }
 
 /// What the references of expressions find: each one field, or some none, or else some more than one.
-#[derive(Drop)]
+#[derive(Clone, Copy)]
 pub enum Resolved {
     Fine,
     Unknown,

@@ -2,6 +2,8 @@
 //!
 //! A list of items stands in rows and cells as in crate `arena`. A step reads the upper and the lower list and writes the merged list to
 //! the front of two lent arrays.
+#![tactic(auto)]
+
 ghost use Rattle.std.specs.Prelude.{Bool, ◌≡◌, ◌*◌, ◌<◌, ◌≤◌, length};
 ghost use Rattle.cpl.specs.Exprs.{item_tags};
 ghost use Rattle.cpl.specs.Limits.{max_tags};
@@ -13,7 +15,7 @@ ghost use Rattle.merge.specs.Step.{pushes_tag, Reads, Room, Stepped};
 use arena_build::Listed;
 
 /// What a step does: the lists are equal, so the lower one is dropped; it stops; the merged list was written; that list is over 4,096 tags.
-#[derive(Drop)]
+#[derive(Clone, Copy)]
 pub enum Step {
     Same,
     Stop,

@@ -2,6 +2,8 @@
 //!
 //! A key is a set of places, empty for none. The keys of all nodes are worked out once, from the last node to the first, and stand in the
 //! slots of `key_sets`. A node's own key is of the old plan.
+#![tactic(auto)]
+
 ghost use Rattle.std.specs.Prelude.{◌≡◌, false, List, [], map, ℕ, ◌+◌, ◌*◌, ◌<◌, ◌≤◌, length};
 ghost use Rattle.std.proofs.Math.Option.{some};
 ghost use Rattle.arena.specs.Cells.{expr_at, Wf};
@@ -22,7 +24,7 @@ use required_indices::RequiredIndices;
 use tree::{Node, ScanNode};
 
 /// The items of a list that are columns of a key: `seen` has these columns, `firsts` the first item of each, `all` every such item.
-#[derive(Drop)]
+#[derive(Clone, Copy)]
 struct Found {
     seen: RequiredIndices,
     firsts: RequiredIndices,
@@ -190,7 +192,7 @@ fn input_key(keys: &[u64], k: usize) -> RequiredIndices
 }
 
 /// Where a node's key comes from: a scan's from its table, a Projection's from its input by its items; others have their input's, or none.
-#[derive(Drop)]
+#[derive(Clone, Copy)]
 enum Origin {
     Table(ScanNode),
     Items { first: usize, n: usize },

@@ -4,6 +4,8 @@
 //! `walk_steps`): a step of merging reads it in the file's rows or in the first scratch arrays and writes the merged list into the second, and the two
 //! change places on the call. The old plan is read only, with the keys of its nodes in the slots of `keys`; the rewritten plan grows behind what is in
 //! use of the result's arrays.
+#![tactic(auto)]
+
 ghost use Rattle.std.specs.Prelude.{◌≡◌};
 ghost use Rattle.result.specs.Records.{results};
 ghost use Rattle.optimize_projections.specs.Walk.{After, Before, BeforeInputs, BeforeList, InputAfter, InputsAfter, ListAfter, PutAfter, one_end, two_end};
@@ -14,7 +16,7 @@ use required_indices::RequiredIndices;
 use walk_steps::{End, Ends, Inputs, Pending, Used, Walked};
 
 /// The mode and the push mask.
-#[derive(Drop)]
+#[derive(Clone, Copy)]
 pub struct Settings {
     pub house: bool,
     pub mask: u16,

@@ -1,6 +1,8 @@
 //! The parts of a node: what do their references find, and what fields do they give?
 //!
 //! Table t has 513 numbers of `names` from 513 * t on: how many columns it has, then their names. A row of fields is named by its first field.
+#![tactic(auto)]
+
 ghost use Rattle.std.specs.Prelude.{map, ◌≡◌, ℕ, ◌+◌, ◌*◌, ◌<◌, ◌≤◌, length, get_or};
 ghost use Rattle.arena.specs.Cells.{expr_at, Wf};
 ghost use Rattle.arena.specs.Rows.{pair_at};

@@ -2,6 +2,8 @@
 //!
 //! `join_keys` and `without_keys` make the arrays that they work in; `join_keys_in` and `without_keys_in` are lent them, and say nothing of what they
 //! held or hold.
+#![tactic(auto)]
+
 ghost use Rattle.std.specs.Prelude.{◌≡◌};
 ghost use Rattle.answers.specs.Answers.{AnswerIs};
 ghost use Rattle.arena.specs.Cells.{expr_at};

@@ -1,4 +1,6 @@
 //! predicate_reader: the arguments of the entries over predicates, each read to its last byte: the nodes into the cells, the keys into the pairs.
+#![tactic(auto)]
+
 ghost use Rattle.std.specs.Prelude.{◌≡◌, ◌+◌, ◌*◌, ◌≤◌, length};
 ghost use Rattle.arena.specs.Cells.{Wf};
 ghost use Rattle.predicate_reader.specs.Arguments.{all_of, KeysAre, PredicateIs};

@@ -1,4 +1,6 @@
 //! predicate_writer: the answers of the entries over predicates. Keys, or what is left of a predicate, counted and written.
+#![tactic(auto)]
+
 ghost use Rattle.std.specs.Prelude.{◌≡◌, ◌≤◌, length};
 ghost use Rattle.cpl.specs.Exprs.{on_tags};
 ghost use Rattle.cpl.specs.Tests.{sum_of};

@@ -3,6 +3,8 @@
 //!
 //! A list of items stands in rows and cells as in crate `arena`, the fields of nodes as in crate `lookup`, the rewritten plan as in crate
 //! `result`. A projection whose kept items are all bare columns is a record of columns, so only other lists are copied.
+#![tactic(auto)]
+
 ghost use Rattle.std.specs.Prelude.{◌+◌, ◌*◌, ◌^◌, ◌≤◌, ◌<◌, ◌≡◌, length};
 ghost use Rattle.cpl.specs.Limits.{max_nodes};
 ghost use Rattle.required_indices.specs.Request.{set_of};
@@ -73,7 +75,7 @@ pub fn is_projection_unnecessary(
 }
 
 /// What copying kept items answers: how many there are and the nodes now in use, or that there is no room for their expressions.
-#[derive(Drop)]
+#[derive(Clone, Copy)]
 pub enum Copied {
     Done { rows: usize, used: usize },
     Full,
@@ -118,7 +120,7 @@ pub fn copy_kept(
 }
 
 /// The record of a plan with a projection on top, where it needs one, and the records now in use; or that there is no room for one.
-#[derive(Drop)]
+#[derive(Clone, Copy)]
 pub enum Topped {
     Done { record: usize, used: usize },
     Full,
@@ -166,7 +168,7 @@ pub fn add_projection_on_top_if_helpful(
 }
 
 /// The kept items of a projection: all bare columns, so those of node `top`'s fields; or copied into rows of the result.
-#[derive(Drop)]
+#[derive(Clone, Copy)]
 pub enum Selection {
     Columns,
     Items { row: usize, count: usize },

@@ -1,5 +1,6 @@
 //! prune: the program of document 01. Standard input has a mode byte, a mask of two bytes and a plan file; the plan is narrowed for all of its
 //! fields, and what comes out is listed node by node, or its refusal. Every byte that is written is said by `listing::run`.
+#![tactic(auto)]
 
 // The settings, and the plan bytes that are read.
 const INPUT: usize = 65539;

@@ -1,5 +1,7 @@
 //! prune_runs: stored runs of the program `prune`. Standard input has what a run is given, a line each, in hexadecimal (`-` for nothing); what the
 //! program prints of each is written, one after the other.
+#![tactic(auto)]
+
 use vector_text::Parsed;
 
 // What a run is given at the most: the settings, and the plan bytes that are read.

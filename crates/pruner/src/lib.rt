@@ -2,6 +2,8 @@
 //!
 //! `prune` and `prune_all` make the arrays that a plan is read into and rewritten in, as long as the file's version needs them; `prune_in` is lent them,
 //! and says nothing of what they held or hold.
+#![tactic(auto)]
+
 ghost use Rattle.cpl.specs.Tests.{iota};
 ghost use Rattle.rules.specs.Answer as rules;
 ghost use Rattle.answers.specs.Answers.{AnswerIs};

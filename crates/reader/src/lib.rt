@@ -1,4 +1,6 @@
 //! Reading a plan file into lent arrays: its mark, its nodes and its end. The tables' names and keys are read by crate catalogue.
+#![tactic(auto)]
+
 ghost use Rattle.std.specs.Prelude.{◌≡◌, [], ◌∷◌, ℕ, ◌+◌, ◌*◌, ◌≤◌, length};
 ghost use Rattle.std.proofs.lemmas.List.Edits.{sets};
 ghost use Rattle.cpl.specs.Limits as cpl;
@@ -17,21 +19,21 @@ use reader_heads::{Head, Node};
 use versions::Version;
 
 // Where the reader stands after a plan, and how many nodes it has read; or a refusal.
-#[derive(Drop)]
+#[derive(Clone, Copy)]
 pub enum Planned {
     Done(Spot, usize),
     Bad(u8, usize),
 }
 
 // The version of a file's mark, if it has one.
-#[derive(Drop)]
+#[derive(Clone, Copy)]
 pub enum Marked {
     As(Version),
     Nothing,
 }
 
 // What a file was read as: its version, the number of tables, the offset of the plan, how many nodes, expression tags and nodes of expressions it has; or a refusal.
-#[derive(Drop)]
+#[derive(Clone, Copy)]
 pub enum Read {
     Done {
         version: Version,

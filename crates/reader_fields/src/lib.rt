@@ -1,4 +1,6 @@
 // Fields of a plan file, and its expressions, which go into a lent array of nodes.
+#![tactic(auto)]
+
 ghost use Rattle.std.specs.Prelude.{◌≡◌, [], ◌∷◌, Bool, ℕ, ◌+◌, ◌*◌, ◌^◌, ◌≤◌, ◌<◌, length, get_or};
 ghost use Rattle.std.proofs.lemmas.List.Edits.{sets};
 ghost use Rattle.cpl.specs.Read.{little, field, nonzero, index, below, count, tag};
@@ -6,21 +8,21 @@ ghost use Rattle.cpl.specs.ReadExpr.{read_pair, read_column, read_literal, leaf_
 ghost use Rattle.reader_fields.specs.Answers.{Fields, From, Tags, Pairs, spot, RightCells, Reads};
 
 // A number: its value and the offset after it, or the code and the place of a refusal.
-#[derive(Drop)]
+#[derive(Clone, Copy)]
 pub enum Field {
     Got(u64, usize),
     Bad(u8, usize),
 }
 
 // A pair: qualifier, name and the offset after them.
-#[derive(Drop)]
+#[derive(Clone, Copy)]
 pub enum PairField {
     Got(u64, u64, usize),
     Bad(u8, usize),
 }
 
 // Where a reader stands: the offset, the expression tags read, the nodes of expressions and the rows made so far.
-#[derive(Drop)]
+#[derive(Clone, Copy)]
 pub struct Spot {
     pub at: usize,
     pub tags: usize,
@@ -29,7 +31,7 @@ pub struct Spot {
 }
 
 // Where the reader stands after a part, or a refusal.
-#[derive(Drop)]
+#[derive(Clone, Copy)]
 pub enum Parsed {
     Done(Spot),
     Bad(u8, usize),

@@ -1,4 +1,6 @@
 // The nodes of a plan without their inputs.
+#![tactic(auto)]
+
 ghost use Rattle.std.specs.Prelude.{◌≡◌, List, [], ℕ, ◌+◌, ◌*◌, ◌-◌, ◌≤◌, ◌<◌, length};
 ghost use Rattle.cpl.specs.Plan.{Catalogue};
 ghost use Rattle.cpl.specs.ReadPlan.{read_head, read_cond};
@@ -11,7 +13,7 @@ use reader_parts::Kind;
 use versions::Version;
 
 // The last four numbers of a node: how many rows, and three that depend on the kind.
-#[derive(Drop)]
+#[derive(Clone, Copy)]
 pub struct Node {
     pub n: u64,
     pub x: u64,
@@ -20,7 +22,7 @@ pub struct Node {
 }
 
 // A node with no input, one or two, and where the reader stands after its own fields; or a refusal. A node with no input has its number of filters.
-#[derive(Drop)]
+#[derive(Clone, Copy)]
 pub enum Head {
     Leaf(Spot, Node, usize),
     One(Spot, Node),

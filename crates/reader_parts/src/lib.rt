@@ -1,4 +1,6 @@
 // The parts of a plan's nodes, one after the other: their expressions go into cells, and a row for each into rows.
+#![tactic(auto)]
+
 ghost use Rattle.std.specs.Prelude.{◌≡◌, Bool, List, [], ◌∷◌, ℕ, ◌+◌, ◌*◌, ◌-◌, ◌≤◌, ◌<◌, length};
 ghost use Rattle.std.proofs.lemmas.List.Edits.{sets};
 ghost use Rattle.cpl.specs.Plan.{pair};
@@ -11,7 +13,7 @@ ghost use Rattle.reader_parts.specs.Parts.{RightAt, bytes_of, store_of, reader_o
 use reader_fields::{Field, PairField, Parsed, Spot};
 
 // What a list holds. A column index has so many bytes, and is below the number given.
-#[derive(Drop)]
+#[derive(Clone, Copy)]
 pub enum Kind {
     Item,
     Key,

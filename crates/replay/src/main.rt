@@ -5,6 +5,8 @@
 //! fields, `-` for no indices, else a list with commas; file and out are hexadecimal, `-` where empty. The output buffer has `room` bytes, none
 //! of them 0 before the call. Code, length, place and every byte of the buffer are compared: past the length, and all of it on a refusal, the
 //! bytes must be as they were. A line of another form counts as one that differs.
+#![tactic(auto)]
+
 ghost use Rattle.std.specs.Prelude.{◌≡◌, length};
 
 use acceptance::Checked;
@@ -21,7 +23,7 @@ const CODES: usize = 18;
 const INPUT: usize = 524288;
 
 // The numbers of a vector: the settings and the room, then the answer that it has.
-#[derive(Drop)]
+#[derive(Clone, Copy)]
 struct Numbers {
     mode: u8,
     mask: u16,
@@ -31,20 +33,20 @@ struct Numbers {
     place: usize,
 }
 
-#[derive(Drop)]
+#[derive(Clone, Copy)]
 enum Case {
     Of(Numbers),
     Not,
 }
 
-#[derive(Drop)]
+#[derive(Clone, Copy)]
 enum Called {
     Got(Answer),
     Not,
 }
 
 // What came of a vector: the code that it has and was given; the answer that it was given instead, of `prune` or of `check`; or the line is none.
-#[derive(Drop)]
+#[derive(Clone, Copy)]
 enum Verdict {
     Same(usize),
     Differs(Answer),

@@ -1,4 +1,6 @@
 //! The request of a call: code 11 of document 01, or the set of its indices.
+#![tactic(auto)]
+
 ghost use Rattle.std.specs.Prelude.{false, true, ◌≡◌, ◌≤◌};
 ghost use Rattle.cpl.specs.Tests.{iota};
 ghost use Rattle.request.specs.Requests.{RequestIs};
@@ -8,7 +10,7 @@ ghost use Rattle.rules.specs.Request.{mask_of, request_fault};
 use required_indices::RequiredIndices;
 
 /// A request that was looked at: is it refused, and at which position; or the set of its indices.
-#[derive(Drop)]
+#[derive(Clone, Copy)]
 pub struct Requested {
     pub refused: bool,
     pub place: usize,

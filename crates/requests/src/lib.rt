@@ -3,6 +3,8 @@
 //!
 //! Each function adds to a request the columns of some expressions: what each reference finds among the fields of an input, `width` fields from
 //! field `start` on. `Adds` says what mask the request then asks for. Columns are added in place, to lent words.
+#![tactic(auto)]
+
 ghost use Rattle.std.specs.Prelude.{false, ◌≡◌, List, [], ◌∷◌, map, ◌+◌, ◌*◌, ◌<◌, ◌≤◌, length};
 ghost use Rattle.cpl.specs.Exprs.{call_exprs, agg_exprs, win_exprs};
 ghost use Rattle.cpl.specs.Plan.{item_expr};

@@ -5,7 +5,7 @@ use mathlib.Core.List.{List, [], ◌∷◌, ◌++◌}
 use Prim.Native.Nat.{ℕ, ◌+◌, ◌*◌, ◌≤◌, ◌<◌}
 use native.Mathlib.Numerals.{add-one}
 use native.Mathlib.Omega.{arith}
-use lib.Count.{ones, ones_le}
+use lib.Count.{ones, ones-le}
 use lib.Dec.{eqb}
 use lib.ListN.{length, get_or, take, drop, set, length-set}
 use lib.Seq.{take_all, take-suc, take-suc-set, take-length, drop-cons}
@@ -57,7 +57,7 @@ ones_turn ws k l = ap ones_w (drop-cons ws k 0 l) ∙ ap (λ (x : ℕ). ones (ge
 pub ones-most : {ws : List ℕ} → All Word ws → ones_w ws ≤ 64 * length ws
 unfolding ones_w
 ones-most a[] = omega arith
-ones-most (◌a∷◌ {x = w} {xs = ws} h hs) = let ih = ones-most hs in omega (arith, ones_le 64 w h, ih)
+ones-most (◌a∷◌ {x = w} {xs = ws} h hs) = let ih = ones-most hs in omega (arith, ones-le 64 w h, ih)
 
 -- ---- a loop that compares, k of them equal
 

@@ -8,6 +8,8 @@
 //!
 //! A function that only reads a set, or changes it in place, is lent its words and given how many are in
 //! use, so that the set is not copied: `RequiredIndices::contains(&r.indices, r.used, i)`.
+#![tactic(auto)]
+
 ghost use Rattle.std.specs.Prelude.{◌≡◌, true, false, ◌++◌, ◌+◌, ◌-◌, ◌*◌, ◌/◌, ◌%◌, ◌^◌, ◌≤◌, ◌<◌, min, eqb, get_or, length, replicate, take};
 ghost use Rattle.std.specs.Int.Bits.{bit_or};
 ghost use Rattle.std.specs.Int.Count.{ones};
@@ -25,7 +27,7 @@ const INDICES: usize = WORDS * 64;
 /// The Rust's `RequiredIndices`: indices in order and without duplicates, and whether putting a
 /// projection above the children is beneficial for the parent: 1 where it is, a word as the others are, so
 /// that a set is copied in one piece. `used` is the number of words that count.
-#[derive(Drop)]
+#[derive(Clone, Copy)]
 pub struct RequiredIndices {
     pub indices: [u64; WORDS],
     pub used: usize,
@@ -33,14 +35,14 @@ pub struct RequiredIndices {
 }
 
 /// The next index of a set, if there is one.
-#[derive(Drop)]
+#[derive(Clone, Copy)]
 pub enum Next {
     At(usize),
     Nothing,
 }
 
 /// A set split at n: the indices below n, and the others less n.
-#[derive(Drop)]
+#[derive(Clone, Copy)]
 pub struct Split {
     pub below: RequiredIndices,
     pub rest: RequiredIndices,

@@ -2,6 +2,8 @@
 //!
 //! A record of `records` is four numbers (form, old node, first input, second input) and a set, as `RequiredIndices` stores it. Its inputs are records before
 //! it. What a record stands for is `result_at` of specs/Result.antt.
+#![tactic(auto)]
+
 ghost use Rattle.std.specs.Prelude.{◌≡◌, false, ◌+◌, ◌*◌, ◌≤◌, ◌<◌, length};
 ghost use Rattle.cpl.specs.Limits.{max_nodes};
 ghost use Rattle.required_indices.specs.Request.{Holds, Lent, set_in};
@@ -18,7 +20,7 @@ const RECORDS: usize = 256;
 
 /// What a record stands for: an old node with the part of its list that the record's set has, over the records of its inputs; the columns
 /// of an old node's fields at the set; items of the result's own rows; the one-row Empty with no fields.
-#[derive(Drop)]
+#[derive(Clone, Copy)]
 pub enum Record {
     Kept {
         old: usize,
@@ -38,7 +40,7 @@ pub enum Record {
 }
 
 /// Where a record was put, or that there is no room for it.
-#[derive(Drop)]
+#[derive(Clone, Copy)]
 pub enum Pushed {
     At(usize),
     Full,

@@ -1,4 +1,6 @@
 //! sets_show: runs the request sets at the edges of their words and writes what they answer.
+#![tactic(auto)]
+
 ghost use Rattle.std.specs.Prelude.{◌≤◌};
 
 use required_indices::{Next, RequiredIndices};

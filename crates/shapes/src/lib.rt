@@ -1,4 +1,6 @@
 //! shapes: what is written of a node. A node's head is a number and two segments; those are counted, and written over the start of a buffer.
+#![tactic(auto)]
+
 ghost use Rattle.std.specs.Prelude.{true, ◌≡◌, ◌+◌, ◌*◌, ◌^◌, ◌<◌, ◌≤◌, length};
 ghost use Rattle.cpl.specs.Codes.{join_number};
 ghost use Rattle.required_indices.specs.Request.{Lent, set_in, set_of};
@@ -12,7 +14,7 @@ use writer_parts::{Part, Size};
 
 /// A part of a node's head that is no number of a known width: a list behind its count of `count` bytes, all of it or at the set; windows at
 /// the set; an expression; a condition that is there, or not; a number of four bytes; a list at that part of the set that begins at `from`.
-#[derive(Drop)]
+#[derive(Clone, Copy)]
 pub enum Segment {
     Nothing,
     List {
@@ -41,7 +43,7 @@ pub enum Segment {
 }
 
 /// A node's head: the k lowest bytes of x, and two segments.
-#[derive(Drop)]
+#[derive(Clone, Copy)]
 pub struct Shape {
     pub k: usize,
     pub x: u64,

@@ -1,5 +1,7 @@
 //! simmerroof: the functions that C and Rust programs link, and nothing else: those of pruner, acceptance, list_plan and predicate_keys, with the answer as
 //! numbers in a lent array.
+#![tactic(auto)]
+
 ghost use Rattle.std.specs.Prelude.{◌≡◌, [], ◌∷◌};
 ghost use Rattle.cpl.specs.Tests.{iota};
 ghost use Rattle.rules.specs.Answer as rules;

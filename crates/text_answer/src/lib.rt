@@ -1,4 +1,6 @@
 //! The plan that stands in the lent arrays as a listing, counted and then written into a lent buffer.
+#![tactic(auto)]
+
 ghost use Rattle.std.specs.Prelude.{◌<◌, ◌^◌, length};
 ghost use Rattle.rules.specs.Answer.{written};
 ghost use Rattle.answers.specs.Answers.{AnswerIs};

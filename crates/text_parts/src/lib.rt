@@ -1,5 +1,7 @@
 //! The parts of a plan's nodes as text: expressions, items, keys, functions, aggregates, windows, pairs of a join, and lists of them. Each function
 //! puts its text into the lent buffer from `at` on and answers the place after it, as those of `text_put` do.
+#![tactic(auto)]
+
 ghost use Rattle.std.specs.Prelude.{◌≡◌, ◌+◌, ◌<◌, ◌≤◌};
 ghost use Rattle.cpl.specs.Codes.{fn_of, op1_of, op2_of};
 ghost use Rattle.plan_text.specs.Words.{w_open, w_space};
@@ -14,7 +16,7 @@ use arena::View;
 use text_put::{put_pair, put_text};
 
 /// What a row holds.
-#[derive(Drop)]
+#[derive(Clone, Copy)]
 pub enum Part {
     Item,
     Key,

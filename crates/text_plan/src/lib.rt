@@ -1,4 +1,6 @@
 //! The nodes of a plan as text, a line each, and a whole plan: node by node into the lent buffer from `at` on, as the functions of `text_put` do.
+#![tactic(auto)]
+
 ghost use Rattle.std.specs.Prelude.{true, ◌≡◌, ◌+◌, ◌<◌, ◌≤◌};
 ghost use Rattle.cpl.specs.Plan.{aggregate, empty, filter, limit, subquery_alias, window};
 ghost use Rattle.cpl.specs.ReadPlan.{fetch_of};
@@ -19,7 +21,7 @@ use text_put::{put_number, put_text};
 use tree::{JoinNode, JoinType, Node, ScanNode};
 
 /// The inputs of a node: none, the next node, or that and the node with this number.
-#[derive(Drop)]
+#[derive(Clone, Copy)]
 pub enum Inputs {
     Nothing,
     One,

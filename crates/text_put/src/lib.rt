@@ -1,4 +1,6 @@
 //! Text put into a lent buffer from a place on. Every function stores what lies in the buffer and counts all of it: lent an empty buffer, it counts.
+#![tactic(auto)]
+
 ghost use Rattle.std.specs.Prelude.{[], ◌∷◌, ◌≡◌};
 ghost use Rattle.cpl.specs.Codes.{signed};
 ghost use Rattle.cpl.specs.Plan.{pair};

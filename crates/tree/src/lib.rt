@@ -2,6 +2,8 @@
 //!
 //! A node of `nodes` is seven numbers (kind, second input or number of filters, first row, number of rows, three more), in prefix order: the
 //! first input of node k is node k + 1. A row of `rows` is four numbers. An expression is named by the number of its root in the cells of the crate `arena`.
+#![tactic(auto)]
+
 ghost use Rattle.std.specs.Prelude.{◌≡◌, ◌+◌, ◌*◌, ◌<◌, length};
 ghost use Rattle.cpl.specs.Plan.{pair};
 ghost use Rattle.arena.specs.Rows.{pair_at};
@@ -10,7 +12,7 @@ ghost use Rattle.tree.specs.Node.{Fits, NodeFits, join_node, node_of, scan_node,
 ghost use Rattle.tree.specs.Shows.{AggIs, KeyIs, OnIs, TakenApart, WinIs};
 
 /// A join's type, in the order of document 01's numbers.
-#[derive(Drop)]
+#[derive(Clone, Copy)]
 pub enum JoinType {
     Inner,
     Left,
@@ -23,7 +25,7 @@ pub enum JoinType {
 }
 
 /// A join: its type, its pairs' rows, the root of its condition if it has one, the number of its second input.
-#[derive(Drop)]
+#[derive(Clone, Copy)]
 pub struct JoinNode {
     pub join_type: JoinType,
     pub first: usize,
@@ -34,7 +36,7 @@ pub struct JoinNode {
 }
 
 /// A scan: its table, its qualifier, the rows of its column indices if they are given, and how many filters have their rows behind those.
-#[derive(Drop)]
+#[derive(Clone, Copy)]
 pub struct ScanNode {
     pub table: usize,
     pub qualifier: u16,
@@ -46,7 +48,7 @@ pub struct ScanNode {
 
 /// A node without its inputs. `first` is its first row, `n` the number of things that its rows hold; an aggregate's rows are those of its
 /// groups, then those of its aggregates. A fetch of 2^32 - 1 is none.
-#[derive(Drop)]
+#[derive(Clone, Copy)]
 pub enum Node {
     Projection {
         first: usize,
@@ -89,7 +91,7 @@ pub enum Node {
 }
 
 /// The seven numbers of a node.
-#[derive(Drop)]
+#[derive(Clone, Copy)]
 struct Words {
     kind: u64,
     right: u64,
@@ -212,7 +214,7 @@ pub fn node_at(nodes: &[u64], k: usize) -> Node
 }
 
 /// A key: its flags, its root.
-#[derive(Drop)]
+#[derive(Clone, Copy)]
 pub struct KeyRow {
     pub flags: u16,
     pub root: usize,
@@ -231,7 +233,7 @@ pub fn key_at(rows: &[u16], i: usize) -> KeyRow
 }
 
 /// An aggregate: its pair, its function, its root (where the function is not 0).
-#[derive(Drop)]
+#[derive(Clone, Copy)]
 pub struct AggRow {
     pub qualifier: u16,
     pub name: u16,
@@ -255,7 +257,7 @@ pub fn agg_at(rows: &[u16], i: usize) -> AggRow
 
 /// A window: its pair, its function, its root (where the function is not 0); `parts` parts from the row after its first on, `keys` keys
 /// from row `key` on; the row after its last.
-#[derive(Drop)]
+#[derive(Clone, Copy)]
 pub struct WinRow {
     pub qualifier: u16,
     pub name: u16,
@@ -291,7 +293,7 @@ pub fn win_at(rows: &[u16], i: usize) -> WinRow
 }
 
 /// A pair of a join: the roots of its two sides.
-#[derive(Drop)]
+#[derive(Clone, Copy)]
 pub struct OnRow {
     pub left: usize,
     pub right: usize,
@@ -326,7 +328,7 @@ pub fn column_at(rows: &[u16], i: usize) -> usize
 }
 
 /// A pair.
-#[derive(Drop)]
+#[derive(Clone, Copy)]
 pub struct PairRow {
     pub qualifier: u16,
     pub name: u16,

@@ -1,32 +1,34 @@
 //! vector_text: the fields of a stored vector. A vector is a line of text with one space between its fields: decimal numbers, lists of
 //! them, bytes in hexadecimal. For programs that replay vectors. What is not of the form that is asked for is `Not`: nothing is guessed.
+#![tactic(auto)]
+
 ghost use Rattle.std.specs.Prelude.{true, ◌≡◌, ◌+◌, ◌-◌, ◌≤◌, drop, length, take};
 ghost use Rattle.vector_text.specs.Answers.{byte, index, parsed, Stored};
 ghost use Rattle.vector_text.specs.Text.{before, byte_of, bytes_of, digit_of, field_of, list_of, number_of, short_of};
 
 /// A number, or how many things were stored; or the text is not of the form that was asked for, or there is no room for all.
-#[derive(Drop)]
+#[derive(Clone, Copy)]
 pub enum Parsed {
     Number(usize),
     Not,
 }
 
 // The bytes of a text from an offset up to another.
-#[derive(Drop)]
+#[derive(Clone, Copy)]
 struct Span {
     from: usize,
     to: usize,
 }
 
 // A number below 65,536, or none.
-#[derive(Drop)]
+#[derive(Clone, Copy)]
 enum Index {
     Is(u16),
     Not,
 }
 
 // A byte, or none.
-#[derive(Drop)]
+#[derive(Clone, Copy)]
 enum Byte {
     Is(u8),
     Not,

@@ -2,6 +2,8 @@
 //!
 //! `fields` and `widths` are lent: node k has as many fields as `widths` has at k, from the field on whose number `widths` has at 256 + k. A node
 //! whose fields are an input's has that input's; other nodes' fields are put behind those in use.
+#![tactic(auto)]
+
 ghost use Rattle.std.specs.Prelude.{List, ◌++◌, map, ◌≡◌, ℕ, ◌+◌, ◌*◌, ◌^◌, ◌<◌, ◌≤◌, length};
 ghost use Rattle.verdicts.specs.Heads.{fields_head, passes_head};
 ghost use Rattle.verdicts.specs.Nodes.{even_of, joins, Looked, Looking, Named, NodeInside, parts, Rowed, ScanInside, SidesReady};
@@ -35,7 +37,7 @@ const FIELDS: u8 = 10;
 const AMBIGUOUS: u8 = 17;
 
 /// No fault, with the number of the next free field; or a code with its node.
-#[derive(Drop)]
+#[derive(Clone, Copy)]
 pub enum Verdict {
     Fine(usize),
     Bad(u8, usize),
@@ -43,7 +45,7 @@ pub enum Verdict {
 
 /// A node's row: the number of its first field, how many fields it has, how many of its first are known not to clash, and the number of the next
 /// free field.
-#[derive(Drop)]
+#[derive(Clone, Copy)]
 pub struct Row {
     pub first: usize,
     pub width: usize,

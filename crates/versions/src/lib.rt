@@ -1,13 +1,15 @@
 //! versions: what the version of a plan file decides, as numbers for code to go by.
 //!
 //! Every reader and writer is given a `Version` and is one function for both: no function asks which of the two it is.
+#![tactic(auto)]
+
 ghost use Rattle.std.specs.Prelude.{◌≡◌};
 ghost use Rattle.cpl.specs.Limits as cpl;
 ghost use Rattle.versions.specs.Versions.{version_of};
 
 /// The number behind the mark. The bytes of a count that `columns` or `items` limits, and of a column index. The most columns of a table, of a
 /// scan's list and of a key; the most items of a list; the most fields of a node. The bytes of the counts of keys and of filters, and the most of each.
-#[derive(Drop)]
+#[derive(Clone, Copy)]
 pub struct Version {
     pub number: u64,
     pub wide: usize,

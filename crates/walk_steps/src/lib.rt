@@ -2,6 +2,8 @@
 //! rewritten inputs, the list over its rewritten input. Parts of `optimize_projections/mod.rs`.
 //!
 //! The old plan, its fields and the rewritten plan stand in lent arrays as in crates `tree`, `lookup` and `result`.
+#![tactic(auto)]
+
 ghost use Rattle.std.specs.Prelude.{Bool, ◌≡◌, ◌*◌, ◌^◌, ◌<◌, ◌≤◌, length};
 ghost use Rattle.cpl.specs.Limits.{max_nodes};
 ghost use Rattle.required_indices.specs.Request.{set_of};
@@ -20,7 +22,7 @@ use required_indices::RequiredIndices;
 use result::{Pushed, Record};
 
 /// How many records, rows and cells of the result are in use.
-#[derive(Drop)]
+#[derive(Clone, Copy)]
 pub struct Used {
     pub records: usize,
     pub rows: usize,
@@ -29,7 +31,7 @@ pub struct Used {
 
 /// A projection that is still to be put on top: the n items from row `first` on of the file's rows, or of the scratch rows. Its pairs are the fields
 /// of node `top`.
-#[derive(Drop)]
+#[derive(Clone, Copy)]
 pub struct Pending {
     pub top: usize,
     pub first: usize,
@@ -38,21 +40,21 @@ pub struct Pending {
 }
 
 /// A rewritten plan: its record and what is now in use, or that the result is too large.
-#[derive(Drop)]
+#[derive(Clone, Copy)]
 pub enum End {
     Done { record: usize, used: Used },
     Large,
 }
 
 /// What rewriting a node answers, and which of the node's fields are left.
-#[derive(Drop)]
+#[derive(Clone, Copy)]
 pub struct Walked {
     pub end: End,
     pub kept: RequiredIndices,
 }
 
 /// The rewritten inputs of a node: their records, as far as it has them, and what is now in use; or that the result is too large.
-#[derive(Drop)]
+#[derive(Clone, Copy)]
 pub enum Ends {
     Done {
         first: usize,
@@ -63,14 +65,14 @@ pub enum Ends {
 }
 
 /// What rewriting the inputs of a node answers, and which of the first input's fields are left.
-#[derive(Drop)]
+#[derive(Clone, Copy)]
 pub struct Inputs {
     pub end: Ends,
     pub kept: RequiredIndices,
 }
 
 /// The kept items of a list: what they ask of the input, whether there was no room to copy them, how they are to be put, and what is now in use.
-#[derive(Drop)]
+#[derive(Clone, Copy)]
 pub struct Chosen {
     pub ask: RequiredIndices,
     pub large: bool,

@@ -1,4 +1,6 @@
 //! writer: the rewritten plan, counted and then written. A node's head is written first; each input is lent the rest of the buffer.
+#![tactic(auto)]
+
 ghost use Rattle.std.specs.Prelude.{◌++◌, ◌≡◌, ◌+◌, ◌*◌, ◌≤◌, length, take};
 ghost use Rattle.cpl.specs.Bytes.{plan_bytes};
 ghost use Rattle.cpl.specs.Exprs.{plan_tags};
@@ -15,14 +17,14 @@ use versions::Version;
 use writer_parts::{Part, Size};
 
 // The record of a node's second input, if it has one.
-#[derive(Drop)]
+#[derive(Clone, Copy)]
 enum Second {
     Nothing,
     At(usize),
 }
 
 // The records of a node's inputs, if it has any.
-#[derive(Drop)]
+#[derive(Clone, Copy)]
 enum Inputs {
     Leaf,
     Over { first: usize, second: Second },

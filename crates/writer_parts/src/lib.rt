@@ -1,5 +1,7 @@
 //! Writing the parts of a node: each writer fills the start of the buffer that it is lent, and lends the rest on. What is written is
 //! counted first, its bytes and its expression tags.
+#![tactic(auto)]
+
 ghost use Rattle.std.specs.Prelude.{cond, [], ◌∷◌, ◌≡◌, ◌+◌, ◌^◌, ◌<◌, ◌≤◌, length};
 ghost use Rattle.cpl.specs.Bytes.{agg_bytes, bytes, call_bytes, expr_bytes, item_bytes, key_bytes, on_bytes, pair_bytes, win_bytes};
 ghost use Rattle.cpl.specs.Exprs.{agg_tags, call_exprs, expr_tags, item_tags, key_tags, on_tags, win_tags};
@@ -17,14 +19,14 @@ use arena::View;
 use required_indices::{RequiredIndices, WORDS};
 
 /// How many bytes, and how many expression tags.
-#[derive(Drop)]
+#[derive(Clone, Copy)]
 pub struct Size {
     pub bytes: usize,
     pub tags: usize,
 }
 
 /// What a row holds: a row of four numbers, or a field, or only its own number. A column and a number are written in that many bytes.
-#[derive(Drop)]
+#[derive(Clone, Copy)]
 pub enum Part {
     Item,
     Key,

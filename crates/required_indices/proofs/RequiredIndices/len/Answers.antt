@@ -1,0 +1,52 @@
+-- `required_indices::RequiredIndices::len` meets its contract.
+use borrow.Author.Rules.{rules}
+use native.Mathlib.Omega.{arith}
+use Prim.Native.Nat.{◌+◌, ◌-◌}
+use mathlib.Core.Path.{◌≡◌, ap}
+use lib.Count.{ones}
+use lib.ListN.{length, drop, take, length-take, drop_of_length-le}
+use lib.Seq.{get_or-take}
+use Rattle.required_indices.specs.Request.{words_n}
+use Rattle.required_indices.proofs.Pads.{words_take}
+use Rattle.required_indices.proofs.Places.{words}
+use Rattle.required_indices.proofs.Words.{ones_w, number-ones}
+use Rattle.required_indices.proofs.Loops.{ones_turn, ones-most}
+use Rattle.required_indices.proofs.RequiredIndices.len.Goals as goal
+
+pub loop-k-init : goal.loop-k-init
+loop-k-init c = omega arith
+
+pub overflow_cast-n : goal.overflow_cast-n
+overflow_cast-n c =
+    let ws = c.args.indices.now in
+    let few = length-take c.args.used ws in
+    let long : length ws ≡ words_n = c.requires.0 in
+    let get = ap ones (get_or-take c.args.used ws c.loop-k.k 0 (omega arith)) in
+    omega (arith, ones_turn (take c.args.used ws) c.loop-k.k (omega arith), ones-most (words_take c.args.used (words ws c.requires.1)), get)
+
+pub overflow_add-n : goal.overflow_add-n
+overflow_add-n c =
+    let ws = c.args.indices.now in
+    let few = length-take c.args.used ws in
+    let long : length ws ≡ words_n = c.requires.0 in
+    let get = ap ones (get_or-take c.args.used ws c.loop-k.k 0 (omega arith)) in
+    omega (arith, ones_turn (take c.args.used ws) c.loop-k.k (omega arith), ones-most (words_take c.args.used (words ws c.requires.1)), get)
+
+pub loop-k-smaller : goal.loop-k-smaller
+loop-k-smaller c = omega arith
+
+pub loop-k-preserved : goal.loop-k-preserved
+loop-k-preserved c =
+    let ws = c.args.indices.now in
+    let few = length-take c.args.used ws in
+    let long : length ws ≡ words_n = c.requires.0 in
+    let get = ap ones (get_or-take c.args.used ws c.loop-k.k 0 (omega arith)) in
+    omega (arith, ones_turn (take c.args.used ws) c.loop-k.k (omega arith), ones-most (words_take c.args.used (words ws c.requires.1)), get)
+
+pub returns : goal.returns
+unfolding ones_w
+returns c =
+    let ws = c.args.indices.now in
+    let few = length-take c.args.used ws in
+    let long : length ws ≡ words_n = c.requires.0 in
+    omega (arith, number-ones (words_take c.args.used (words ws c.requires.1)), ap ones_w (drop_of_length-le (take c.args.used ws) {i = c.loop-k.k} (omega arith)))

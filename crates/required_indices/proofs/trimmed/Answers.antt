@@ -1,0 +1,18 @@
+-- `required_indices::trimmed` meets its contract.
+use borrow.Author.Rules.{rules}
+use native.Mathlib.Omega.{arith}
+use Prim.Native.Nat.{ℕ, ◌-◌}
+use mathlib.Core.Path.{◌≡◌, ap}
+use lib.ListN.{take}
+use Rattle.required_indices.specs.Words.{number}
+use Rattle.required_indices.proofs.Pads.{trim}
+use Rattle.required_indices.proofs.trimmed.Goals as goal
+
+pub returns-then-n-eq0 : goal.returns-then-n-eq0
+returns-then-n-eq0 c =
+    let e : 0 ≡ c.args.n = omega arith in
+    ap (λ (x : ℕ). number (take x c.args.words.now)) e
+
+pub returns-then-words-n-eq0 : goal.returns-then-words-n-eq0
+returns-then-words-n-eq0 c =
+    trim c.args.n (c.args.n - 1) c.args.words.now (omega arith) c.if-words-n-eq0.true

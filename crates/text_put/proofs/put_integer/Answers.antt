@@ -1,0 +1,16 @@
+-- `text_put::put_integer` meets its contract. Assumes nothing.
+use Rattle.text_put.proofs.Laws.{integer_neg, integer-pos}
+use borrow.Author.Rules.{rules}
+use native.Mathlib.Omega.{arith}
+use Rattle.text_put.proofs.put_integer.Goals as goal
+
+-- LOST slice-aggregate-put-text : tie.Need-slice-aggregate-put-text
+-- LOST slice-aggregate-put-text c = search rules
+
+pub returns-then-x-lt9223372036854775808 : goal.returns-then-x-lt9223372036854775808
+returns-then-x-lt9223372036854775808 c =
+    integer-pos c.args.x c.if-x-lt9223372036854775808.true c.put_number.ensures
+
+pub returns : goal.returns
+returns c =
+    integer_neg c.args.x (omega (arith, c.if-x-lt9223372036854775808.false)) c.put_text-a.ensures c.put_number-2.ensures

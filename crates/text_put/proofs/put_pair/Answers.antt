@@ -1,0 +1,22 @@
+-- `text_put::put_pair` meets its contract. Assumes nothing.
+use Rattle.text_put.proofs.Laws.{pair-bare, pair-qualified}
+use borrow.Author.Rules.{rules}
+use native.Mathlib.Omega.{arith}
+use Rattle.text_put.proofs.put_pair.Goals as goal
+
+-- LOST slice-aggregate-put-text : tie.Need-slice-aggregate-put-text
+-- LOST slice-aggregate-put-text c = search rules
+
+-- LOST slice-aggregate-put-text-2 : tie.Need-slice-aggregate-put-text-2
+-- LOST slice-aggregate-put-text-2 c = search rules
+
+-- LOST slice-aggregate-put-text-3 : tie.Need-slice-aggregate-put-text-3
+-- LOST slice-aggregate-put-text-3 c = search rules
+
+pub returns-then-q-eq0 : goal.returns-then-q-eq0
+returns-then-q-eq0 c =
+    pair-bare _ _ c.if-q-eq0.true c.put_text-a.ensures (rw c.wide.ensures at c.put_number.ensures)
+
+pub returns : goal.returns
+returns c =
+    pair-qualified _ _ (omega (arith, c.if-q-eq0.false)) c.put_text-a-2.ensures (rw c.wide-2.ensures at c.put_number-b.ensures) c.put_text-c.ensures (rw c.wide-3.ensures at c.put_number-2.ensures)

@@ -1,0 +1,16 @@
+-- `text_put::put_text` meets its contract: the letters from i on are left to be put. Assumes nothing.
+use Prim.Native.Nat.{◌-◌, ◌≤◌}
+use Rattle.plan_text.specs.Write.{word}
+use Rattle.text_put.proofs.Laws.{begin, word-done, word_turn}
+use Rattle.text_put.specs.Puts.{Leads}
+use borrow.Author.Rules.{rules}
+use lib.ListN.{drop, length}
+use mathlib.Core.Path.{◌∙◌, ◌≡◌, refl}
+use native.Mathlib.Omega.{arith}
+use Rattle.text_put.proofs.put_text.Given as goal
+
+abbrev pub invariant-loop-i : goal.invariant-loop-i
+invariant-loop-i l = (l.i ≤ length l.s) × (length l.out ≡ length l.initial.out) × Leads (word l.s) l.at l.initial.out (word (drop l.i l.s)) l.end l.out
+
+abbrev pub decreases-loop-i : goal.decreases-loop-i
+decreases-loop-i l = length l.s - l.i
