@@ -1,0 +1,7 @@
+-- `lookup::put_field` meets its contract. Assumes nothing.
+use Rattle.lookup.proofs.Rows.{put_here, put_kept}
+use borrow.Author.Rules.{rules}
+use Rattle.lookup.proofs.put_field.Goals as goal
+
+pub returns : goal.returns
+returns c = record { j_after = put_here c.args.fields.now c.args.j c.args.f.qualifier c.args.f.name c.requires; kept = put_kept c.args.fields.now c.args.j c.args.f.qualifier c.args.f.name }

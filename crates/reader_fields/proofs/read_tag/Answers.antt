@@ -1,0 +1,17 @@
+-- `read_tag` meets its contract. Assumes nothing.
+use borrow.Author.Rules.{rules}
+use native.Mathlib.Omega.{arith}
+use Rattle.reader_fields.proofs.Laws.{tag_cut, tag_many, tag-ok}
+use Rattle.reader_fields.proofs.read_tag.Goals as goal
+
+pub returns-then-file-at : goal.returns-then-file-at
+returns-then-file-at c =
+    tag_cut _ _ _ c.if-file-at.true
+
+pub returns-then-tags-ge4096 : goal.returns-then-tags-ge4096
+returns-then-tags-ge4096 c =
+    tag_many _ _ _ c.if-file-at.false (omega (arith, c.if-tags-ge4096.true))
+
+pub returns : goal.returns
+returns c =
+    (tag-ok _ _ _ c.if-file-at.false c.if-tags-ge4096.false c.byte-t.ensures.0, c.byte-t.ensures.1, c.if-tags-ge4096.false)
