@@ -1,0 +1,49 @@
+-- `requests::with_windows` meets its contract. The invariant: what is left to be added are the picked windows from row `at` on. Assumes nothing.
+use borrow.Author.Rules.{rules}
+use mathlib.Core.Logic.{⊎_elim}
+use mathlib.Core.Path.{◌≡◌, refl, sym, ap, subst, ◌∙◌}
+use Prim.Native.Nat.{ℕ, ◌+◌, ◌-◌, ◌<◌}
+use native.Mathlib.Omega.{arith}
+use Rattle.cpl.specs.Exprs.{win_exprs}
+use Rattle.cpl.specs.Tests.{concat_map}
+use Rattle.rules.specs.Mask.{select}
+use Rattle.required_indices.specs.Request.{request_mask, set_of}
+use Rattle.tree.specs.Rows.{AllAt, WinOk, win_at, win_size, wins_at}
+use Rattle.lookup.specs.Fields.{row_at}
+use Rattle.requests.proofs.Lists.{Picked, all_here, list-end, list-next, picked_all, picked_no, picked_none, picked_yes}
+use Rattle.requests.proofs.with_windows.Goals as goal
+
+pub loop-i-init : goal.loop-i-init
+loop-i-init c =
+    let e : c.args.count - 0 ≡ c.args.count = omega arith in
+    (picked_none (rw e), rw e c.requires.all_at)
+
+pub win_at-w-requires : goal.win_at-w-requires
+win_at-w-requires c =
+    (all_here _ _ _ _ _ c.loop-i-test.true c.loop-i.invariant.1).0.inside
+
+pub with_window-out-requires : goal.with_window-out-requires
+with_window-out-requires c = record { win_ok = (all_here _ _ _ _ _ c.loop-i-test.true c.loop-i.invariant.1).0; below = c.requires.below }
+
+pub overflow_add-i : goal.overflow_add-i
+overflow_add-i c =
+    omega (arith, c.loop-i-test.true)
+
+pub loop-i-smaller : goal.loop-i-smaller
+loop-i-smaller c =
+    omega (arith, c.loop-i-test.true)
+
+pub loop-i-preserved : goal.loop-i-preserved
+loop-i-preserved c =
+    let next = list-next _ _ _ _ _ c.loop-i-test.true in
+    rw c.win_at-w.ensures.next_is (
+      ⊎_elim
+          (λ w. rw w.2 (picked_yes c.loop-i.invariant.0 _ _ next c.loop-i-test.true (sym c.contains.ensures ∙ w.0.taken) w.1.ensures))
+          (λ w. rw w.1 (picked_no c.loop-i.invariant.0 _ _ next c.loop-i-test.true (sym c.contains.ensures ∙ w.0.left)))
+          c.if-contains.branch,
+      (all_here _ _ _ _ _ c.loop-i-test.true c.loop-i.invariant.1).1,
+    )
+
+pub returns : goal.returns
+returns c =
+    picked_all c.loop-i.invariant.0 (list-end _ _ _ _ _ c.loop-i-test.false)

@@ -1,0 +1,23 @@
+-- `text_plan::put_aggregate` meets its contract. Assumes nothing.
+use Rattle.text_parts.proofs.Parts.{each_all, rows_all}
+use Rattle.text_plan.proofs.Heads.{aggregate_put}
+use borrow.Author.Rules.{rules}
+use Rattle.text_plan.proofs.put_aggregate.Goals as goal
+
+-- LOST slice-aggregate-put-list : tie.Need-slice-aggregate-put-list
+-- LOST slice-aggregate-put-list c = search rules
+
+-- LOST slice-aggregate-put-list-2 : tie.Need-slice-aggregate-put-list-2
+-- LOST slice-aggregate-put-list-2 c = search rules
+
+pub put_list-a-requires : goal.put_list-a-requires
+put_list-a-requires c =
+    rows_all _ _ _ _ c.requires.0
+
+pub put_list-requires : goal.put_list-requires
+put_list-requires c =
+    each_all _ _ _ _ c.requires.1
+
+pub returns : goal.returns
+returns c =
+    aggregate_put _ _ _ _ _ c.put_list-a.ensures c.put_list.ensures

@@ -1,0 +1,23 @@
+-- `text_plan::put_empty` meets its contract. Assumes nothing.
+use Rattle.cpl.specs.Plan.{rows}
+use Rattle.text_parts.proofs.Parts.{each_all}
+use Rattle.text_plan.proofs.Heads.{empty_put}
+use borrow.Author.Rules.{rules}
+use Rattle.text_plan.proofs.put_empty.Goals as goal
+
+-- LOST slice-aggregate-put-text : tie.Need-slice-aggregate-put-text
+-- LOST slice-aggregate-put-text c = search rules
+
+-- LOST slice-aggregate-put-if : tie.Need-slice-aggregate-put-if
+-- LOST slice-aggregate-put-if c = search rules
+
+-- LOST slice-aggregate-put-list : tie.Need-slice-aggregate-put-list
+-- LOST slice-aggregate-put-list c = search rules
+
+pub put_list-requires : goal.put_list-requires
+put_list-requires c =
+    each_all _ _ _ _ (c.requires)
+
+pub returns : goal.returns
+returns c =
+    empty_put _ c.args.rows.now c.args.first c.args.n c.put_text-a.ensures c.put_if-b.ensures c.put_list.ensures

@@ -1,0 +1,24 @@
+-- `text_plan::put_scan` meets its contract. Assumes nothing.
+use Rattle.text_plan.proofs.Heads.{scan_put}
+use Rattle.tree.proofs.Few.{room}
+use borrow.Author.Rules.{rules}
+use native.Mathlib.Omega.{arith}
+use Rattle.text_plan.proofs.put_scan.Goals as goal
+
+-- LOST slice-aggregate-put-text : tie.Need-slice-aggregate-put-text
+-- LOST slice-aggregate-put-text c = search rules
+
+-- LOST slice-aggregate-put-text-2 : tie.Need-slice-aggregate-put-text-2
+-- LOST slice-aggregate-put-text-2 c = search rules
+
+pub overflow_add-s : goal.overflow_add-s
+overflow_add-s c =
+    omega (arith, c.requires.0.room, c.well_formed.1.0.0)
+
+pub put_filters-requires : goal.put_filters-requires
+put_filters-requires c =
+    c.requires.1
+
+pub returns : goal.returns
+returns c =
+    scan_put _ _ _ _ c.put_text-a.ensures c.put_number-b.ensures c.put_text-c.ensures (rw c.wide.ensures at c.put_number-d.ensures) c.put_columns-e.ensures c.put_filters.ensures

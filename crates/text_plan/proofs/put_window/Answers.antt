@@ -1,0 +1,14 @@
+-- `text_plan::put_window` meets its contract. Assumes nothing.
+use Rattle.plan_text.specs.Write.{list_text, unary_text}
+use Rattle.text_parts.proofs.Parts.{members_put}
+use Rattle.text_put.proofs.Laws.{◌then◌}
+use borrow.Author.Rules.{rules}
+use Rattle.text_plan.proofs.put_window.Goals as goal
+
+-- LOST slice-aggregate-put-text : tie.Need-slice-aggregate-put-text
+-- LOST slice-aggregate-put-text c = search rules
+
+pub returns : goal.returns
+unfolding unary_text list_text
+returns c =
+    c.put_text-a.ensures then members_put _ _ _ _ _ c.put_wins.ensures

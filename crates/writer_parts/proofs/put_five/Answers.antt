@@ -1,0 +1,25 @@
+-- `writer_parts::put_five` meets its contract: the first byte, and then the others. Assumes nothing.
+use borrow.Author.Rules.{rules}
+use native.Mathlib.Omega.{arith}
+use Prim.Native.Nat.{◌%◌}
+use lib.ListN.{length-set, set}
+use Rattle.writer_parts.proofs.Over.{fits, kept, put_more}
+use Rattle.writer_parts.proofs.put_five.Goals as goal
+
+pub slice_bounds-put_four-count : goal.slice_bounds-put_four-count
+slice_bounds-put_four-count c = simp length-set (omega arith)
+
+pub slice_bounds-put_four-start : goal.slice_bounds-put_four-start
+slice_bounds-put_four-start c = simp length-set (omega arith)
+
+pub put_four-requires : goal.put_four-requires
+put_four-requires c =
+    fits (set c.args.out.now 0 (c.args.x % 256)) 1 4 (simp length-set (omega (arith, c.requires)))
+
+pub shape_of-out : goal.shape_of-out
+shape_of-out c =
+    kept {xs = c.args.out.now} (put_more c.args.x (omega arith) c.requires c.put_four.ensures) c.requires
+
+pub returns : goal.returns
+returns c =
+    put_more c.args.x (omega arith) c.requires c.put_four.ensures

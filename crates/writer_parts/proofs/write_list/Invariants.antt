@@ -1,0 +1,18 @@
+-- `writer_parts::write_list` meets its contract. Assumes nothing.
+use borrow.Author.Rules.{rules}
+use native.Mathlib.Omega.{arith}
+use mathlib.Core.List.{List}
+use Prim.Native.Nat.{ℕ, ◌+◌, ◌-◌, ◌≤◌}
+use Rattle.writer_parts.specs.Wrote.{Wrote}
+use Rattle.writer_parts.specs.Parts.{part_bytes}
+use Rattle.required_indices.specs.Request.{set_in}
+use Rattle.writer_parts.specs.Lists.{chosen, takes, which}
+use Rattle.writer_parts.proofs.Lists.{turn, turn_all, turn_fits, turn_none, upto-length}
+use Rattle.writer_parts.proofs.Over.{kept}
+use Rattle.writer_parts.proofs.write_list.Given as goal
+
+abbrev pub invariant-loop-i : goal.invariant-loop-i
+invariant-loop-i l = (l.i ≤ l.n) × Wrote (chosen (λ j. part_bytes l.part l.rows l.cells (l.first + j)) (takes (which l.all (set_in l.indices l.used))) 0 l.i) l.initial.out l.at l.out
+
+abbrev pub decreases-loop-i : goal.decreases-loop-i
+decreases-loop-i l = l.n - l.i
