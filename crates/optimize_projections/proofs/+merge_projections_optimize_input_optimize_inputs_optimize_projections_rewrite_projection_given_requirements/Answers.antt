@@ -9,40 +9,11 @@ use Rattle.requests.proofs.Rows.{row_below}
 use Prim.Native.Nat.{ℕ, ◌+◌, ◌*◌, ◌-◌, ◌<◌, ◌≤◌}
 use native.Mathlib.Omega.{arith}
 use borrow.Author.Rules.{rules}
-use borrow.Fn.Kinds.{In}
-use borrow.Fn.PlainCycle.{Measures, is, falls, and}
-use Rattle.optimize_projections.proofs.merge_projections.Reads as merge-projections
-use Rattle.optimize_projections.proofs.merge_projections.Kinds as merge-projections-kinds
-use Rattle.optimize_projections.proofs.+merge_projections_optimize_input_optimize_inputs_optimize_projections_rewrite_projection_given_requirements.Lts-merge_projections as merge-projections-lts
-use Rattle.optimize_projections.proofs.optimize_input.Reads as optimize-input
-use Rattle.optimize_projections.proofs.optimize_input.Kinds as optimize-input-kinds
-use Rattle.optimize_projections.proofs.+merge_projections_optimize_input_optimize_inputs_optimize_projections_rewrite_projection_given_requirements.Lts-optimize_input as optimize-input-lts
-use Rattle.optimize_projections.proofs.optimize_inputs.Reads as optimize-inputs
-use Rattle.optimize_projections.proofs.optimize_inputs.Kinds as optimize-inputs-kinds
-use Rattle.optimize_projections.proofs.+merge_projections_optimize_input_optimize_inputs_optimize_projections_rewrite_projection_given_requirements.Lts-optimize_inputs as optimize-inputs-lts
-use Rattle.optimize_projections.proofs.optimize_projections.Reads as optimize-projections
-use Rattle.optimize_projections.proofs.optimize_projections.Kinds as optimize-projections-kinds
-use Rattle.optimize_projections.proofs.+merge_projections_optimize_input_optimize_inputs_optimize_projections_rewrite_projection_given_requirements.Lts-optimize_projections as optimize-projections-lts
-use Rattle.optimize_projections.proofs.rewrite_projection_given_requirements.Reads as rewrite-projection-given-requirements
-use Rattle.optimize_projections.proofs.rewrite_projection_given_requirements.Kinds as rewrite-projection-given-requirements-kinds
-use Rattle.optimize_projections.proofs.+merge_projections_optimize_input_optimize_inputs_optimize_projections_rewrite_projection_given_requirements.Lts-rewrite_projection_given_requirements as rewrite-projection-given-requirements-lts
-use Rattle.jobs.proofs.job_at.Reads as job-at-reads
-use Rattle.jobs.proofs.kind_of.Reads as kind-of-reads
-use Rattle.lookup.proofs.first_at.Reads as first-at-reads
-use Rattle.lookup.proofs.width_at.Reads as width-at-reads
-use Rattle.optimize_projections.proofs.no_input.Reads as no-input-reads
-use Rattle.optimize_projections.proofs.one_input.Reads as one-input-reads
-use Rattle.optimize_projections.proofs.two_inputs.Reads as two-inputs-reads
-use Rattle.tree.proofs.node_at.Reads as node-at-reads
-use Rattle.walk_steps.proofs.get_at_indices.Reads as get-at-indices-reads
-use Rattle.walk_steps.proofs.merge_step.Reads as merge-step-reads
-use Rattle.walk_steps.proofs.put_list.Reads as put-list-reads
-use Rattle.walk_steps.proofs.put_node.Reads as put-node-reads
-use Rattle.walk_steps.proofs.top_up.Reads as top-up-reads
 use Rattle.optimize_projections.proofs.+merge_projections_optimize_input_optimize_inputs_optimize_projections_rewrite_projection_given_requirements.{
+use Rattle.optimize_projections.proofs.+merge_projections_optimize_input_optimize_inputs_optimize_projections_rewrite_projection_given_requirements.Goals as goal
+
   statement,
 }
-use Rattle.optimize_projections.proofs.+merge_projections_optimize_input_optimize_inputs_optimize_projections_rewrite_projection_given_requirements.Tie.{
   close,
 }
 
@@ -191,7 +162,7 @@ merge-projections-merge-step-requires : (t : ℕ) → merge-projections-lts.Need
 merge-projections-merge-step-requires t c κs =
     let pre = c.before.before.before.before.before.before.before.before.before.before.before.before.before.before.before.requires in
     let e = sym (rw c.before.before.before.before.before.before.before.before.kind.given.1 at c.before.before.before.before.before.before.before.before.before.before.kind-of.ensures) ∙ c.before.before.before.before.before.before.before.before.before.before.before.Node-at.ensures.is in
-    (pre.1.list, (lower_rows pre.1.standing _ pre.1.within _ _ e, (lower_reads pre.1.standing _ pre.1.within _ _ e pre.1.items, record { rows_long = omega (arith, c.before.merge-step-arg6.given.0.1); cells-long = omega (arith, c.merge-step-arg7.given.0.1); cells-short = omega (arith, c.merge-step-arg7.given.0.1) })))
+    (pre.1.list, (lower_rows pre.1.standing _ pre.1.within _ _ e, (lower_reads pre.1.standing _ pre.1.within _ _ e pre.1.items, record { rows_long = omega (arith, c.before.merge-step-arg6.given.0.1); cells_long = omega (arith, c.merge-step-arg7.given.0.1); cells_short = omega (arith, c.merge-step-arg7.given.0.1) })))
 
 merge-projections-enum-told-2 : (t : ℕ) → merge-projections-lts.Need-enum-told-2 (merge-projections-calls t) (merge-projections-at t) merge-projections.Post
 merge-projections-enum-told-2 t c = search rules
@@ -396,129 +367,3 @@ rewrite-projection-given-requirements-put-list-requires t c κs = (
 
 rewrite-projection-given-requirements-returns-2 : (t : ℕ) → rewrite-projection-given-requirements-lts.Need-returns-2 (rewrite-projection-given-requirements-calls t) (rewrite-projection-given-requirements-at t) rewrite-projection-given-requirements.Post
 rewrite-projection-given-requirements-returns-2 t c = put_after _ _ _ (rw (c.before.before.before.before.before.before.before.before.before.before.before.before.before.before.before.before.before.before.before.before.before.before.before.before.before.before.before.first-at.ensures, c.before.before.before.before.before.before.before.before.before.before.before.before.before.before.before.before.before.before.before.before.before.before.before.before.before.width-at.ensures) at c.before.before.before.before.before.before.before.before.before.before.before.before.before.before.before.before.before.get-at-indices.ensures) _ c.before.before.before.before.before.before.before.before.before.before.before.before.before.before.if1.false c.before.before.before.before.before.before.optimize-projections.ensures _ (rw (c.before.before.before.before.before.before.before.before.before.before.before.before.before.before.before.before.before.before.before.before.before.before.before.before.before.before.before.first-at.ensures, c.before.before.before.before.before.before.before.before.before.before.before.before.before.before.before.before.before.before.before.before.before.before.before.before.before.width-at.ensures, c.before.before.before.before.first-at2.ensures, c.before.before.width-at2.ensures) at c.put-list.ensures)
-
-pub +merge-projections-optimize-input-optimize-inputs-optimize-projections-rewrite-projection-given-requirements-spec :
-    {M : Type 1} → statement M
-+merge-projections-optimize-input-optimize-inputs-optimize-projections-rewrite-projection-given-requirements-spec =
-    close
-    μ-merge-projections
-    μ-optimize-input
-    μ-optimize-inputs
-    μ-optimize-projections
-    μ-rewrite-projection-given-requirements
-    (λ t. merge-projections-lts.spec (
-      node-at-reads.Asked,
-      node-at-reads.Learnt,
-      kind-of-reads.Asked,
-      kind-of-reads.Learnt,
-      rewrite-projection-given-requirements-below t,
-      rewrite-projection-given-requirements.Post,
-      merge-step-reads.Asked,
-      merge-step-reads.Learnt,
-      merge-projections-below t,
-      merge-projections.Post,
-    )
-    (merge-projections-at t)
-    merge-projections.Post
-    (merge-projections-node-at-requires t)
-    (merge-projections-kind-of-requires t)
-    (merge-projections-enum-known-kind t)
-    (merge-projections-enum-told t)
-    (merge-projections-rewrite-projection-given-requirements-requires t)
-    (merge-projections-returns t)
-    (merge-projections-merge-step-requires t)
-    (merge-projections-enum-told-2 t)
-    (merge-projections-add-merge-projections t)
-    (merge-projections-merge-projections-requires t)
-    (merge-projections-enum-told-3 t)
-    (merge-projections-add-merge-projections-2 t)
-    (merge-projections-merge-projections-requires-2 t)
-    (merge-projections-enum-told-4 t)
-    (merge-projections-rewrite-projection-given-requirements-requires-2 t)
-    (merge-projections-enum-told-5 t)
-    (merge-projections-returns-2 t)
-    (merge-projections-returns-3 t)
-    (merge-projections-returns-4 t)
-    (merge-projections-returns-5 t))
-    (λ t. optimize-input-lts.spec (optimize-input-calls t)
-    (optimize-input-at t)
-    optimize-input.Post
-    (optimize-input-optimize-projections-requires t)
-    (optimize-input-top-up-requires t)
-    (optimize-input-returns t))
-    (λ t. optimize-inputs-lts.spec (
-      no-input-reads.Asked,
-      no-input-reads.Learnt,
-      optimize-input-below t,
-      optimize-input.Post,
-      one-input-reads.Asked,
-      one-input-reads.Learnt,
-      two-inputs-reads.Asked,
-      two-inputs-reads.Learnt,
-    )
-    (optimize-inputs-at t)
-    optimize-inputs.Post
-    (optimize-inputs-enum-told t)
-    (optimize-inputs-no-input-requires t)
-    (optimize-inputs-enum-told-2 t)
-    (optimize-inputs-no-input-requires-2 t)
-    (optimize-inputs-enum-told-3 t)
-    (optimize-inputs-add-optimize-input t)
-    (optimize-inputs-optimize-input-requires t)
-    (optimize-inputs-one-input-requires t)
-    (optimize-inputs-enum-known-todo t)
-    (optimize-inputs-add-optimize-input-2 t)
-    (optimize-inputs-optimize-input-requires-2 t)
-    (optimize-inputs-one-input-requires-2 t)
-    (optimize-inputs-enum-known-todo-2 t)
-    (optimize-inputs-add-optimize-input-3 t)
-    (optimize-inputs-optimize-input-requires-3 t)
-    (optimize-inputs-enum-known-end t)
-    (optimize-inputs-enum-told-4 t)
-    (optimize-inputs-returns t)
-    (optimize-inputs-optimize-input-requires-4 t)
-    (optimize-inputs-two-inputs-requires t)
-    (optimize-inputs-returns-2 t)
-    (optimize-inputs-returns-3 t)
-    (optimize-inputs-returns-4 t)
-    (optimize-inputs-returns-5 t)
-    (optimize-inputs-returns-6 t))
-    (λ t. optimize-projections-lts.spec (
-      node-at-reads.Asked,
-      node-at-reads.Learnt,
-      kind-of-reads.Asked,
-      kind-of-reads.Learnt,
-      merge-projections-below t,
-      merge-projections.Post,
-      job-at-reads.Asked,
-      job-at-reads.Learnt,
-      optimize-inputs-below t,
-      optimize-inputs.Post,
-      put-node-reads.Asked,
-      put-node-reads.Learnt,
-    )
-    (optimize-projections-at t)
-    optimize-projections.Post
-    (optimize-projections-node-at-requires t)
-    (optimize-projections-kind-of-requires t)
-    (optimize-projections-enum-known-kind t)
-    (optimize-projections-add-merge-projections t)
-    (optimize-projections-merge-projections-requires t)
-    (optimize-projections-enum-told t)
-    (optimize-projections-job-at-requires t)
-    (optimize-projections-optimize-inputs-requires t)
-    (optimize-projections-put-node-requires t)
-    (optimize-projections-returns t)
-    (optimize-projections-returns-2 t))
-    λ t. rewrite-projection-given-requirements-lts.spec (rewrite-projection-given-requirements-calls t)
-    (rewrite-projection-given-requirements-at t)
-    rewrite-projection-given-requirements.Post
-    (rewrite-projection-given-requirements-first-at-requires t)
-    (rewrite-projection-given-requirements-width-at-requires t)
-    (rewrite-projection-given-requirements-get-at-indices-requires t)
-    (rewrite-projection-given-requirements-returns t)
-    (rewrite-projection-given-requirements-optimize-projections-requires t)
-    (rewrite-projection-given-requirements-first-at-requires-2 t)
-    (rewrite-projection-given-requirements-width-at-requires-2 t)
-    (rewrite-projection-given-requirements-put-list-requires t)
-    (rewrite-projection-given-requirements-returns-2 t)
