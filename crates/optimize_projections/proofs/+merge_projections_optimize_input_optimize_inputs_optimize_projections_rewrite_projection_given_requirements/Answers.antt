@@ -1,16 +1,33 @@
 -- The proof of the cycle of calls. The measure is four times the number of nodes from the node on, and a little for what is still to be done at it.
 -- Assumes nothing.
-use mathlib.Core.Path.{refl, sym, ap, ◌∙◌}
+use mathlib.Core.Path.{◌≡◌, refl, sym, subst, ap, ◌∙◌}
+use mathlib.Core.List.{List}
 use Rattle.optimize_projections.proofs.Inputs.{first-before, first_too_large, leaf-after, nothing-after, one-after, one-before, right_above, same_after, same-before, second-before, topped_after, two-after}
 use Rattle.optimize_projections.proofs.Nodes.{inputs-before, inputs-left, node-after, other-asked}
 use Rattle.optimize_projections.proofs.Merges.{down_after, down_before, file_list, load_after, lower_reads, lower_rows, other_after, over-large, stop_after}
 use Rattle.optimize_projections.proofs.Lists.{copies_large, input-before, list-fields, put_after, request_within, top-fields}
 use Rattle.walk_steps.specs.Steps.{FieldsFor, ListPut}
+use Rattle.required_indices.specs.declared.RequiredIndices.{RequiredIndices}
+use Rattle.projections.specs.declared.Selection.{Selection}
+use Rattle.walk_steps.specs.declared.End.{End}
+use Rattle.walk_steps.specs.declared.Walked.{Walked}
 use Rattle.requests.proofs.Rows.{row_below}
 use Prim.Native.Nat.{ℕ, ◌+◌, ◌*◌, ◌-◌, ◌<◌, ◌≤◌}
 use native.Mathlib.Omega.{arith}
 use borrow.Author.Rules.{rules}
 use Rattle.optimize_projections.proofs.+merge_projections_optimize_input_optimize_inputs_optimize_projections_rewrite_projection_given_requirements.Goals as goal
+
+-- of what is put for a list, the places may be said by what they are
+fields_for : (fields : List ℕ) (w : Walked) (e : End) {a b c d : ℕ} → a ≡ c → b ≡ d → FieldsFor fields c d w e → FieldsFor fields a b w e
+fields_for fields w e {a} {b} {c} {d} p q h =
+    subst (λ (x : ℕ). FieldsFor fields x b w e) (sym p) (subst (λ (y : ℕ). FieldsFor fields c y w e) (sym q) h)
+
+list_put : (s s' : List ℕ) (list : Selection) (fields : List ℕ) (top : ℕ) (r : RequiredIndices) (w v : Walked) (e : End) {a b c d a' b' c' d' : ℕ}
+    → a ≡ a' → b ≡ b' → c ≡ c' → d ≡ d' → ListPut s s' list fields top a b r c d w v e → ListPut s s' list fields top a' b' r c' d' w v e
+list_put s s' list fields top r w v e {a} {b} {c} {d} {a'} {b'} {c'} {d'} p q m n h =
+    subst (λ (x : ℕ). ListPut s s' list fields top a' b' r c' x w v e) n
+    (subst (λ (x : ℕ). ListPut s s' list fields top a' b' r x d w v e) m
+    (subst (λ (x : ℕ). ListPut s s' list fields top a' x r c d w v e) q (subst (λ (x : ℕ). ListPut s s' list fields top x b r c d w v e) p h)))
 
 pub merge_projections-node_at-node-requires : goal.merge_projections-node_at-node-requires
 merge_projections-node_at-node-requires t c = (c.requires.standing.tree.each _ c.requires.within).numbers
@@ -137,7 +154,7 @@ pub rewrite_projection_given_requirements-optimize_projections-w-requires : goal
 rewrite_projection_given_requirements-optimize_projections-w-requires t c = (omega (arith, c.decreases), (input-before _ _ _ (rw (c.first_at-start.ensures, c.width_at-width.ensures) at c.get_at_indices-c.ensures) c.requires c.if-c.false))
 
 pub rewrite_projection_given_requirements-put_list-requires : goal.rewrite_projection_given_requirements-put_list-requires
-rewrite_projection_given_requirements-put_list-requires t c = record { record_n_in_bounds = omega arith; fields_in = rw (c.first_at-upper.ensures, c.width_at-wide.ensures) (top-fields c.requires); fields_for = rw (c.first_at-start.ensures, c.width_at-width.ensures, FieldsFor) (list-fields _ _ _ (rw (c.first_at-start.ensures, c.width_at-width.ensures) at c.get_at_indices-c.ensures) _ c.if-c.false c.optimize_projections-w.ensures c.requires) }
+rewrite_projection_given_requirements-put_list-requires t c = record { record_n_in_bounds = omega arith; fields_in = rw (c.first_at-upper.ensures, c.width_at-wide.ensures) (top-fields c.requires); fields_for = fields_for _ c.optimize_projections-w.result _ c.first_at-start.ensures c.width_at-width.ensures (list-fields _ _ _ (rw (c.first_at-start.ensures, c.width_at-width.ensures) at c.get_at_indices-c.ensures) _ c.if-c.false c.optimize_projections-w.ensures c.requires) }
 
 pub rewrite_projection_given_requirements-returns : goal.rewrite_projection_given_requirements-returns
-rewrite_projection_given_requirements-returns t c = put_after _ _ _ (rw (c.first_at-start.ensures, c.width_at-width.ensures) at c.get_at_indices-c.ensures) _ c.if-c.false c.optimize_projections-w.ensures _ (rw (c.first_at-start.ensures, c.width_at-width.ensures, c.first_at-upper.ensures, c.width_at-wide.ensures, ListPut) at c.put_list.ensures)
+rewrite_projection_given_requirements-returns t c = put_after _ _ _ (rw (c.first_at-start.ensures, c.width_at-width.ensures) at c.get_at_indices-c.ensures) _ c.if-c.false c.optimize_projections-w.ensures _ (list_put _ _ _ _ _ _ _ _ _ c.first_at-upper.ensures c.width_at-wide.ensures c.first_at-start.ensures c.width_at-width.ensures c.put_list.ensures)
