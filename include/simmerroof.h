@@ -1,6 +1,6 @@
 /* Simmerroof: column pruning for query plans.
  *
- * Link target/staticlib/libsimmerroof.a, which `rt staticlib simmerroof` proves and writes (x86-64 Linux).
+ * Link crates/simmerroof/out/libsimmerroof.a, which `rt lib` in crates/simmerroof proves and writes (x86-64 Linux).
  *
  * A plan file and a request go in; a plan file comes out whose scans read only the columns that are needed. The file's
  * form is in docs/FORMAT.md, with worked examples byte by byte; examples/ has small programs.
