@@ -5,5 +5,8 @@ use borrow.Author.Rules.{rules}
 use Rattle.listing.proofs.run.Goals as goal
 
 pub returns : goal.returns
-returns c = record { wrote = program_printed c.args.input.now c.file_start-at.result c.byte-mode.ensures c.mask_in-mask.ensures c.file_start-at.ensures.1 c.file_end-end.ensures.2
-          c.write_answer.ensures.wrote; counts = c.write_answer.ensures.counts }
+returns c = record {
+  wrote = program_printed c.args.input.now c.file_start-at.result c.byte-mode.ensures c.mask_in-mask.ensures c.file_start-at.ensures.1 c.file_end-end.ensures.2
+      c.write_answer.ensures.wrote;
+  counts = c.write_answer.ensures.counts;
+}

@@ -14,8 +14,11 @@ use native.Mathlib.Omega.{arith}
 use Rattle.listing.proofs.write_answer.Goals as goal
 
 pub returns-then-a-gt0 : goal.returns-then-a-gt0
-returns-then-a-gt0 c = record { wrote = printed_refusal c.args.mode c.args.mask c.args.file.now c.prune_all-a.ensures.answer_is c.if-a-gt0.true c.write_refused.ensures; counts = counts
-          c.write_refused.ensures c.write_refused.auto.out }
+returns-then-a-gt0 c = record {
+  wrote = printed_refusal c.args.mode c.args.mask c.args.file.now c.prune_all-a.ensures.answer_is c.if-a-gt0.true c.write_refused.ensures;
+  counts = counts
+      c.write_refused.ensures c.write_refused.auto.out;
+}
 
 pub slice_bounds-out-end : goal.slice_bounds-out-end
 slice_bounds-out-end c =
@@ -26,5 +29,8 @@ slice_bounds-list-end c =
     sym (length-take-le _ _ (omega (arith, answer-fits c.args.mode c.args.mask c.args.file.now _ c.prune_all-a.ensures.answer_is, c.prune_all-a.auto.out)))
 
 pub returns : goal.returns
-returns c = record { wrote = printed_listing c.args.mode c.args.mask c.args.file.now c.prune_all-a.ensures.answer_is (are_bytes _ (λ i. omega (arith, c.shared_slice_known-1.given i)))
-          (omega (arith, c.if-a-gt0.false)) c.list.ensures.wrote; counts = c.list.ensures.counts }
+returns c = record {
+  wrote = printed_listing c.args.mode c.args.mask c.args.file.now c.prune_all-a.ensures.answer_is (are_bytes _ (λ i. omega (arith, c.shared_slice_known-1.given i)))
+      (omega (arith, c.if-a-gt0.false)) c.list.ensures.wrote;
+  counts = c.list.ensures.counts;
+}

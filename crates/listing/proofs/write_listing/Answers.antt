@@ -60,21 +60,20 @@ slice_bounds-write_lines-start c =
     )
 
 pub write_lines-n-requires : goal.write_lines-n-requires
-write_lines-n-requires c =
-    (
-      c.requires.0,
-      omega (
-        arith,
-        c.requires.1,
-        short c.wide.result (omega (arith, c.wide.ensures)),
-        c.put_text-a.ensures.long,
-        c.put_text-a.auto,
-        c.put_number-b.ensures.long,
-        c.put_number-b.auto,
-        c.put_text-c.ensures.long,
-        c.put_text-c.auto,
-      ),
-    )
+write_lines-n-requires c = (
+  c.requires.0,
+  omega (
+    arith,
+    c.requires.1,
+    short c.wide.result (omega (arith, c.wide.ensures)),
+    c.put_text-a.ensures.long,
+    c.put_text-a.auto,
+    c.put_number-b.ensures.long,
+    c.put_number-b.auto,
+    c.put_text-c.ensures.long,
+    c.put_text-c.auto,
+  ),
+)
 
 pub overflow_add-result : goal.overflow_add-result
 overflow_add-result c =

@@ -34,12 +34,11 @@ mark-requires c =
     c.loop-i.invariant.2.long
 
 pub loop-i-preserved : goal.loop-i-preserved
-loop-i-preserved c =
-    (
-      omega arith,
-      clear-more c.args.fields.now c.args.first c.args.width c.loop-i.i (sym c.if-conflicts_marked.false ∙ c.conflicts_marked.ensures ∙ ap (λ (p : Pair). any_b (conflict p) (row_at c.args.fields.now c.args.first c.loop-i.i)) c.field_at-f.ensures) c.loop-i.invariant.1,
-      marked_more c.args.fields.now c.args.first c.loop-i.i c.loop-i.invariant.2 c.field_at-f.ensures c.mark.ensures,
-    )
+loop-i-preserved c = (
+  omega arith,
+  clear-more c.args.fields.now c.args.first c.args.width c.loop-i.i (sym c.if-conflicts_marked.false ∙ c.conflicts_marked.ensures ∙ ap (λ (p : Pair). any_b (conflict p) (row_at c.args.fields.now c.args.first c.loop-i.i)) c.field_at-f.ensures) c.loop-i.invariant.1,
+  marked_more c.args.fields.now c.args.first c.loop-i.i c.loop-i.invariant.2 c.field_at-f.ensures c.mark.ensures,
+)
 
 pub returns : goal.returns
 returns c =

@@ -43,8 +43,8 @@ unfolding agg_exprs
 loop-i-preserved c =
     let next = rest-next _ _ _ _ c.loop-i-test.true in
     elim c.if-contains.branch [
-    | then-contains w ↦ rw w.out-is (picked_yes c.loop-i.invariant _ _ next c.loop-i-test.true (sym c.contains.ensures ∙ w.if-contains.true) (rw (w.agg_at-a.ensures.means c.args.cells.now) w.with_call-out.ensures))
-    | else-contains w ↦ rw w.out-is (picked_no c.loop-i.invariant _ _ next c.loop-i-test.true (sym c.contains.ensures ∙ w.if-contains.false))
+      | then-contains w ↦ rw w.out-is (picked_yes c.loop-i.invariant _ _ next c.loop-i-test.true (sym c.contains.ensures ∙ w.if-contains.true) (rw (w.agg_at-a.ensures.means c.args.cells.now) w.with_call-out.ensures))
+      | else-contains w ↦ rw w.out-is (picked_no c.loop-i.invariant _ _ next c.loop-i-test.true (sym c.contains.ensures ∙ w.if-contains.false))
     ]
 
 pub returns : goal.returns

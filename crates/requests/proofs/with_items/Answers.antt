@@ -44,8 +44,8 @@ pub loop-i-preserved : goal.loop-i-preserved
 loop-i-preserved c =
     let next = rest-next _ _ _ _ c.loop-i-test.true in
     elim c.if-contains.branch [
-    | then-contains w ↦ rw (w.out-is, w.used-is) (picked_yes c.loop-i.invariant.0 _ _ next c.loop-i-test.true (sym c.contains.ensures ∙ w.if-contains.true) (rw (read_expr_lem _ w.row_at-row.ensures (row_ok _ _ _ _ c.requires.rows_ok _ c.loop-i-test.true)) w.add-used.ensures.adds), w.add-used.ensures.lent_2, c.loop-i.invariant.2)
-    | else-contains w ↦ rw (w.out-is, w.used-is) (picked_no c.loop-i.invariant.0 _ _ next c.loop-i-test.true (sym c.contains.ensures ∙ w.if-contains.false), c.loop-i.invariant.1, c.loop-i.invariant.2)
+      | then-contains w ↦ rw (w.out-is, w.used-is) (picked_yes c.loop-i.invariant.0 _ _ next c.loop-i-test.true (sym c.contains.ensures ∙ w.if-contains.true) (rw (read_expr_lem _ w.row_at-row.ensures (row_ok _ _ _ _ c.requires.rows_ok _ c.loop-i-test.true)) w.add-used.ensures.adds), w.add-used.ensures.lent_2, c.loop-i.invariant.2)
+      | else-contains w ↦ rw (w.out-is, w.used-is) (picked_no c.loop-i.invariant.0 _ _ next c.loop-i-test.true (sym c.contains.ensures ∙ w.if-contains.false), c.loop-i.invariant.1, c.loop-i.invariant.2)
     ]
 
 pub returns : goal.returns

@@ -39,8 +39,8 @@ loop-i-preserved c =
     let next = list-next _ _ _ _ _ c.loop-i-test.true in
     rw c.win_at-w.ensures.next_is (
       elim c.if-contains.branch [
-      | then-contains w ↦ rw w.out-is (picked_yes c.loop-i.invariant.0 _ _ next c.loop-i-test.true (sym c.contains.ensures ∙ w.if-contains.true) w.with_window-out.ensures)
-      | else-contains w ↦ rw w.out-is (picked_no c.loop-i.invariant.0 _ _ next c.loop-i-test.true (sym c.contains.ensures ∙ w.if-contains.false))
+        | then-contains w ↦ rw w.out-is (picked_yes c.loop-i.invariant.0 _ _ next c.loop-i-test.true (sym c.contains.ensures ∙ w.if-contains.true) w.with_window-out.ensures)
+        | else-contains w ↦ rw w.out-is (picked_no c.loop-i.invariant.0 _ _ next c.loop-i-test.true (sym c.contains.ensures ∙ w.if-contains.false))
       ],
       (all_here _ _ _ _ _ c.loop-i-test.true c.loop-i.invariant.1).1,
     )

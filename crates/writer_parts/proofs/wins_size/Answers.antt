@@ -52,12 +52,11 @@ loop-i-smaller c =
     omega (arith, c.loop-i-test.true)
 
 pub loop-i-preserved : goal.loop-i-preserved
-loop-i-preserved c =
-    (
-      omega (arith, c.loop-i-test.true),
-      c.win_at-row.ensures.next_is ∙ ap (λ (x : ℕ). x + win_size c.args.rows.now x) c.loop-i.invariant.1 ∙ sym (row_next (win_size c.args.rows.now) c.args.first c.loop-i.i),
-      turn_counts _ _ _ _ c.loop-i.invariant.2 (rw (c.is_taken-yes.ensures, c.loop-i.invariant.1) at c.win_size_if.ensures) c.both-sum.ensures,
-    )
+loop-i-preserved c = (
+  omega (arith, c.loop-i-test.true),
+  c.win_at-row.ensures.next_is ∙ ap (λ (x : ℕ). x + win_size c.args.rows.now x) c.loop-i.invariant.1 ∙ sym (row_next (win_size c.args.rows.now) c.args.first c.loop-i.i),
+  turn_counts _ _ _ _ c.loop-i.invariant.2 (rw (c.is_taken-yes.ensures, c.loop-i.invariant.1) at c.win_size_if.ensures) c.both-sum.ensures,
+)
 
 pub returns : goal.returns
 returns c =

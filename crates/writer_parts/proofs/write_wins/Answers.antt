@@ -72,12 +72,11 @@ loop-i-smaller c =
     omega (arith, c.loop-i-test.true)
 
 pub loop-i-preserved : goal.loop-i-preserved
-loop-i-preserved c =
-    (
-      omega (arith, c.loop-i-test.true),
-      c.win_at-row.ensures.next_is ∙ ap (λ (x : ℕ). x + win_size c.args.rows.now x) c.loop-i.invariant.1 ∙ sym (row_next (win_size c.args.rows.now) c.args.first c.loop-i.i),
-      turn _ _ _ c.loop-i.invariant.2 (rw (c.is_taken-yes.ensures, c.loop-i.invariant.1) at c.write_win_if-m.ensures),
-    )
+loop-i-preserved c = (
+  omega (arith, c.loop-i-test.true),
+  c.win_at-row.ensures.next_is ∙ ap (λ (x : ℕ). x + win_size c.args.rows.now x) c.loop-i.invariant.1 ∙ sym (row_next (win_size c.args.rows.now) c.args.first c.loop-i.i),
+  turn _ _ _ c.loop-i.invariant.2 (rw (c.is_taken-yes.ensures, c.loop-i.invariant.1) at c.write_win_if-m.ensures),
+)
 
 pub shape_of-out : goal.shape_of-out
 shape_of-out c =

@@ -34,13 +34,12 @@ loop-i-smaller c =
     omega (arith, c.loop-i-test.true)
 
 pub loop-i-preserved : goal.loop-i-preserved
-loop-i-preserved c =
-    (
-      work_more c.loop-i.invariant.0 c.requires.keys_ok_2 c.loop-i-test.true c.key_at-key.ensures all_folds c.requires.size_bound (rw c.in-Set.is at c.insert-filled.ensures.fills) c.insert-filled.ensures.behind,
-      λ n a b.
-          let z = work_in c.loop-i.invariant.0 c.requires.keys_ok_2 c.loop-i-test.true c.key_at-key.ensures b in
-          rw c.in-Set.is at (c.insert-filled.ensures.by_index n (c.loop-i.invariant.1 n a b) z.0 z.1),
-    )
+loop-i-preserved c = (
+  work_more c.loop-i.invariant.0 c.requires.keys_ok_2 c.loop-i-test.true c.key_at-key.ensures all_folds c.requires.size_bound (rw c.in-Set.is at c.insert-filled.ensures.fills) c.insert-filled.ensures.behind,
+  λ n a b.
+      let z = work_in c.loop-i.invariant.0 c.requires.keys_ok_2 c.loop-i-test.true c.key_at-key.ensures b in
+      rw c.in-Set.is at (c.insert-filled.ensures.by_index n (c.loop-i.invariant.1 n a b) z.0 z.1),
+)
 
 pub returns : goal.returns
 returns c = record { fills = work_all c.loop-i.invariant.0 all_folds c.loop-i-test.false; by_index = c.loop-i.invariant.1 }

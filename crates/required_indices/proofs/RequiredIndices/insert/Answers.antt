@@ -41,6 +41,9 @@ returns c =
     let hs = words_take c.args.used (words ws c.requires.lent.1) in
     let ks = words_take j (words cur lent.1) in
     let inside : k < j = omega arith in
-    let one = shifted_one (i % 64) (omega arith) in record { result_after = ap number (take-set-lt j cur k (bit_or (get_or cur k 0) ((1 * 2 ^ (i % 64)) % 2 ^ 64)) inside)
+    let one = shifted_one (i % 64) (omega arith) in record {
+      result_after = ap number (take-set-lt j cur k (bit_or (get_or cur k 0) ((1 * 2 ^ (i % 64)) % 2 ^ 64)) inside)
           ∙ ap₂ (λ (x y : ℕ). number (set (take j cur) k (bit_or x y))) (sym (get_or-take j cur k 0 inside)) one
-          ∙ add_at ks i (omega (arith, c.loop-j.invariant.2)) ∙ ap (λ (x : ℕ). bit_or x (2 ^ i)) (extend_end words_n cur j c.loop-j.invariant.0 hs c.loop-j.invariant.1 c.loop-j.invariant.2); lent_2 = lent-set cur k (bit_or (get_or cur k 0) ((1 * 2 ^ (i % 64)) % 2 ^ 64)) (or_lt 64 (get_or cur k 0) ((1 * 2 ^ (i % 64)) % 2 ^ 64) (lent.1 k).fits (omega arith)) lent }
+          ∙ add_at ks i (omega (arith, c.loop-j.invariant.2)) ∙ ap (λ (x : ℕ). bit_or x (2 ^ i)) (extend_end words_n cur j c.loop-j.invariant.0 hs c.loop-j.invariant.1 c.loop-j.invariant.2);
+      lent_2 = lent-set cur k (bit_or (get_or cur k 0) ((1 * 2 ^ (i % 64)) % 2 ^ 64)) (or_lt 64 (get_or cur k 0) ((1 * 2 ^ (i % 64)) % 2 ^ 64) (lent.1 k).fits (omega arith)) lent;
+    }

@@ -21,13 +21,12 @@ pub loop-k-smaller : goal.loop-k-smaller
 loop-k-smaller c = omega arith
 
 pub loop-k-preserved : goal.loop-k-preserved
-loop-k-preserved c =
-    (
-      all_turn c.words_for-n.result c.args.width c.loop-k.out.indices c.loop-k.k c.loop-k.invariant.0 c.loop-k.left c.low_bits.result (omega arith) c.loop-k.invariant.1 c.low_bits.ensures,
-      omega (arith, c.less-left.ensures),
-      c.loop-k.invariant.2,
-      c.loop-k.invariant.3,
-    )
+loop-k-preserved c = (
+  all_turn c.words_for-n.result c.args.width c.loop-k.out.indices c.loop-k.k c.loop-k.invariant.0 c.loop-k.left c.low_bits.result (omega arith) c.loop-k.invariant.1 c.low_bits.ensures,
+  omega (arith, c.less-left.ensures),
+  c.loop-k.invariant.2,
+  c.loop-k.invariant.3,
+)
 
 pub returns : goal.returns
 returns c =
