@@ -1,6 +1,5 @@
 -- `accept::accept_node` meets its contract. Assumes nothing.
 use Rattle.accept.proofs.Plans.{walk_of}
-use borrow.Author.Rules.{rules}
 use Rattle.accept.proofs.accept_node.Goals as goal
 
 pub accept_at-requires : goal.accept_at-requires

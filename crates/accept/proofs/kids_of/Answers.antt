@@ -1,6 +1,5 @@
 -- `accept::kids_of` meets its contract. Assumes nothing.
 use Rattle.tree.specs.Tree.{head_of, right_of}
-use borrow.Author.Rules.{rules}
 use mathlib.Core.Path.{ap, sym}
 use Rattle.accept.proofs.kids_of.Goals as goal
 

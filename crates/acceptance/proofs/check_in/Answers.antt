@@ -1,6 +1,5 @@
 -- `acceptance::check_in` meets its contract: the arrays are long enough for every file. Assumes nothing.
 use Rattle.acceptance.proofs.Rooms.{wide_room}
-use borrow.Author.Rules.{rules}
 use Rattle.acceptance.proofs.check_in.Goals as goal
 
 pub read_and_check-read-requires : goal.read_and_check-read-requires

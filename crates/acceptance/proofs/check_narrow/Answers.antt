@@ -1,6 +1,5 @@
 -- `acceptance::check_narrow` meets its contract: the arrays are long enough for a narrow file. Assumes nothing.
 use Rattle.acceptance.proofs.Rooms.{narrow_room}
-use borrow.Author.Rules.{rules}
 use Prim.Native.Nat.{ℕ}
 use lib.ListN.{length-replicate}
 use Rattle.acceptance.proofs.check_narrow.Goals as goal

@@ -1,5 +1,4 @@
 -- `acceptance::is_narrow` meets its contract: the version of the mark has at most 128 fields a node. Assumes nothing.
-use borrow.Author.Rules.{rules}
 use borrow.Author.Tests.{leb-true}
 use mathlib.Core.Path.{ap}
 use native.Mathlib.Omega.{arith}

@@ -1,6 +1,5 @@
 -- `acceptance::read_and_check` meets its contract: refused by the reader or at a node, or accepted. Assumes nothing.
 use Rattle.acceptance.proofs.Ways.{accept_ends, all-stand, are_bytes, got, judgeable, no_faults, refuse-node, refuse_read}
-use borrow.Author.Rules.{rules}
 use mathlib.Core.Path.{refl, sym}
 use native.Mathlib.Omega.{arith}
 use Rattle.acceptance.proofs.read_and_check.Goals as goal

@@ -1,7 +1,6 @@
 -- The proof of the cycle of calls {count_tags}. The measure is the node's number. Assumes nothing.
-use borrow.Author.Rules.{rules}
 use mathlib.Core.Path.{◌≡◌, sym, ap}
-use Prim.Native.Nat.{ℕ, ◌+◌, ◌<◌}
+use Prim.Native.Nat.{ℕ, ◌+◌}
 use native.Mathlib.Omega.{arith}
 use Rattle.cpl.specs.Exprs.{expr_tags}
 use Rattle.cpl.specs.Plan.{Expr, Op1, Op2, bin, un}

@@ -1,7 +1,5 @@
 -- The proof of the cycle of calls {has_column}. The measure is the node's number. Assumes nothing.
-use borrow.Author.Rules.{rules}
 use mathlib.Core.Path.{◌≡◌, refl, sym, ap, ap₂, ◌∙◌}
-use Prim.Native.Nat.{ℕ, ◌<◌}
 use mathlib.Core.Bool.{Bool, ◌||◌}
 use Rattle.cpl.specs.Plan.{Expr, Op2, bin}
 use Rattle.cpl.specs.Exprs.{columns?}

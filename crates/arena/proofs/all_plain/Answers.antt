@@ -1,10 +1,7 @@
 -- `arena::all_plain` meets its contract: the answer is that of the rows that are left. Assumes nothing.
 use mathlib.Core.Path.{sym, ◌∙◌}
 use native.Mathlib.Omega.{arith}
-use Prim.Native.Nat.{◌-◌}
-use borrow.Author.Tests.{not-false, not-true}
-use Rattle.rules.specs.Merge.{plain}
-use Rattle.arena.proofs.Rows.{Asked, asked-all, asked-more, asked_no, asked-none, row_fits, row_ok}
+use Rattle.arena.proofs.Rows.{asked-all, asked-more, asked_no, asked-none, row_fits, row_ok}
 use Rattle.arena.proofs.all_plain.Goals as goal
 
 pub loop-i-init : goal.loop-i-init

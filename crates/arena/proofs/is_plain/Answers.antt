@@ -1,6 +1,5 @@
 -- `arena::is_plain` meets its contract. Assumes nothing.
 use mathlib.Core.Path.{sym, ap, ◌∙◌}
-use borrow.Author.Rules.{rules}
 use mathlib.Core.Bool.{not}
 use Rattle.rules.specs.Merge.{plain}
 use Rattle.arena.proofs.Rows.{read_bare_lem, read_named, read_wf}

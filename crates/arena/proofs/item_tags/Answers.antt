@@ -1,7 +1,6 @@
 -- `arena::item_tags` meets its contract. Assumes nothing.
 use mathlib.Core.Path.{sym, ap}
 use native.Mathlib.Omega.{arith}
-use borrow.Author.Rules.{rules}
 use Rattle.cpl.specs.Exprs.{item_tags}
 use Rattle.arena.proofs.Rows.{read_bare_lem, read_tags, read_wf}
 use Rattle.arena.proofs.item_tags.Goals as goal

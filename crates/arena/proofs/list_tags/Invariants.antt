@@ -1,8 +1,7 @@
 -- `arena::list_tags` meets its contract: the sum so far and the sum of the rows that are left make the sum of all. Assumes nothing.
-use native.Mathlib.Omega.{arith}
 use Prim.Native.Nat.{◌-◌}
 use Rattle.cpl.specs.Exprs.{item_tags}
-use Rattle.arena.proofs.Rows.{Summed, row_fits, row_ok, summed_all, summed_more, summed_none, summed_tags}
+use Rattle.arena.proofs.Rows.{Summed}
 use Rattle.arena.proofs.list_tags.Given as goal
 
 abbrev pub invariant-loop-i : goal.invariant-loop-i

@@ -1,12 +1,10 @@
 -- `arena::list_uses` meets its contract: the sum so far and the sum of the rows that are left make the sum of all. Assumes nothing.
 use mathlib.Core.Path.{sym, ap, ◌∙◌}
 use native.Mathlib.Omega.{arith}
-use Prim.Native.Nat.{ℕ, ◌-◌}
-use Rattle.cpl.specs.Plan.{Item, item_expr, pair}
+use Rattle.cpl.specs.Plan.{pair}
 use Rattle.rules.specs.Merge.{occurs, occurs_in}
 use Rattle.arena.specs.Rows.{items_at}
-use Rattle.arena.proofs.Rows.{Summed, all_uses_le, read_expr_lem, read_small, read_wf, row_fits, row_ok, summed_all, summed_more, summed_none, summed_tags}
-use Rattle.arena.proofs.list_uses.Invariants.{uses}
+use Rattle.arena.proofs.Rows.{all_uses_le, read_expr_lem, read_small, read_wf, row_fits, row_ok, summed_all, summed_more, summed_none, summed_tags}
 use Rattle.arena.proofs.list_uses.Goals as goal
 
 pub loop-i-init : goal.loop-i-init

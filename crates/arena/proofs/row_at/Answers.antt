@@ -1,5 +1,4 @@
 -- `arena::row_at` meets its contract. Assumes nothing.
-use borrow.Author.Rules.{rules}
 use native.Mathlib.Omega.{arith}
 use Prim.Native.Nat.{◌+◌, ◌*◌}
 use Rattle.arena.proofs.row_at.Goals as goal

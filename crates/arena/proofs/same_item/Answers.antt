@@ -1,5 +1,4 @@
 -- `arena::same_item` meets its contract: each way is a law of `Same`. Assumes nothing.
-use borrow.Author.Rules.{rules}
 use mathlib.Core.Path.{refl}
 use Rattle.arena.proofs.Rows.{read_bare_lem, read_named, read_row, read_wf}
 use Rattle.arena.proofs.Same.{other_mark, same-bare, same-named}

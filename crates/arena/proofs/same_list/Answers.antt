@@ -1,10 +1,8 @@
 -- `arena::same_list` meets its contract: the answer is that of the rows that are left. Assumes nothing.
 use mathlib.Core.Path.{sym, ◌∙◌}
 use native.Mathlib.Omega.{arith}
-use Prim.Native.Nat.{◌-◌}
-use borrow.Author.Tests.{not-false, not-true}
 use Rattle.arena.proofs.Rows.{row_fits, row_ok}
-use Rattle.arena.proofs.Same.{Agree, agree_all, agree_more, agree_no, agree_none, unlike}
+use Rattle.arena.proofs.Same.{agree_all, agree_more, agree_no, agree_none, unlike}
 use Rattle.arena.proofs.same_list.Goals as goal
 
 pub returns-then-count-count2 : goal.returns-then-count-count2

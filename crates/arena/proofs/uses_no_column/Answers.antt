@@ -1,13 +1,10 @@
 -- `arena::uses_no_column` meets its contract: the answer is that of the rows that are left. Assumes nothing.
 use mathlib.Core.Path.{sym, ap, ◌∙◌}
 use native.Mathlib.Omega.{arith}
-use Prim.Native.Nat.{◌-◌}
-use mathlib.Core.Bool.{Bool, not}
+use mathlib.Core.Bool.{not}
 use Rattle.cpl.specs.Exprs.{columns?}
-use Rattle.cpl.specs.Plan.{Item, item_expr}
 use Rattle.rules.specs.Merge.{uses_none}
-use Rattle.arena.proofs.Rows.{Asked, asked-all, asked-more, asked_no, asked-none, read_expr_lem, read_wf, row_fits, row_ok}
-use Rattle.arena.proofs.uses_no_column.Invariants.{free}
+use Rattle.arena.proofs.Rows.{asked-all, asked-more, asked_no, asked-none, read_expr_lem, read_wf, row_fits, row_ok}
 use Rattle.arena.proofs.uses_no_column.Goals as goal
 
 pub loop-i-init : goal.loop-i-init

@@ -1,12 +1,9 @@
 -- `arena::uses_no_column` meets its contract: the answer is that of the rows that are left. Assumes nothing.
-use mathlib.Core.Path.{sym, ap, ◌∙◌}
-use native.Mathlib.Omega.{arith}
 use Prim.Native.Nat.{◌-◌}
 use mathlib.Core.Bool.{Bool, not}
 use Rattle.cpl.specs.Exprs.{columns?}
 use Rattle.cpl.specs.Plan.{Item, item_expr}
-use Rattle.rules.specs.Merge.{uses_none}
-use Rattle.arena.proofs.Rows.{Asked, asked-all, asked-more, asked_no, asked-none, read_expr_lem, read_wf, row_fits, row_ok}
+use Rattle.arena.proofs.Rows.{Asked}
 use Rattle.arena.proofs.uses_no_column.Given as goal
 
 abbrev pub free : Item → Bool

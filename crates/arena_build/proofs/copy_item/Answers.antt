@@ -1,5 +1,4 @@
 -- `arena_build::copy_item` meets its contract. Assumes nothing.
-use borrow.Author.Rules.{rules}
 use native.Mathlib.Omega.{arith}
 use Rattle.arena.proofs.Rows.{read_wf}
 use Rattle.arena_build.proofs.Items.{copy_left, copy_placed, node-small}

@@ -1,8 +1,6 @@
 -- `arena_build::find_def` meets its contract: the answer is that of the rows that are left. Assumes nothing.
 use native.Mathlib.Omega.{arith}
-use Prim.Native.Nat.{◌-◌}
-use Rattle.cpl.specs.Plan.{pair}
-use Rattle.arena_build.proofs.Defs.{Passed, passed_all, passed_found, passed_more, passed_none}
+use Rattle.arena_build.proofs.Defs.{passed_all, passed_found, passed_more, passed_none}
 use Rattle.arena_build.proofs.find_def.Goals as goal
 
 pub loop-i-init : goal.loop-i-init

@@ -1,5 +1,4 @@
 -- `arena_build::mark_for` meets its contract. Assumes nothing.
-use borrow.Author.Rules.{rules}
 use mathlib.Core.Path.{sym, ◌∙◌}
 use Rattle.arena_build.proofs.Items.{mark_bare, mark_named, mark_stays}
 use Rattle.arena_build.proofs.mark_for.Goals as goal

@@ -1,5 +1,4 @@
 -- `arena_build::replace_item` meets its contract. Assumes nothing.
-use borrow.Author.Rules.{rules}
 use native.Mathlib.Omega.{arith}
 use Rattle.arena.proofs.Laws.{wf_less}
 use Rattle.arena.proofs.Rows.{read_wf}

@@ -1,13 +1,9 @@
 -- `arena_build::replace_items` meets its contract: the rows that are done are a `Listing`. Assumes nothing.
-use borrow.Author.Rules.{rules}
-use mathlib.Core.Path.{◌≡◌}
-use native.Mathlib.Omega.{arith}
 use Prim.Native.Nat.{◌-◌, ◌≤◌}
 use Rattle.rules.specs.Merge.{replace_item}
 use Rattle.arena.specs.Rows.{items_at}
-use Rattle.arena.proofs.Rows.{row_fits, row_ok}
 use Rattle.arena_build.specs.Lists.{Listing}
-use Rattle.arena_build.proofs.Items.{listing_full, listing_none, made_of, made-step}
+use Rattle.arena_build.proofs.Items.{made_of}
 use Rattle.arena_build.proofs.replace_items.Given as goal
 
 abbrev pub invariant-loop-i : goal.invariant-loop-i

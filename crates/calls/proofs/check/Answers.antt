@@ -2,8 +2,6 @@
 use Rattle.calls.proofs.Texts.{check-text, named}
 use Rattle.listing.proofs.Puts.{counts}
 use Rattle.writer.proofs.Plans.{input}
-use Rattle.writer_parts.proofs.Over.{kept}
-use borrow.Author.Rules.{rules}
 use Rattle.calls.proofs.check.Goals as goal
 
 pub returns : goal.returns

@@ -1,6 +1,5 @@
 -- `calls::file_at` meets its contract. Assumes nothing.
 use Rattle.calls.proofs.Input.{file_lies}
-use borrow.Author.Rules.{rules}
 use Rattle.calls.proofs.file_at.Goals as goal
 
 pub returns : goal.returns

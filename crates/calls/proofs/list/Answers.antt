@@ -1,6 +1,5 @@
 -- `calls::list` meets its contract: the file, and its listing. Assumes nothing.
 use Rattle.calls.proofs.Texts.{list-text, named}
-use borrow.Author.Rules.{rules}
 use Rattle.calls.proofs.list.Goals as goal
 
 pub returns : goal.returns

@@ -1,9 +1,6 @@
 -- `calls::list_file` meets its contract: the refusal, or the listing. Assumes nothing.
 use Rattle.calls.proofs.Listings.{file_listed, file_refused}
 use Rattle.calls.proofs.Texts.{named}
-use Rattle.optimize_projections.proofs.Nodes.{left}
-use Rattle.writer.proofs.Plans.{taken}
-use borrow.Author.Rules.{rules}
 use Rattle.calls.proofs.list_file.Goals as goal
 
 -- LOST slice-aggregate-write-answer : tie.Need-slice-aggregate-write-answer

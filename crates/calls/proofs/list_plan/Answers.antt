@@ -4,8 +4,6 @@ use Rattle.calls.proofs.Answers.{answer-bytes, answer-counts, list_inside}
 use Rattle.calls.proofs.Input.{out_is, room-long, unlent}
 use Rattle.calls.proofs.Texts.{list-plan-text, named}
 use Rattle.writer.proofs.Plans.{input}
-use Rattle.writer_parts.proofs.Over.{kept}
-use borrow.Author.Rules.{rules}
 use mathlib.Core.Path.{ap, sym}
 use native.Mathlib.Omega.{arith}
 use Rattle.calls.proofs.list_plan.Goals as goal

@@ -5,8 +5,6 @@ use Rattle.calls.proofs.Input.{out_is, room-long, unlent}
 use Rattle.calls.proofs.Texts.{named, prune_all_text_lem}
 use Rattle.join_keys.specs.Entries.{result}
 use Rattle.writer.proofs.Plans.{input}
-use Rattle.writer_parts.proofs.Over.{kept}
-use borrow.Author.Rules.{rules}
 use mathlib.Core.Path.{ap, sym}
 use native.Mathlib.Omega.{arith}
 use Rattle.calls.proofs.prune_all.Goals as goal

@@ -1,11 +1,9 @@
 -- `calls::read_request` meets its contract: the indices that were read stand in the array. Assumes nothing.
-use Prim.Native.Nat.{◌-◌, ◌≤◌}
-use Rattle.calls.proofs.Input.{counted, index_in, read_done, read_more}
+use Prim.Native.Nat.{◌≤◌}
+use Rattle.calls.proofs.Input.{counted, read_done, read_more}
 use Rattle.cpl.specs.Tests.{iota}
-use borrow.Author.Rules.{rules}
-use lib.ListN.{length, length-set, take}
-use mathlib.Core.List.{map}
-use mathlib.Core.Path.{◌∙◌, ◌≡◌, refl}
+use lib.ListN.{length, length-set}
+use mathlib.Core.Path.{◌∙◌, refl}
 use native.Mathlib.Omega.{arith}
 use Rattle.calls.proofs.read_request.Goals as goal
 

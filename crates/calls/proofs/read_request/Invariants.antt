@@ -1,12 +1,10 @@
 -- `calls::read_request` meets its contract: the indices that were read stand in the array. Assumes nothing.
 use Prim.Native.Nat.{◌-◌, ◌≤◌}
-use Rattle.calls.proofs.Input.{counted, index_in, read_done, read_more}
+use Rattle.calls.proofs.Input.{index_in}
 use Rattle.cpl.specs.Tests.{iota}
-use borrow.Author.Rules.{rules}
-use lib.ListN.{length, length-set, take}
+use lib.ListN.{length, take}
 use mathlib.Core.List.{map}
-use mathlib.Core.Path.{◌∙◌, ◌≡◌, refl}
-use native.Mathlib.Omega.{arith}
+use mathlib.Core.Path.{◌≡◌}
 use Rattle.calls.proofs.read_request.Given as goal
 
 abbrev pub invariant-loop-k : goal.invariant-loop-k

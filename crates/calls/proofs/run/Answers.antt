@@ -3,7 +3,6 @@ use Rattle.calls.proofs.Texts.{check-named, join-keys-named, list-named, list-pl
 use Rattle.join_key_set.proofs.Pairs.{rest}
 use Rattle.listing.proofs.Puts.{counts}
 use Rattle.writer.proofs.Plans.{input}
-use borrow.Author.Rules.{rules}
 use mathlib.Core.Path.{refl}
 use Rattle.calls.proofs.run.Goals as goal
 

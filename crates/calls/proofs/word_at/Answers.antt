@@ -1,6 +1,5 @@
 -- `calls::word_at` meets its contract. Assumes nothing.
 use Rattle.calls.proofs.Input.{word-is}
-use borrow.Author.Rules.{rules}
 use native.Mathlib.Omega.{arith}
 use Rattle.calls.proofs.word_at.Goals as goal
 

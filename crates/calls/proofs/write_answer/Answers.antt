@@ -1,7 +1,6 @@
 -- `calls::write_answer` meets its contract: the line, and then the bytes. Assumes nothing.
 use Rattle.calls.proofs.Texts.{answer-wrote}
 use Rattle.listing.proofs.Puts.{counts}
-use borrow.Author.Rules.{rules}
 use mathlib.Core.Path.{refl}
 use native.Mathlib.Omega.{arith}
 use Rattle.calls.proofs.write_answer.Goals as goal

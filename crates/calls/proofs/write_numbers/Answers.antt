@@ -2,7 +2,6 @@
 use Rattle.calls.proofs.Numbers.{numbers-wrote}
 use Rattle.listing.proofs.Digits.{short}
 use Rattle.writer_parts.proofs.Over.{room}
-use borrow.Author.Rules.{rules}
 use lib.ListN.{get_or}
 use native.Mathlib.Omega.{arith}
 use Rattle.calls.proofs.write_numbers.Goals as goal

@@ -1,7 +1,6 @@
 -- `calls::write_success` meets its contract. Assumes nothing.
 use Prim.Native.Nat.{◌≤◌, ℕ}
 use Rattle.calls.proofs.Input.{counted}
-use borrow.Author.Rules.{rules}
 use mathlib.Core.Path.{subst}
 use native.Mathlib.Omega.{arith}
 use Rattle.calls.proofs.write_success.Goals as goal

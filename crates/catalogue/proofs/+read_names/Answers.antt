@@ -1,6 +1,4 @@
 -- The proof of the cycle of calls {read_names}. The measure is the number of names. Assumes nothing.
-use Prim.Native.Nat.{ℕ, ◌<◌, ◌+◌, ◌-◌}
-use borrow.Author.Rules.{rules}
 use native.Mathlib.Omega.{arith}
 use mathlib.Core.Path.{◌∙◌}
 use lib.ListN.{length-set}

@@ -1,8 +1,6 @@
 -- `catalogue::clear_keys` meets its contract: the first t tables have none. Assumes nothing.
-use borrow.Author.Rules.{rules}
-use Prim.Native.Nat.{ℕ, ◌+◌, ◌-◌, ◌≤◌, ◌<◌}
-use Rattle.catalogue.proofs.Keys.{Cleared, cleared_more}
-use mathlib.Core.Path.{◌≡◌, refl}
+use Rattle.catalogue.proofs.Keys.{cleared_more}
+use mathlib.Core.Path.{refl}
 use native.Mathlib.Omega.{arith}
 use Rattle.catalogue.proofs.clear_keys.Goals as goal
 

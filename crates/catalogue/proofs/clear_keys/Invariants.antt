@@ -1,9 +1,6 @@
 -- `catalogue::clear_keys` meets its contract: the first t tables have none. Assumes nothing.
-use borrow.Author.Rules.{rules}
-use Prim.Native.Nat.{ℕ, ◌+◌, ◌-◌, ◌≤◌, ◌<◌}
-use Rattle.catalogue.proofs.Keys.{Cleared, cleared_more}
-use mathlib.Core.Path.{◌≡◌, refl}
-use native.Mathlib.Omega.{arith}
+use Prim.Native.Nat.{◌-◌}
+use Rattle.catalogue.proofs.Keys.{Cleared}
 use Rattle.catalogue.proofs.clear_keys.Given as goal
 
 abbrev pub invariant-loop-t : goal.invariant-loop-t

@@ -5,7 +5,6 @@ use Rattle.reader_parts.proofs.Counts.{from-any}
 use Rattle.catalogue.proofs.Keys.{counted-after-bad, counted-after-right, stands_none, tables_put}
 use Rattle.required_indices.proofs.Pads.{wide}
 use Rattle.versions.specs.Versions.{version_of}
-use borrow.Author.Rules.{rules}
 use mathlib.Core.List.{[]}
 use native.Mathlib.Omega.{arith}
 use Rattle.catalogue.proofs.read_all_keys.Goals as goal

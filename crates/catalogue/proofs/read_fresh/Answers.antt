@@ -2,8 +2,6 @@
 use Rattle.cpl.specs.Read.{fresh}
 use Rattle.reader_fields.proofs.Laws.{value-bad, value_no, value-ok}
 use Rattle.catalogue.proofs.Keys.{fresh-past, fresh-taken, fresh_yes}
-use Rattle.tree.proofs.Plans.{taken}
-use borrow.Author.Rules.{rules}
 use mathlib.Core.Path.{◌∙◌, sym}
 use Rattle.catalogue.proofs.read_fresh.Goals as goal
 

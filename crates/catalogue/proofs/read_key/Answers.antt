@@ -6,7 +6,6 @@ use Rattle.reader_parts.proofs.Counts.{from_some}
 use Rattle.catalogue.proofs.Keys.{key-bad, key-columns-bad, key-count-bad, key_right, stands_none}
 use Rattle.required_indices.proofs.Pads.{wide}
 use Rattle.versions.specs.Versions.{version_of}
-use borrow.Author.Rules.{rules}
 use mathlib.Core.List.{[]}
 use mathlib.Core.Path.{◌∙◌, sym}
 use native.Mathlib.Omega.{arith}

@@ -1,6 +1,5 @@
 -- `delivery::deliver` meets its contract: too large, or written out. Assumes nothing.
 use Rattle.delivery.proofs.Ends.{done-ends, large-ends, writes}
-use borrow.Author.Rules.{rules}
 use Rattle.delivery.proofs.deliver.Goals as goal
 
 pub returns-in_default : goal.returns-in_default

@@ -1,7 +1,6 @@
 -- `delivery::write_out` meets its contract: refused for its tags or for want of room, or written. Assumes nothing.
 use Rattle.delivery.proofs.Ends.{many_tags, no_room, whole_length, written_out}
 use Rattle.writer.proofs.Plans.{countable}
-use borrow.Author.Rules.{rules}
 use mathlib.Core.Path.{refl}
 use native.Mathlib.Omega.{arith}
 use Rattle.delivery.proofs.write_out.Goals as goal

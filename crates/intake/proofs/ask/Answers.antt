@@ -1,7 +1,5 @@
 -- `intake::ask` meets its contract: all fields, or the list's. Assumes nothing.
 use Rattle.intake.proofs.All.{ask-all, ask-none, ask-some}
-use Rattle.tree.proofs.Plans.{taken}
-use borrow.Author.Rules.{rules}
 use mathlib.Core.Path.{refl}
 use Rattle.intake.proofs.ask.Goals as goal
 

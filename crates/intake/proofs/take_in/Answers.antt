@@ -2,7 +2,6 @@
 use Rattle.acceptance.proofs.Ways.{few-asked}
 use Rattle.intake.proofs.Ways.{refused_file, requested_file}
 use Rattle.intake.specs.Intake.{wanted}
-use borrow.Author.Rules.{rules}
 use Rattle.intake.proofs.take_in.Goals as goal
 
 pub returns-then-checked-gt0 : goal.returns-then-checked-gt0

@@ -1,5 +1,4 @@
 -- `jobs::aggregate_job` meets its contract: laws of `Aggregates`. Assumes nothing.
-use borrow.Author.Rules.{rules}
 use mathlib.Core.Path.{sym, ◌∙◌}
 use Prim.Native.Nat.{◌+◌}
 use native.Mathlib.Omega.{arith}

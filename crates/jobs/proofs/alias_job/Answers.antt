@@ -1,5 +1,4 @@
 -- `jobs::alias_job` meets its contract: a law of `Plain`. Assumes nothing.
-use borrow.Author.Rules.{rules}
 use Rattle.jobs.proofs.Plain.{alias-one}
 use Rattle.jobs.proofs.alias_job.Goals as goal
 

@@ -1,5 +1,4 @@
 -- `jobs::distinct_job` meets its contract: a law of `Plain`. Assumes nothing.
-use borrow.Author.Rules.{rules}
 use Rattle.jobs.proofs.Plain.{distinct-one, row-long}
 use Rattle.jobs.proofs.distinct_job.Goals as goal
 

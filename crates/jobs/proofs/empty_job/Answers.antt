@@ -1,5 +1,4 @@
 -- `jobs::empty_job` meets its contract: a law of `Leaves`. Assumes nothing.
-use borrow.Author.Rules.{rules}
 use Rattle.jobs.proofs.Leaves.{empty_leaf}
 use Rattle.jobs.proofs.empty_job.Goals as goal
 

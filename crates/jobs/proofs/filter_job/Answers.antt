@@ -1,5 +1,4 @@
 -- `jobs::filter_job` meets its contract: a law of `Plain`. Assumes nothing.
-use borrow.Author.Rules.{rules}
 use Rattle.jobs.proofs.Plain.{filter-one}
 use Rattle.jobs.proofs.filter_job.Goals as goal
 

@@ -1,5 +1,4 @@
 -- `jobs::job_at` meets its contract: what is known at the node is a law of `Places`, and so is what each kind's job says of it. Assumes nothing.
-use borrow.Author.Rules.{rules}
 use mathlib.Core.Path.{refl}
 use Rattle.jobs.proofs.Places.{empty_at, empty-few, leaf_at, left-row, next_fits, one_at, one_below, one_key, one_posed, one_slot, parts, right-row, two_at, two_posed}
 use Rattle.jobs.proofs.job_at.Goals as goal

@@ -1,5 +1,4 @@
 -- `jobs::join_job` meets its contract: laws of `Inputs`. Assumes nothing.
-use borrow.Author.Rules.{rules}
 use Rattle.arena.specs.Cells.{expr_at}
 use Rattle.tree.specs.Rows.{ons_at}
 use Rattle.tree.specs.Tree.{if?}

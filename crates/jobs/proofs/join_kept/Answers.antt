@@ -1,5 +1,4 @@
 -- `jobs::join_kept` meets its contract: each type is a law of `Inputs`. Assumes nothing.
-use borrow.Author.Rules.{rules}
 use Rattle.jobs.proofs.Inputs.{joined-full, joined_inner, joined-left, joined-left_anti, joined-left_semi, joined-right, joined-right_anti, joined-right_semi}
 use Rattle.jobs.proofs.join_kept.Goals as goal
 

@@ -1,5 +1,4 @@
 -- `jobs::kept_of` meets its contract: laws of `Kept`. Assumes nothing.
-use borrow.Author.Rules.{rules}
 use Rattle.jobs.proofs.Kept.{kept-input, kept-own, kept_then, then_fits}
 use Rattle.jobs.proofs.kept_of.Goals as goal
 

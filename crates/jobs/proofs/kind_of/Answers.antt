@@ -1,5 +1,4 @@
 -- `jobs::kind_of` meets its contract: each variant by itself. Assumes nothing.
-use borrow.Author.Rules.{rules}
 use Rattle.jobs.proofs.kind_of.Goals as goal
 
 pub returns-in-Filter : goal.returns-in-Filter

@@ -1,5 +1,4 @@
 -- `jobs::limit_job` meets its contract: a law of `Plain`. Assumes nothing.
-use borrow.Author.Rules.{rules}
 use Rattle.jobs.proofs.Plain.{limit-one}
 use Rattle.jobs.proofs.limit_job.Goals as goal
 

@@ -1,5 +1,4 @@
 -- `jobs::scan_job` meets its contract: a law of `Leaves`. Assumes nothing.
-use borrow.Author.Rules.{rules}
 use Rattle.jobs.proofs.Leaves.{scan-leaf}
 use Rattle.jobs.proofs.scan_job.Goals as goal
 

@@ -1,5 +1,4 @@
 -- `jobs::side_ask` meets its contract: laws of `Inputs`. Assumes nothing.
-use borrow.Author.Rules.{rules}
 use Rattle.arena.specs.Cells.{expr_at}
 use Rattle.tree.specs.Rows.{ons_at}
 use Rattle.requests.proofs.Lists.{lefts_ok, ons_left, ons_right, rights_ok}

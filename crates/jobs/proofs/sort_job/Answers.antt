@@ -1,5 +1,4 @@
 -- `jobs::sort_job` meets its contract: a law of `Plain`. Assumes nothing.
-use borrow.Author.Rules.{rules}
 use Rattle.requests.proofs.Lists.{keys-ok, keys-roots}
 use Rattle.jobs.proofs.Plain.{sort-one}
 use Rattle.jobs.proofs.sort_job.Goals as goal

@@ -1,5 +1,4 @@
 -- `jobs::union_job` meets its contract: a law of `Inputs`. Assumes nothing.
-use borrow.Author.Rules.{rules}
 use Rattle.jobs.proofs.Inputs.{union-two}
 use Rattle.jobs.proofs.union_job.Goals as goal
 

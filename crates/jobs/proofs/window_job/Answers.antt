@@ -1,5 +1,4 @@
 -- `jobs::window_job` meets its contract: laws of `Windows`. Assumes nothing.
-use borrow.Author.Rules.{rules}
 use mathlib.Core.Path.{sym, ◌∙◌}
 use Rattle.tree.specs.Rows.{wins_at}
 use Rattle.jobs.proofs.Plain.{row-long, wins_long}

@@ -1,6 +1,5 @@
 -- `join_key_set::is_pair` meets its contract. Assumes nothing.
 use Rattle.join_key_set.proofs.Sets.{pair-both, pair-not}
-use borrow.Author.Rules.{rules}
 use Rattle.join_key_set.proofs.is_pair.Goals as goal
 
 pub returns-then-same_expr : goal.returns-then-same_expr

@@ -1,7 +1,6 @@
 -- `list_plan::list_narrow` meets its contract: the arrays are long enough for a narrow file. Assumes nothing.
 use Prim.Native.Nat.{ℕ}
 use Rattle.acceptance.proofs.Rooms.{narrow_room}
-use borrow.Author.Rules.{rules}
 use lib.ListN.{length-replicate}
 use Rattle.list_plan.proofs.list_narrow.Goals as goal
 

@@ -1,8 +1,6 @@
 -- `list_plan::list_over` meets its contract: refused, or listed. Assumes nothing.
 use Rattle.acceptance.proofs.Ways.{plan_in}
 use Rattle.list_plan.proofs.Ways.{accepted, counts, refused, walks}
-use Rattle.tree.proofs.Plans.{taken}
-use borrow.Author.Rules.{rules}
 use Rattle.list_plan.proofs.list_over.Goals as goal
 
 pub returns-then-checked-gt0 : goal.returns-then-checked-gt0

@@ -1,6 +1,5 @@
 -- `list_plan::list_plan_in` meets its contract: the arrays are long enough for every file. Assumes nothing.
 use Rattle.acceptance.proofs.Rooms.{wide_room}
-use borrow.Author.Rules.{rules}
 use Rattle.list_plan.proofs.list_plan_in.Goals as goal
 
 pub list_over-requires : goal.list_over-requires

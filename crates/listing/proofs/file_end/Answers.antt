@@ -1,6 +1,5 @@
 -- `listing::file_end` meets its contract. Assumes nothing.
 use Rattle.listing.proofs.Program.{cut, uncut}
-use borrow.Author.Rules.{rules}
 use native.Mathlib.Omega.{arith}
 use Rattle.listing.proofs.file_end.Goals as goal
 

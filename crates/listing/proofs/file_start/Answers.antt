@@ -1,7 +1,6 @@
 -- `listing::file_start` meets its contract. Assumes nothing.
 use Rattle.listing.proofs.Program.{no_file}
-use Rattle.writer.proofs.Plans.{input, taken}
-use borrow.Author.Rules.{rules}
+use Rattle.writer.proofs.Plans.{input}
 use native.Mathlib.Omega.{arith}
 use Rattle.listing.proofs.file_start.Goals as goal
 

@@ -4,7 +4,6 @@ use Rattle.acceptance.proofs.Ways.{plan_in}
 use Rattle.listing.proofs.Files.{listed, unlisted}
 use Rattle.listing.proofs.Nodes.{listable}
 use Rattle.listing.proofs.Puts.{counts}
-use borrow.Author.Rules.{rules}
 use mathlib.Core.Path.{◌∙◌}
 use native.Mathlib.Omega.{arith}
 use Rattle.listing.proofs.list_in.Goals as goal

@@ -1,7 +1,6 @@
 -- `listing::mask_in` meets its contract. Assumes nothing.
 use Rattle.listing.proofs.Program.{mask_is}
 use Rattle.writer.proofs.Plans.{input}
-use borrow.Author.Rules.{rules}
 use mathlib.Core.Path.{◌∙◌, refl}
 use Rattle.listing.proofs.mask_in.Goals as goal
 

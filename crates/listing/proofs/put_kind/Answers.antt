@@ -1,7 +1,6 @@
 -- `listing::put_kind` meets its contract. Assumes nothing.
 use Rattle.listing.proofs.Puts.{kind_put}
 use Rattle.listing.specs.Lines.{node_text}
-use borrow.Author.Rules.{rules}
 use mathlib.Core.Path.{ap}
 use Rattle.listing.proofs.put_kind.Goals as goal
 

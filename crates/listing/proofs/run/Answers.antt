@@ -1,7 +1,6 @@
 -- `listing::run` meets its contract: the settings, the file behind them, and what is printed of both. Assumes nothing.
 use Rattle.listing.proofs.Program.{program_printed}
 use Rattle.writer.proofs.Plans.{input}
-use borrow.Author.Rules.{rules}
 use Rattle.listing.proofs.run.Goals as goal
 
 pub returns : goal.returns

@@ -3,10 +3,6 @@ use Prim.Native.Nat.{ℕ}
 use Rattle.acceptance.proofs.Ways.{are_bytes}
 use Rattle.listing.proofs.Answers.{answer-fits, printed_listing, printed_refusal}
 use Rattle.listing.proofs.Puts.{counts}
-use Rattle.optimize_projections.proofs.Nodes.{left}
-use Rattle.writer.proofs.Plans.{taken}
-use Rattle.writer_parts.proofs.Over.{kept}
-use borrow.Author.Rules.{rules}
 use lib.ListN.{length-replicate}
 use lib.Seq.{length-take-le}
 use mathlib.Core.Path.{sym}

@@ -2,8 +2,6 @@
 use Rattle.listing.proofs.Digits.{short}
 use Rattle.listing.proofs.Puts.{kind_short, line_wrote}
 use Rattle.tree.proofs.Plans.{node}
-use Rattle.writer_parts.proofs.Over.{kept}
-use borrow.Author.Rules.{rules}
 use native.Mathlib.Omega.{arith}
 use Rattle.listing.proofs.write_line.Goals as goal
 

@@ -3,9 +3,6 @@ use Rattle.listing.proofs.Digits.{short}
 use Rattle.listing.proofs.Nodes.{lines_short}
 use Rattle.listing.proofs.Puts.{listing-wrote}
 use Rattle.catalogue.proofs.Names.{widths}
-use Rattle.rules.specs.Mask.{count_m}
-use Rattle.writer_parts.proofs.Over.{kept}
-use borrow.Author.Rules.{rules}
 use native.Mathlib.Omega.{arith}
 use Rattle.listing.proofs.write_listing.Goals as goal
 

@@ -1,8 +1,6 @@
 -- `listing::write_refused` meets its contract: five parts, one after the other. Assumes nothing.
 use Rattle.listing.proofs.Digits.{short}
 use Rattle.listing.proofs.Puts.{refused-wrote}
-use Rattle.writer_parts.proofs.Over.{kept}
-use borrow.Author.Rules.{rules}
 use native.Mathlib.Omega.{arith}
 use Rattle.listing.proofs.write_refused.Goals as goal
 

@@ -1,10 +1,8 @@
 -- `lookup::alias_fields` meets its contract: the fields so far, and those to come, are the list. Assumes nothing.
-use Prim.Native.Nat.{◌-◌}
 use Rattle.cpl.specs.Fields.{requalify}
 use Rattle.lookup.proofs.Lists.{list-map}
-use Rattle.lookup.proofs.Rows.{Fills, fills_all, fills_more, fills_none}
+use Rattle.lookup.proofs.Rows.{fills_all, fills_more, fills_none}
 use Rattle.lookup.specs.Fields.{field_at}
-use Rattle.tree.proofs.Plans.{taken}
 use Rattle.tree.specs.Rows.{one}
 use mathlib.Core.Path.{◌∙◌, ap, sym}
 use native.Mathlib.Omega.{arith}

@@ -1,16 +1,10 @@
 -- `lookup::clash_from` meets its contract: the fields passed do not clash, and their names are marked. Assumes nothing.
-use Prim.Native.Nat.{◌-◌, ◌≤◌, ℕ}
-use Rattle.cpl.specs.Accept.{clash, conflict}
-use Rattle.cpl.specs.Plan.{Pair}
-use Rattle.cpl.specs.Tests.{any_b}
-use Rattle.lookup.proofs.Clash.{clash_hit, clear-more}
-use Rattle.lookup.proofs.Marks.{marked_more}
+use Prim.Native.Nat.{◌-◌, ◌≤◌}
+use Rattle.cpl.specs.Accept.{clash}
 use Rattle.lookup.specs.Fields.{row_at}
 use Rattle.lookup.specs.Marks.{Marked}
-use borrow.Author.Rules.{rules}
 use mathlib.Core.Bool.{false}
-use mathlib.Core.Path.{◌∙◌, ◌≡◌, ap, refl, sym}
-use native.Mathlib.Omega.{arith}
+use mathlib.Core.Path.{◌≡◌}
 use Rattle.lookup.proofs.clash_from.Given as goal
 
 abbrev pub invariant-loop-i : goal.invariant-loop-i

@@ -1,10 +1,7 @@
 -- `lookup::conflicts` meets its contract: the answer so far is that for the fields passed. Assumes nothing.
-use Prim.Native.Nat.{◌-◌, ◌≤◌}
 use Rattle.cpl.specs.Accept.{conflict}
-use Rattle.cpl.specs.Tests.{any_b}
 use Rattle.lookup.proofs.Clash.{any-row-more, any-row-none}
-use Rattle.lookup.specs.Fields.{pair_of, row_at}
-use borrow.Author.Rules.{rules}
+use Rattle.lookup.specs.Fields.{pair_of}
 use mathlib.Core.Bool.{◌||◌}
 use mathlib.Core.Path.{◌∙◌, ◌≡◌, ap, ap₂}
 use native.Mathlib.Omega.{arith}

@@ -2,12 +2,8 @@
 use Prim.Native.Nat.{◌-◌, ◌≤◌}
 use Rattle.cpl.specs.Accept.{conflict}
 use Rattle.cpl.specs.Tests.{any_b}
-use Rattle.lookup.proofs.Clash.{any-row-more, any-row-none}
 use Rattle.lookup.specs.Fields.{pair_of, row_at}
-use borrow.Author.Rules.{rules}
-use mathlib.Core.Bool.{◌||◌}
-use mathlib.Core.Path.{◌∙◌, ◌≡◌, ap, ap₂}
-use native.Mathlib.Omega.{arith}
+use mathlib.Core.Path.{◌≡◌}
 use Rattle.lookup.proofs.conflicts.Given as goal
 
 abbrev pub invariant-loop-i : goal.invariant-loop-i

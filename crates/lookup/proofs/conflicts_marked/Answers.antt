@@ -1,5 +1,4 @@
 -- `lookup::conflicts_marked` meets its contract. Assumes nothing.
-use borrow.Author.Rules.{rules}
 use Rattle.lookup.proofs.Marks.{unmarked}
 use Rattle.lookup.proofs.conflicts_marked.Goals as goal
 

@@ -1,10 +1,7 @@
 -- `lookup::copy_fields` meets its contract: the fields so far, and those to come, are the list. Assumes nothing.
 use Prim.Native.Nat.{◌-◌}
-use Rattle.lookup.proofs.Rows.{Fills, fills_all, fills_more, fills_none}
+use Rattle.lookup.proofs.Rows.{Fills}
 use Rattle.lookup.specs.Fields.{field_at}
-use Rattle.tree.proofs.Plans.{taken}
-use mathlib.Core.Path.{◌∙◌}
-use native.Mathlib.Omega.{arith}
 use Rattle.lookup.proofs.copy_fields.Given as goal
 
 abbrev pub invariant-loop-i : goal.invariant-loop-i

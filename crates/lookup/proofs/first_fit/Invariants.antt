@@ -1,13 +1,8 @@
 -- `lookup::first_fit` meets its contract: no field that was passed fits. Assumes nothing.
 use Prim.Native.Nat.{◌-◌}
-use Rattle.cpl.proofs.Lookup.{fits-is}
-use Rattle.cpl.specs.Exprs.{fits}
 use Rattle.cpl.specs.Plan.{pair}
-use Rattle.lookup.proofs.Fits.{Sought, sought_all, sought_found, sought_more, sought_none}
+use Rattle.lookup.proofs.Fits.{Sought}
 use Rattle.lookup.specs.Fields.{field_at}
-use borrow.Author.Rules.{rules}
-use mathlib.Core.Path.{◌∙◌, ap, sym}
-use native.Mathlib.Omega.{arith}
 use Rattle.lookup.proofs.first_fit.Given as goal
 
 abbrev pub invariant-loop-i : goal.invariant-loop-i

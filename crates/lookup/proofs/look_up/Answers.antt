@@ -2,7 +2,6 @@
 use Rattle.cpl.specs.Plan.{pair}
 use Rattle.lookup.proofs.Fits.{answer_absent, found-more, found-one, found-own, hit}
 use Rattle.lookup.specs.Fields.{field_at}
-use borrow.Author.Rules.{rules}
 use native.Mathlib.Omega.{arith}
 use Rattle.lookup.proofs.look_up.Goals as goal
 

@@ -1,5 +1,4 @@
 -- `lookup::mark` meets its contract. Assumes nothing.
-use borrow.Author.Rules.{rules}
 use Rattle.lookup.proofs.Marks.{mark_set}
 use Rattle.lookup.proofs.mark.Goals as goal
 

@@ -1,8 +1,5 @@
 -- `lookup::mark_row` meets its contract: the names of the fields passed are marked. Assumes nothing.
-use Prim.Native.Nat.{◌-◌, ◌≤◌}
 use Rattle.lookup.proofs.Marks.{marked-none, marked_more}
-use Rattle.lookup.specs.Marks.{Marked}
-use borrow.Author.Rules.{rules}
 use mathlib.Core.Path.{◌≡◌}
 use native.Mathlib.Omega.{arith}
 use Rattle.lookup.proofs.mark_row.Goals as goal

@@ -1,6 +1,5 @@
 -- `lookup::put_field` meets its contract. Assumes nothing.
 use Rattle.lookup.proofs.Rows.{put_here, put_kept}
-use borrow.Author.Rules.{rules}
 use Rattle.lookup.proofs.put_field.Goals as goal
 
 pub returns : goal.returns

@@ -3,7 +3,6 @@ use Rattle.cpl.specs.Plan.{pair}
 use Rattle.lookup.proofs.Fits.{more-fit, no_fits, one-fits}
 use Rattle.lookup.proofs.Resolving.{column-more, column-none, column-one}
 use Rattle.lookup.specs.Fields.{left_row, right_row}
-use borrow.Author.Rules.{rules}
 use native.Mathlib.Omega.{arith}
 use Rattle.lookup.proofs.resolve_column.Goals as goal
 

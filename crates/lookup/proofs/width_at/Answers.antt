@@ -1,5 +1,4 @@
 -- `lookup::width_at` meets its contract. Assumes nothing.
-use borrow.Author.Rules.{rules}
 use mathlib.Core.Path.{sym}
 use lib.ListN.{get_or-eq_default}
 use Rattle.lookup.proofs.width_at.Goals as goal

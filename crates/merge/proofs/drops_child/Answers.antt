@@ -1,6 +1,5 @@
 -- `merge::drops_child` meets its contract. Assumes nothing.
-use borrow.Author.Rules.{rules}
-use mathlib.Core.Path.{◌≡◌, ap, ap₂}
+use mathlib.Core.Path.{ap, ap₂}
 use mathlib.Core.Bool.{not, ◌&&◌, ◌||◌}
 use Rattle.rules.specs.Merge.{drops_child}
 use Rattle.merge.proofs.drops_child.Goals as goal

@@ -1,8 +1,6 @@
 -- `merge::is_held` meets its contract. The invariant: no item that was passed stops the merge. Assumes nothing.
-use Prim.Native.Nat.{◌-◌}
 use Rattle.arena.proofs.Rows.{row_fits, row_ok}
-use Rattle.arena.specs.Rows.{items_at}
-use Rattle.merge.proofs.Steps.{Passed, passed_all, passed_held, passed_more, passed_none}
+use Rattle.merge.proofs.Steps.{passed_all, passed_held, passed_more, passed_none}
 use mathlib.Core.Path.{◌∙◌, sym}
 use native.Mathlib.Omega.{arith}
 use Rattle.merge.proofs.is_held.Goals as goal

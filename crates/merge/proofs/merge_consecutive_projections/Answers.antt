@@ -1,8 +1,6 @@
 -- `merge::merge_consecutive_projections` meets its contract: each way is a law of `Steps`. Assumes nothing.
-use borrow.Author.Rules.{rules}
-use mathlib.Core.Path.{◌≡◌, sym, ap, ◌∙◌}
+use mathlib.Core.Path.{sym, ap, ◌∙◌}
 use mathlib.Core.Option.{some}
-use Prim.Native.Nat.{ℕ, ◌+◌, ◌*◌, ◌<◌}
 use native.Mathlib.Omega.{arith}
 use Rattle.arena.proofs.Laws.{wf-none}
 use Rattle.merge.proofs.Steps.{listed_small, over-nodes, step-held, step-none, step_put, step_same, too_long_lem}

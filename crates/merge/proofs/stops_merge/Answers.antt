@@ -3,7 +3,6 @@ use Rattle.arena.proofs.Laws.{here, tag}
 use Rattle.arena.proofs.Rows.{read_wf}
 use Rattle.cpl.specs.Exprs.{known}
 use Rattle.merge.proofs.Steps.{stops_free, stops-is}
-use borrow.Author.Rules.{rules}
 use native.Mathlib.Omega.{arith}
 use Rattle.merge.proofs.stops_merge.Goals as goal
 

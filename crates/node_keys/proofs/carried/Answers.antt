@@ -1,7 +1,6 @@
 -- `node_keys::carried` meets its contract: by `seen_all`. Assumes nothing.
-use borrow.Author.Rules.{rules}
 use Rattle.node_keys.proofs.Founds.{carried_no, carried_yes}
-use mathlib.Core.Path.{◌≡◌, sym, ◌∙◌}
+use mathlib.Core.Path.{sym, ◌∙◌}
 use Rattle.node_keys.proofs.carried.Goals as goal
 
 pub returns-then-equals : goal.returns-then-equals

@@ -1,11 +1,9 @@
 -- `node_keys::found_columns` meets its contract: after i columns what was found is of these. Assumes nothing.
-use borrow.Author.Rules.{rules}
-use Prim.Native.Nat.{◌+◌, ◌-◌, ◌≤◌}
+use Prim.Native.Nat.{◌+◌}
 use Rattle.node_keys.proofs.Steps.{column-places, finds_all, finds_more, finds_none}
-use Rattle.node_keys.specs.Found.{Finds}
-use Rattle.tree.specs.Rows.{list_at, number_at, one}
+use Rattle.tree.specs.Rows.{number_at}
 use mathlib.Core.Option.{some}
-use mathlib.Core.Path.{◌≡◌, sym, ap, ◌∙◌}
+use mathlib.Core.Path.{ap}
 use native.Mathlib.Omega.{arith}
 use Rattle.node_keys.proofs.found_columns.Goals as goal
 

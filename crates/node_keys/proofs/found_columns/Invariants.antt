@@ -1,12 +1,8 @@
 -- `node_keys::found_columns` meets its contract: after i columns what was found is of these. Assumes nothing.
-use borrow.Author.Rules.{rules}
-use Prim.Native.Nat.{◌+◌, ◌-◌, ◌≤◌}
-use Rattle.node_keys.proofs.Steps.{column-places, finds_all, finds_more, finds_none}
+use Prim.Native.Nat.{◌-◌, ◌≤◌}
 use Rattle.node_keys.specs.Found.{Finds}
 use Rattle.tree.specs.Rows.{list_at, number_at, one}
 use mathlib.Core.Option.{some}
-use mathlib.Core.Path.{◌≡◌, sym, ap, ◌∙◌}
-use native.Mathlib.Omega.{arith}
 use Rattle.node_keys.proofs.found_columns.Given as goal
 
 abbrev pub invariant-loop-i : goal.invariant-loop-i

@@ -1,14 +1,8 @@
 -- `node_keys::found_items` meets its contract: after i items what was found is of these. Assumes nothing.
-use borrow.Author.Rules.{rules}
-use Prim.Native.Nat.{◌+◌, ◌-◌, ◌≤◌}
-use Rattle.arena.proofs.Rows.{read_expr_lem, read_wf, row_fits, row_ok}
-use Rattle.lookup.specs.Fields.{row_at}
-use Rattle.node_keys.proofs.Steps.{finds_all, finds_more, finds_none, item-places, item_place, place_in}
+use Prim.Native.Nat.{◌-◌, ◌≤◌}
+use Rattle.node_keys.proofs.Steps.{item_place}
 use Rattle.node_keys.specs.Found.{Finds}
-use Rattle.rules.specs.Keys.{field_place}
 use Rattle.tree.specs.Rows.{list_at, one}
-use mathlib.Core.Path.{◌≡◌, sym, ap, ◌∙◌}
-use native.Mathlib.Omega.{arith}
 use Rattle.node_keys.proofs.found_items.Given as goal
 
 abbrev pub invariant-loop-i : goal.invariant-loop-i

@@ -1,5 +1,4 @@
 -- `node_keys::input_key` meets its contract: the slot is the next node's. Assumes nothing.
-use borrow.Author.Rules.{rules}
 use Rattle.key_sets.specs.Slots.{slot_at}
 use mathlib.Core.Path.{ap, ◌∙◌}
 use native.Mathlib.Omega.{arith}

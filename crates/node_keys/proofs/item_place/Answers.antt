@@ -1,5 +1,4 @@
 -- `node_keys::item_place` meets its contract: by what the expression is. Assumes nothing.
-use borrow.Author.Rules.{rules}
 use Rattle.node_keys.proofs.Steps.{place-column, place-literal, place-missing, place-one, place-two}
 use mathlib.Core.Path.{refl}
 use Rattle.node_keys.proofs.item_place.Goals as goal

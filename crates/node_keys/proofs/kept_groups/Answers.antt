@@ -1,8 +1,7 @@
 -- `node_keys::kept_groups` meets its contract: with no key, with one that lacks a column, with one that is there. Assumes nothing.
-use borrow.Author.Rules.{rules}
 use Rattle.node_keys.proofs.Founds.{kept-asked, kept-lacking, kept_no_key}
 use Rattle.node_keys.proofs.Steps.{count-places}
-use mathlib.Core.Path.{◌≡◌, sym, ap, subst, ◌∙◌}
+use mathlib.Core.Path.{sym, ◌∙◌}
 use Rattle.node_keys.proofs.kept_groups.Goals as goal
 
 pub new_for_all_exprs-requires : goal.new_for_all_exprs-requires

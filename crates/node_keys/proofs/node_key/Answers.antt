@@ -1,5 +1,4 @@
 -- `node_keys::node_key` meets its contract: a law for each origin. Assumes nothing.
-use borrow.Author.Rules.{rules}
 use Rattle.node_keys.proofs.Nodes.{fields_in, input_slot, items_in, key-none, key-passes, key-projection, key-scan, numbers_fit, passed_slot, scan_in}
 use mathlib.Core.Path.{refl}
 use native.Mathlib.Omega.{arith}

@@ -1,8 +1,6 @@
 -- `node_keys::node_keys` meets its contract: from the last node to the first. Assumes nothing.
-use Prim.Native.Nat.{ℕ, ◌+◌, ◌-◌, ◌≤◌, ◌<◌}
-use Rattle.key_sets.specs.Slots.{PutKey}
-use Rattle.node_keys.proofs.Nodes.{Towards, towards_all, towards_asked, towards_more, towards_none}
-use mathlib.Core.Path.{◌≡◌, refl, ap, subst, ◌∙◌}
+use Prim.Native.Nat.{◌-◌}
+use Rattle.node_keys.proofs.Nodes.{towards_all, towards_asked, towards_more, towards_none}
 use native.Mathlib.Omega.{arith}
 use Rattle.node_keys.proofs.node_keys.Goals as goal
 

@@ -1,5 +1,4 @@
 -- `node_keys::none_found` meets its contract: no set has anything. Assumes nothing.
-use borrow.Author.Rules.{rules}
 use Rattle.node_keys.proofs.Founds.{found_none}
 use Rattle.node_keys.proofs.none_found.Goals as goal
 

@@ -1,5 +1,4 @@
 -- `node_keys::origin_of` meets its contract: each kind by itself. Assumes nothing.
-use borrow.Author.Rules.{rules}
 use Rattle.node_keys.proofs.origin_of.Goals as goal
 
 pub returns-in-Filter : goal.returns-in-Filter

@@ -1,5 +1,4 @@
 -- `node_keys::projection_key` meets its contract: by `carried`. Assumes nothing.
-use borrow.Author.Rules.{rules}
 use Rattle.node_keys.proofs.Founds.{empty-carried}
 use mathlib.Core.Path.{sym, ◌∙◌}
 use Rattle.node_keys.proofs.projection_key.Goals as goal

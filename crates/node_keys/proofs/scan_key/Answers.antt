@@ -1,14 +1,7 @@
 -- `node_keys::scan_key` meets its contract: all columns, or those that are given. Assumes nothing.
-use borrow.Author.Rules.{rules}
-use Rattle.cpl.specs.Plan.{scan}
-use Rattle.key_sets.specs.Slots.{KeySet}
-use Rattle.node_keys.proofs.Nodes.{key_as}
 use Rattle.node_keys.proofs.Scans.{scan_carries, scan-empty, scan-whole}
-use Rattle.rules.specs.Keys.{leaf_key}
-use Rattle.tree.specs.Rows.{columns_at}
-use Rattle.tree.specs.Tree.{if?}
 use mathlib.Core.Bool.{true, false}
-use mathlib.Core.Path.{◌≡◌, refl, sym, ap, subst, ◌∙◌}
+use mathlib.Core.Path.{sym, ◌∙◌}
 use Rattle.node_keys.proofs.scan_key.Goals as goal
 
 pub returns-then-is_empty : goal.returns-then-is_empty

@@ -1,8 +1,6 @@
 -- `node_keys::with_place` meets its contract: a case for each way. Assumes nothing.
-use borrow.Author.Rules.{rules}
 use Rattle.node_keys.proofs.Steps.{step-again, step_computed, step-first, step_other}
-use borrow.Author.Tests.{not-false, not-true}
-use mathlib.Core.Path.{◌≡◌, sym, ◌∙◌, refl}
+use mathlib.Core.Path.{sym, ◌∙◌, refl}
 use Rattle.node_keys.proofs.with_place.Goals as goal
 
 pub returns-in_default : goal.returns-in_default

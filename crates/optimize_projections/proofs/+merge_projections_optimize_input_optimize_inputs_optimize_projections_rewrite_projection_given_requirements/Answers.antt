@@ -12,9 +12,8 @@ use Rattle.projections.specs.declared.Selection.{Selection}
 use Rattle.walk_steps.specs.declared.End.{End}
 use Rattle.walk_steps.specs.declared.Walked.{Walked}
 use Rattle.requests.proofs.Rows.{row_below}
-use Prim.Native.Nat.{ℕ, ◌+◌, ◌*◌, ◌-◌, ◌<◌, ◌≤◌}
+use Prim.Native.Nat.{ℕ}
 use native.Mathlib.Omega.{arith}
-use borrow.Author.Rules.{rules}
 use Rattle.optimize_projections.proofs.+merge_projections_optimize_input_optimize_inputs_optimize_projections_rewrite_projection_given_requirements.Goals as goal
 
 -- of what is put for a list, the places may be said by what they are

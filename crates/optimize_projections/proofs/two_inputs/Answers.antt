@@ -1,6 +1,5 @@
 -- `optimize_projections::two_inputs` meets its contract. Assumes nothing.
-use mathlib.Core.Path.{refl, sym}
-use borrow.Author.Rules.{rules}
+use mathlib.Core.Path.{refl}
 use Rattle.optimize_projections.proofs.two_inputs.Goals as goal
 
 -- src/lib.rt:65:1

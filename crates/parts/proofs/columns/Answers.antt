@@ -1,6 +1,5 @@
 -- `parts::columns` meets its contract. Assumes nothing.
 use Rattle.parts.proofs.Tables.{table-length}
-use borrow.Author.Rules.{rules}
 use Rattle.parts.proofs.columns.Goals as goal
 
 pub returns : goal.returns

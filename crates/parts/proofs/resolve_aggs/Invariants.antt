@@ -3,12 +3,8 @@ use Prim.Native.Nat.{◌+◌, ◌-◌}
 use Rattle.cpl.specs.Accept.{each_passes}
 use Rattle.cpl.specs.Exprs.{agg_exprs}
 use Rattle.lookup.specs.Fields.{row_at}
-use Rattle.parts.proofs.Exprs.{agg_seen, each_at, each-room, seen_concat}
-use Rattle.parts.proofs.Strides.{Told, told_all, told_more, told_none}
+use Rattle.parts.proofs.Strides.{Told}
 use Rattle.tree.specs.Rows.{agg_at, one}
-use borrow.Author.Rules.{rules}
-use mathlib.Core.Path.{◌∙◌}
-use native.Mathlib.Omega.{arith}
 use Rattle.parts.proofs.resolve_aggs.Given as goal
 
 abbrev pub invariant-loop-i : goal.invariant-loop-i

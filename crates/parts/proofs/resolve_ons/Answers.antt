@@ -1,11 +1,7 @@
 -- `parts::resolve_ons` meets its contract: what both halves of the pairs passed find is told. Assumes nothing.
-use Prim.Native.Nat.{◌+◌, ◌-◌}
-use Rattle.cpl.specs.Accept.{on_passes}
 use Rattle.lookup.specs.Fields.{left_row, right_row}
 use Rattle.parts.proofs.Exprs.{each_at, each-room, on_seen}
-use Rattle.parts.proofs.Strides.{Told, told_all, told_more, told_none}
-use Rattle.tree.specs.Rows.{on_at, one}
-use borrow.Author.Rules.{rules}
+use Rattle.parts.proofs.Strides.{told_all, told_more, told_none}
 use native.Mathlib.Omega.{arith}
 use Rattle.parts.proofs.resolve_ons.Goals as goal
 

@@ -2,11 +2,8 @@
 use Prim.Native.Nat.{◌+◌, ◌-◌}
 use Rattle.cpl.specs.Accept.{on_passes}
 use Rattle.lookup.specs.Fields.{left_row, right_row}
-use Rattle.parts.proofs.Exprs.{each_at, each-room, on_seen}
-use Rattle.parts.proofs.Strides.{Told, told_all, told_more, told_none}
+use Rattle.parts.proofs.Strides.{Told}
 use Rattle.tree.specs.Rows.{on_at, one}
-use borrow.Author.Rules.{rules}
-use native.Mathlib.Omega.{arith}
 use Rattle.parts.proofs.resolve_ons.Given as goal
 
 abbrev pub invariant-loop-i : goal.invariant-loop-i

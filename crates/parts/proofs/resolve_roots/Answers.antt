@@ -1,13 +1,10 @@
 -- `parts::resolve_roots` meets its contract: what the expressions of the rows passed find is told. Assumes nothing.
-use Prim.Native.Nat.{◌+◌, ◌-◌, ℕ}
+use Prim.Native.Nat.{ℕ}
 use Rattle.arena.specs.Cells.{expr_at}
-use Rattle.arena.specs.Rows.{root_at}
 use Rattle.lookup.proofs.Resolving.{seen}
 use Rattle.lookup.specs.Fields.{row_at}
 use Rattle.parts.proofs.Exprs.{each_at, each-room}
-use Rattle.parts.proofs.Strides.{Told, told_all, told_more, told_none}
-use Rattle.tree.specs.Rows.{one}
-use borrow.Author.Rules.{rules}
+use Rattle.parts.proofs.Strides.{told_all, told_more, told_none}
 use mathlib.Core.Path.{◌∙◌, ap}
 use native.Mathlib.Omega.{arith}
 use Rattle.parts.proofs.resolve_roots.Goals as goal

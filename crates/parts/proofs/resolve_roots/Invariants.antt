@@ -1,15 +1,10 @@
 -- `parts::resolve_roots` meets its contract: what the expressions of the rows passed find is told. Assumes nothing.
-use Prim.Native.Nat.{◌+◌, ◌-◌, ℕ}
+use Prim.Native.Nat.{◌+◌, ◌-◌}
 use Rattle.arena.specs.Cells.{expr_at}
 use Rattle.arena.specs.Rows.{root_at}
-use Rattle.lookup.proofs.Resolving.{seen}
 use Rattle.lookup.specs.Fields.{row_at}
-use Rattle.parts.proofs.Exprs.{each_at, each-room}
-use Rattle.parts.proofs.Strides.{Told, told_all, told_more, told_none}
+use Rattle.parts.proofs.Strides.{Told}
 use Rattle.tree.specs.Rows.{one}
-use borrow.Author.Rules.{rules}
-use mathlib.Core.Path.{◌∙◌, ap}
-use native.Mathlib.Omega.{arith}
 use Rattle.parts.proofs.resolve_roots.Given as goal
 
 abbrev pub invariant-loop-i : goal.invariant-loop-i

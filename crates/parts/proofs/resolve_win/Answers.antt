@@ -1,6 +1,5 @@
 -- `parts::resolve_win` meets its contract. Assumes nothing.
 use Rattle.parts.proofs.Exprs.{keys-roots, win_seen}
-use borrow.Author.Rules.{rules}
 use Rattle.parts.proofs.resolve_win.Goals as goal
 
 pub resolve_call-call-requires : goal.resolve_call-call-requires

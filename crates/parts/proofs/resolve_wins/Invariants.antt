@@ -3,12 +3,8 @@ use Prim.Native.Nat.{◌-◌}
 use Rattle.cpl.specs.Accept.{each_passes}
 use Rattle.cpl.specs.Exprs.{win_exprs}
 use Rattle.lookup.specs.Fields.{row_at}
-use Rattle.parts.proofs.Exprs.{seen_concat}
-use Rattle.parts.proofs.Strides.{Told, all_here, all-next, all_whole, told_all, told_more, told_none}
+use Rattle.parts.proofs.Strides.{Told}
 use Rattle.tree.specs.Rows.{AllAt, WinOk, win_at, win_size}
-use borrow.Author.Rules.{rules}
-use mathlib.Core.Path.{◌∙◌, refl}
-use native.Mathlib.Omega.{arith}
 use Rattle.parts.proofs.resolve_wins.Given as goal
 
 abbrev pub invariant-loop-i : goal.invariant-loop-i

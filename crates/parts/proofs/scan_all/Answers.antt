@@ -1,11 +1,7 @@
 -- `parts::scan_all` meets its contract: the fields so far, and those to come, are the list. Assumes nothing.
-use Prim.Native.Nat.{◌-◌}
-use Rattle.cpl.specs.Fields.{scan_field}
-use Rattle.lookup.proofs.Rows.{Fills, fills_all, fills_more, fills_none}
+use Rattle.lookup.proofs.Rows.{fills_all, fills_more, fills_none}
 use Rattle.parts.proofs.Tables.{iota-list, scan-first}
 use Rattle.parts.specs.Catalogue.{table_at}
-use Rattle.tree.proofs.Plans.{taken}
-use borrow.Author.Rules.{rules}
 use mathlib.Core.Path.{◌∙◌}
 use native.Mathlib.Omega.{arith}
 use Rattle.parts.proofs.scan_all.Goals as goal

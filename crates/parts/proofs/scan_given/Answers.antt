@@ -1,12 +1,10 @@
 -- `parts::scan_given` meets its contract: the fields so far, and those to come, are the list. Assumes nothing.
-use Prim.Native.Nat.{◌-◌}
 use Rattle.cpl.specs.Fields.{scan_field}
 use Rattle.lookup.proofs.Lists.{list-map}
-use Rattle.lookup.proofs.Rows.{Fills, fills_all, fills_more, fills_none}
+use Rattle.lookup.proofs.Rows.{fills_all, fills_more, fills_none}
 use Rattle.parts.proofs.Exprs.{each_at, each-room}
 use Rattle.parts.proofs.Tables.{scan_read}
 use Rattle.parts.specs.Catalogue.{table_at}
-use Rattle.tree.proofs.Plans.{taken}
 use Rattle.tree.specs.Rows.{number_at, one}
 use mathlib.Core.Path.{◌∙◌, sym}
 use native.Mathlib.Omega.{arith}

@@ -1,11 +1,7 @@
 -- `parts::take_pairs` meets its contract: the fields so far, and those to come, are the list. Assumes nothing.
 use Prim.Native.Nat.{◌-◌}
 use Rattle.arena.specs.Rows.{pair_at}
-use Rattle.lookup.proofs.Rows.{Fills, fills_all, fills_more, fills_none}
-use Rattle.parts.proofs.Exprs.{each_at, each-room}
-use Rattle.tree.proofs.Plans.{taken}
-use mathlib.Core.Path.{◌∙◌}
-use native.Mathlib.Omega.{arith}
+use Rattle.lookup.proofs.Rows.{Fills}
 use Rattle.parts.proofs.take_pairs.Given as goal
 
 abbrev pub invariant-loop-i : goal.invariant-loop-i

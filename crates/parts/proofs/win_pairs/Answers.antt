@@ -1,11 +1,6 @@
 -- `parts::win_pairs` meets its contract: the fields so far, and those to come, are the list. Assumes nothing.
-use Prim.Native.Nat.{◌-◌}
-use Rattle.arena.specs.Rows.{pair_at}
 use Rattle.cpl.specs.Read.{ok}
-use Rattle.parts.proofs.Strides.{Strode, all_here, strode_all, strode_more, strode_none}
-use Rattle.parts.specs.Parts.{WinInside}
-use Rattle.tree.proofs.Plans.{taken}
-use Rattle.tree.specs.Rows.{list_at, win_size}
+use Rattle.parts.proofs.Strides.{all_here, strode_all, strode_more, strode_none}
 use mathlib.Core.Path.{◌∙◌}
 use native.Mathlib.Omega.{arith}
 use Rattle.parts.proofs.win_pairs.Goals as goal

@@ -3,7 +3,6 @@ use Rattle.cpl.specs.Read.{ok}
 use Rattle.join_key_set.proofs.Pairs.{ok-none}
 use Rattle.predicate_keys.proofs.Ways.{extracted, few-keys, keys_countable, keys_promised, many_extracted, room_for_keys, root-wf, some-node, unread}
 use Rattle.predicate_reader.proofs.Reading.{are_bytes}
-use borrow.Author.Rules.{rules}
 use native.Mathlib.Omega.{arith}
 use Rattle.predicate_keys.proofs.join_keys_in.Goals as goal
 

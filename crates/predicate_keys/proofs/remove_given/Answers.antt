@@ -3,7 +3,6 @@ use Rattle.join_key_set.proofs.Pairs.{in_ok, ok-none}
 use Rattle.join_keys.specs.Entries.{result}
 use Rattle.predicate_keys.proofs.Ways.{left-ok, left_out, many_given, none_in, room_for_left}
 use Rattle.rules.specs.Rules.{used}
-use borrow.Author.Rules.{rules}
 use native.Mathlib.Omega.{arith}
 use Rattle.predicate_keys.proofs.remove_given.Goals as goal
 

@@ -1,7 +1,6 @@
 -- `predicate_keys::without_keys_in` meets its contract. Assumes nothing.
 use Rattle.predicate_keys.proofs.Ways.{keys_unread, left_promised, left_unread, ready, removed, some-node}
 use Rattle.predicate_reader.proofs.Reading.{are_bytes}
-use borrow.Author.Rules.{rules}
 use native.Mathlib.Omega.{arith}
 use Rattle.predicate_keys.proofs.without_keys_in.Goals as goal
 

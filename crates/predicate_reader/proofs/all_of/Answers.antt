@@ -1,7 +1,5 @@
 -- `predicate_reader::all_of` meets its contract. Assumes nothing.
 use Rattle.predicate_reader.proofs.Reading.{all-bad, all_end, all_tail}
-use Rattle.tree.proofs.Plans.{taken}
-use borrow.Author.Rules.{rules}
 use Rattle.predicate_reader.proofs.all_of.Goals as goal
 
 pub returns-in_default : goal.returns-in_default

@@ -3,7 +3,6 @@ use Rattle.cpl.specs.Read.{any}
 use Rattle.join_keys.specs.Entries.{result}
 use Rattle.predicate_reader.proofs.Reading.{are_bytes, keys-bad, keys-done, keys_read}
 use Rattle.reader_parts.proofs.Counts.{from-any}
-use borrow.Author.Rules.{rules}
 use native.Mathlib.Omega.{arith}
 use Rattle.predicate_reader.proofs.read_keys.Goals as goal
 

@@ -1,7 +1,6 @@
 -- `predicate_reader::read_predicate` meets its contract. Assumes nothing.
 use Rattle.join_keys.specs.Entries.{result}
 use Rattle.predicate_reader.proofs.Reading.{are_bytes, predicate_read}
-use borrow.Author.Rules.{rules}
 use native.Mathlib.Omega.{arith}
 use Rattle.predicate_reader.proofs.read_predicate.Goals as goal
 

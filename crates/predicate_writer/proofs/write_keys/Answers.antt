@@ -3,7 +3,6 @@ use Rattle.writer_parts.proofs.Lent.{lent}
 use Rattle.join_keys.specs.Entries.{result}
 use Rattle.answers.proofs.Ends.{no_room}
 use Rattle.predicate_writer.proofs.Ends.{narrow, rows-bytes, rows_countable, rows-fine, written_out}
-use Rattle.tree.proofs.Plans.{taken}
 use Rattle.writer_parts.proofs.Over.{so}
 use Rattle.required_indices.specs.Request.{set_of}
 use Rattle.writer_parts.specs.Lists.{which}

@@ -1,8 +1,6 @@
 -- `predicate_writer::write_left` meets its contract. Assumes nothing.
 use Rattle.answers.proofs.Ends.{no_room}
 use Rattle.predicate_writer.proofs.Ends.{nothing-length, nothing_written, something_length, something_written, written_out}
-use Rattle.tree.proofs.Plans.{taken}
-use borrow.Author.Rules.{rules}
 use mathlib.Core.Path.{refl, sym}
 use native.Mathlib.Omega.{arith}
 use Rattle.predicate_writer.proofs.write_left.Goals as goal

@@ -1,6 +1,5 @@
 -- `projections::add_projection_on_top_if_helpful` meets its contract. Assumes nothing.
 use Rattle.projections.proofs.Tops.{topped_put, topped_stays}
-use borrow.Author.Rules.{rules}
 use native.Mathlib.Omega.{arith}
 use Rattle.projections.proofs.add_projection_on_top_if_helpful.Goals as goal
 

@@ -1,9 +1,7 @@
 -- `projections::copy_kept` meets its contract: the rows that are done are a `Listing`. Assumes nothing.
-use Prim.Native.Nat.{◌-◌}
 use Rattle.arena.proofs.Rows.{row_fits, row_ok}
 use Rattle.projections.proofs.Chosen.{found}
-use Rattle.projections.proofs.Copying.{Copying, copying_all, copying_dst, copying_few, copying_full, copying_more, copying_none, copying_room}
-use borrow.Author.Rules.{rules}
+use Rattle.projections.proofs.Copying.{copying_all, copying_dst, copying_few, copying_full, copying_more, copying_none, copying_room}
 use native.Mathlib.Omega.{arith}
 use Rattle.projections.proofs.copy_kept.Goals as goal
 

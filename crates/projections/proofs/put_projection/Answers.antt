@@ -1,6 +1,5 @@
 -- `projections::put_projection` meets its contract. Assumes nothing.
 use Rattle.projections.proofs.Tops.{columns_put, columns_stay, items_put}
-use borrow.Author.Rules.{rules}
 use mathlib.Core.Path.{◌∙◌, sym}
 use Rattle.projections.proofs.put_projection.Goals as goal
 

@@ -1,6 +1,5 @@
 -- `pruner::prune` meets its contract: a request of these fields, in arrays for the file. Assumes nothing.
 use Rattle.pruner.proofs.Entries.{of_these}
-use borrow.Author.Rules.{rules}
 use Rattle.pruner.proofs.prune.Goals as goal
 
 pub prune_narrow-requires : goal.prune_narrow-requires

@@ -1,6 +1,5 @@
 -- `pruner::prune_all` meets its contract: a request of all fields, in arrays for the file. Assumes nothing.
 use Rattle.pruner.proofs.Entries.{of_all}
-use borrow.Author.Rules.{rules}
 use Rattle.pruner.proofs.prune_all.Goals as goal
 
 pub prune_narrow-requires : goal.prune_narrow-requires

@@ -1,6 +1,5 @@
 -- `pruner::prune_in` meets its contract: the arrays are long enough for every file. Assumes nothing.
 use Rattle.acceptance.proofs.Rooms.{wide_room}
-use borrow.Author.Rules.{rules}
 use Rattle.pruner.proofs.prune_in.Goals as goal
 
 pub prune_over-requires : goal.prune_over-requires

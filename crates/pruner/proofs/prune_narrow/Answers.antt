@@ -5,7 +5,6 @@ use Rattle.acceptance.proofs.Ways.{are_bytes}
 use Rattle.intake.specs.Intake.{wanted}
 use Rattle.pruner.proofs.Ends.{high-mask, high_mode}
 use Rattle.pruner.proofs.Entries.{promised}
-use borrow.Author.Rules.{rules}
 use native.Mathlib.Omega.{arith}
 use Prim.Native.Nat.{ℕ}
 use lib.ListN.{length-replicate}

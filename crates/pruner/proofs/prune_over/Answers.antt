@@ -5,7 +5,6 @@ use Rattle.intake.specs.Intake.{wanted}
 use Rattle.pruner.proofs.Ends.{answered, high-mask, high_mode, refused_early, taken_in}
 use Rattle.pruner.proofs.Entries.{promised}
 use Rattle.pruner.proofs.Plans.{keys_start, walkable}
-use borrow.Author.Rules.{rules}
 use mathlib.Core.Path.{refl}
 use native.Mathlib.Omega.{arith}
 use Rattle.pruner.proofs.prune_over.Goals as goal

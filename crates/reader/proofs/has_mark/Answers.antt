@@ -1,6 +1,4 @@
 -- `has_mark` meets its contract. Assumes nothing.
-use borrow.Author.Rules.{rules}
-use native.Mathlib.Omega.{arith}
 use Rattle.reader.proofs.Files.{mark_short, mark_0, mark_1, mark_2, mark_3, mark_4, mark_yes}
 use Rattle.reader.proofs.has_mark.Goals as goal
 

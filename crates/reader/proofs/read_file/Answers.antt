@@ -1,6 +1,5 @@
 -- `read_file` meets its contract. Assumes nothing.
 use Rattle.reader.proofs.Files.{file_mark}
-use borrow.Author.Rules.{rules}
 use native.Mathlib.Omega.{arith}
 use Rattle.reader.proofs.read_file.Goals as goal
 

@@ -1,7 +1,5 @@
 -- `read_mark` meets its contract. Assumes nothing.
 use Rattle.reader.proofs.Files.{marked_1, marked_2, marked-none}
-use Rattle.tree.proofs.Plans.{taken}
-use borrow.Author.Rules.{rules}
 use Rattle.reader.proofs.read_mark.Goals as goal
 
 pub returns-then-has_mark : goal.returns-then-has_mark

@@ -5,7 +5,6 @@ use Rattle.reader.proofs.Files.{file_count, file_keys, file_right, file_tables}
 use Rattle.catalogue.proofs.Names.{catalogue_at, few-columns, widths}
 use Rattle.versions.proofs.Small.{small}
 use Rattle.versions.specs.Versions.{version_of}
-use borrow.Author.Rules.{rules}
 use mathlib.Core.List.{[]}
 use mathlib.Core.Path.{refl}
 use native.Mathlib.Omega.{arith}

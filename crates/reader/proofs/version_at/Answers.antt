@@ -1,6 +1,5 @@
 -- `version_at` meets its contract. Assumes nothing.
 use Rattle.reader.proofs.Files.{known_1, no_mark, same_mark}
-use borrow.Author.Rules.{rules}
 use Rattle.reader.proofs.version_at.Goals as goal
 
 pub returns-in-As : goal.returns-in-As

@@ -1,5 +1,4 @@
 -- `byte` meets its contract. Assumes nothing.
-use borrow.Author.Rules.{rules}
 use native.Mathlib.Omega.{arith}
 use mathlib.Core.Path.{refl}
 use Rattle.reader_fields.proofs.byte.Goals as goal

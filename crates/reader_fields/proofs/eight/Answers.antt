@@ -1,6 +1,4 @@
 -- `eight` meets its contract. Assumes nothing.
-use borrow.Author.Rules.{rules}
-use native.Mathlib.Omega.{arith}
 use Rattle.reader_fields.proofs.Laws.{eight_bytes}
 use Rattle.reader_fields.proofs.eight.Goals as goal
 

@@ -1,6 +1,4 @@
 -- `four` meets its contract. Assumes nothing.
-use borrow.Author.Rules.{rules}
-use native.Mathlib.Omega.{arith}
 use Rattle.reader_fields.proofs.Laws.{four_bytes}
 use Rattle.reader_fields.proofs.four.Goals as goal
 

@@ -1,6 +1,4 @@
 -- `number` meets its contract: each width by its own reader. Assumes nothing.
-use borrow.Author.Rules.{rules}
-use native.Mathlib.Omega.{arith}
 use Rattle.reader_fields.proofs.Laws.{one_byte}
 use Rattle.reader_fields.proofs.number.Goals as goal
 

@@ -1,6 +1,4 @@
 -- `read_column` meets its contract. Assumes nothing.
-use borrow.Author.Rules.{rules}
-use native.Mathlib.Omega.{arith}
 use Rattle.reader_fields.proofs.Exprs.{column-bad, column-ok}
 use Rattle.reader_fields.proofs.read_column.Goals as goal
 

@@ -1,5 +1,4 @@
 -- `read_count` meets its contract. Assumes nothing.
-use borrow.Author.Rules.{rules}
 use native.Mathlib.Omega.{arith}
 use Rattle.reader_fields.proofs.Laws.{count-bad, count-few, count_many, count-ok}
 use Rattle.reader_fields.proofs.read_count.Goals as goal

@@ -1,6 +1,4 @@
 -- `read_leaf` meets its contract. Assumes nothing.
-use borrow.Author.Rules.{rules}
-use native.Mathlib.Omega.{arith}
 use Rattle.reader_fields.proofs.Exprs.{leaf-column, leaf-literal, leaf-missing}
 use Rattle.reader_fields.proofs.read_leaf.Goals as goal
 

@@ -1,6 +1,4 @@
 -- `read_literal` meets its contract. Assumes nothing.
-use borrow.Author.Rules.{rules}
-use native.Mathlib.Omega.{arith}
 use Rattle.reader_fields.proofs.Exprs.{literal-bad, literal-ok}
 use Rattle.reader_fields.proofs.read_literal.Goals as goal
 

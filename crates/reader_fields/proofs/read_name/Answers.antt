@@ -1,6 +1,4 @@
 -- `read_name` meets its contract. Assumes nothing.
-use borrow.Author.Rules.{rules}
-use native.Mathlib.Omega.{arith}
 use Rattle.cpl.specs.Read.{is_not, nonzero}
 use Rattle.reader_fields.proofs.Laws.{value-bad, value_no, value-ok, is_zero, is-not}
 use Rattle.reader_fields.proofs.read_name.Goals as goal

@@ -1,5 +1,4 @@
 -- `read_number` meets its contract. Assumes nothing.
-use borrow.Author.Rules.{rules}
 use native.Mathlib.Omega.{arith}
 use Rattle.reader_fields.proofs.Laws.{field_cut, field-ok}
 use Rattle.reader_fields.proofs.read_number.Goals as goal

@@ -1,6 +1,4 @@
 -- `read_pair` meets its contract. Assumes nothing.
-use borrow.Author.Rules.{rules}
-use native.Mathlib.Omega.{arith}
 use Rattle.reader_fields.proofs.Laws.{pair-bad, pair-bad-name, pair_ok}
 use Rattle.reader_fields.proofs.read_pair.Goals as goal
 

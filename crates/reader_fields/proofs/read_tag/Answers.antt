@@ -1,5 +1,4 @@
 -- `read_tag` meets its contract. Assumes nothing.
-use borrow.Author.Rules.{rules}
 use native.Mathlib.Omega.{arith}
 use Rattle.reader_fields.proofs.Laws.{tag_cut, tag_many, tag-ok}
 use Rattle.reader_fields.proofs.read_tag.Goals as goal

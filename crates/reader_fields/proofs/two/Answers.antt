@@ -1,6 +1,4 @@
 -- `two` meets its contract. Assumes nothing.
-use borrow.Author.Rules.{rules}
-use native.Mathlib.Omega.{arith}
 use Rattle.reader_fields.proofs.Laws.{two_bytes}
 use Rattle.reader_fields.proofs.two.Goals as goal
 

@@ -1,9 +1,8 @@
 -- `read_aggregate` meets its contract. Assumes nothing.
-use borrow.Author.Rules.{rules}
 use native.Mathlib.Omega.{arith}
 use mathlib.Core.Path.{refl, ◌∙◌}
-use Rattle.cpl.specs.Read.{any, is_not}
-use Rattle.reader_parts.proofs.Counts.{from-any, from_some}
+use Rattle.cpl.specs.Read.{any}
+use Rattle.reader_parts.proofs.Counts.{from-any}
 use Prim.Native.Nat.{◌-◌}
 use lib.ListN.{length}
 use lib.Dec.{leb}

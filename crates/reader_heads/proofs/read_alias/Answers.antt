@@ -1,7 +1,4 @@
 -- `read_alias` meets its contract. Assumes nothing.
-use borrow.Author.Rules.{rules}
-use native.Mathlib.Omega.{arith}
-use mathlib.Core.Path.{refl}
 use Rattle.reader_heads.proofs.Heads.{alias-bad, alias-took}
 use Rattle.reader_heads.proofs.read_alias.Goals as goal
 

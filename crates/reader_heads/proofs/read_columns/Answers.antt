@@ -2,9 +2,7 @@
 use Rattle.cpl.specs.Read.{any}
 use Rattle.reader_heads.proofs.Heads.{columns-none, columns-right}
 use Rattle.reader_parts.proofs.Counts.{from-any}
-use Rattle.tree.proofs.Plans.{taken}
 use Rattle.versions.specs.Versions.{version_of}
-use borrow.Author.Rules.{rules}
 use Rattle.reader_heads.proofs.read_columns.Goals as goal
 
 pub returns-then-x-eq0 : goal.returns-then-x-eq0

@@ -1,7 +1,4 @@
 -- `read_cond` meets its contract. Assumes nothing.
-use borrow.Author.Rules.{rules}
-use native.Mathlib.Omega.{arith}
-use mathlib.Core.Path.{refl}
 use Rattle.reader_heads.proofs.Heads.{cond-bad, cond-none, cond-right}
 use Rattle.reader_heads.proofs.read_cond.Goals as goal
 

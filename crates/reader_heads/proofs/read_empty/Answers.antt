@@ -1,9 +1,8 @@
 -- `read_empty` meets its contract. Assumes nothing.
-use borrow.Author.Rules.{rules}
 use native.Mathlib.Omega.{arith}
 use mathlib.Core.Path.{refl}
-use Rattle.cpl.specs.Read.{any, is_not}
-use Rattle.reader_parts.proofs.Counts.{from-any, from_some}
+use Rattle.cpl.specs.Read.{any}
+use Rattle.reader_parts.proofs.Counts.{from-any}
 use Rattle.tree.specs.Layout.{pair_store, list_store}
 use Rattle.reader_heads.proofs.Heads.{moved, empty-bad, empty-bad-list, empty-took}
 use Rattle.reader_heads.proofs.read_empty.Goals as goal

@@ -1,7 +1,5 @@
 -- `read_head` meets its contract. Assumes nothing.
-use borrow.Author.Rules.{rules}
 use native.Mathlib.Omega.{arith}
-use mathlib.Core.Path.{refl}
 use Rattle.reader_heads.proofs.Heads.{head-version, union-took, distinct-took, head-value}
 use Rattle.reader_heads.specs.Heads.{in_version}
 use Rattle.versions.specs.Versions.{version_of}

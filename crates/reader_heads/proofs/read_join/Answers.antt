@@ -1,9 +1,8 @@
 -- `read_join` meets its contract. Assumes nothing.
-use borrow.Author.Rules.{rules}
 use native.Mathlib.Omega.{arith}
 use mathlib.Core.Path.{refl}
-use Rattle.cpl.specs.Read.{any, is_not}
-use Rattle.reader_parts.proofs.Counts.{from-any, from_some}
+use Rattle.cpl.specs.Read.{any}
+use Rattle.reader_parts.proofs.Counts.{from-any}
 use Rattle.tree.specs.Layout.{on_store, list_store}
 use Rattle.reader_parts.proofs.Compose.{took-rows}
 use Rattle.reader_heads.proofs.Heads.{moved, join-bad, join-bad-pairs, join-bad-cond, join-took}

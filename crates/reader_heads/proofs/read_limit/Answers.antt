@@ -1,7 +1,4 @@
 -- `read_limit` meets its contract. Assumes nothing.
-use borrow.Author.Rules.{rules}
-use native.Mathlib.Omega.{arith}
-use mathlib.Core.Path.{refl}
 use Rattle.reader_heads.proofs.Heads.{limit-bad, limit-bad_fetch, limit-took}
 use Rattle.reader_heads.proofs.read_limit.Goals as goal
 

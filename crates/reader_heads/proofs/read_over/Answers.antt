@@ -4,7 +4,6 @@ use Rattle.reader_heads.proofs.Heads.{few-columns, moved, over-bad, over-bad-col
 use Rattle.reader_heads.specs.Heads.{columns_store}
 use Rattle.reader_parts.proofs.Counts.{from-any}
 use Rattle.versions.specs.Versions.{version_of}
-use borrow.Author.Rules.{rules}
 use mathlib.Core.Path.{refl}
 use native.Mathlib.Omega.{arith}
 use Rattle.reader_heads.proofs.read_over.Goals as goal

@@ -1,12 +1,6 @@
 -- `read_scan` meets its contract. Assumes nothing.
-use borrow.Author.Rules.{rules}
 use native.Mathlib.Omega.{arith}
-use mathlib.Core.Path.{refl}
 use Prim.Native.Nat.{◌*◌}
-use lib.ListN.{length, get_or}
-use mathlib.Core.List.{[]}
-use Rattle.cpl.specs.Read.{below}
-use Rattle.reader_heads.specs.Heads.{scan_rest}
 use Rattle.reader_heads.proofs.Heads.{head_moved, scan-bad, scan-bad-name, scan-on}
 use Rattle.versions.specs.Versions.{version_of}
 use Rattle.reader_heads.proofs.read_scan.Goals as goal

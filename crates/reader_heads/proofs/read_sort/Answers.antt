@@ -1,9 +1,8 @@
 -- `read_sort` meets its contract. Assumes nothing.
-use borrow.Author.Rules.{rules}
 use native.Mathlib.Omega.{arith}
 use mathlib.Core.Path.{refl}
-use Rattle.cpl.specs.Read.{any, is_not}
-use Rattle.reader_parts.proofs.Counts.{from-any, from_some}
+use Rattle.cpl.specs.Read.{is_not}
+use Rattle.reader_parts.proofs.Counts.{from_some}
 use Rattle.reader_heads.proofs.Heads.{sort-bad, sort-took}
 use Rattle.reader_heads.proofs.read_sort.Goals as goal
 

@@ -1,9 +1,7 @@
 -- `read_window` meets its contract. Assumes nothing.
-use borrow.Author.Rules.{rules}
 use native.Mathlib.Omega.{arith}
-use mathlib.Core.Path.{refl}
-use Rattle.cpl.specs.Read.{any, is_not}
-use Rattle.reader_parts.proofs.Counts.{from-any, from_some}
+use Rattle.cpl.specs.Read.{is_not}
+use Rattle.reader_parts.proofs.Counts.{from_some}
 use Rattle.tree.specs.Layout.{win_store, list_store}
 use Rattle.reader_heads.proofs.Heads.{moved, window-bad, window-bad-list, window-took}
 use Rattle.reader_heads.proofs.read_window.Goals as goal

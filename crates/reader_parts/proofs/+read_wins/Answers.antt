@@ -1,6 +1,4 @@
 -- The proof of the cycle of calls {read_wins}. The measure is the number of windows. Assumes nothing.
-use Prim.Native.Nat.{ℕ, ◌<◌}
-use borrow.Author.Rules.{rules}
 use native.Mathlib.Omega.{arith}
 use Rattle.tree.specs.Layout.{win_store}
 use Rattle.cpl.specs.ReadExpr.{read_win}

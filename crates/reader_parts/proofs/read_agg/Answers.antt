@@ -1,5 +1,4 @@
 -- `read_agg` meets its contract. Assumes nothing.
-use borrow.Author.Rules.{rules}
 use native.Mathlib.Omega.{arith}
 use Rattle.reader_parts.proofs.Parts.{agg-bad, agg-right}
 use Rattle.reader_parts.proofs.read_agg.Goals as goal

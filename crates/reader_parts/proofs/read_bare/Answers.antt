@@ -1,5 +1,4 @@
 -- `read_bare` meets its contract. Assumes nothing.
-use borrow.Author.Rules.{rules}
 use native.Mathlib.Omega.{arith}
 use Rattle.reader_parts.proofs.Parts.{bare-bad, bare-took}
 use Rattle.reader_parts.proofs.read_bare.Goals as goal

@@ -1,6 +1,4 @@
 -- `read_call` meets its contract. Assumes nothing.
-use borrow.Author.Rules.{rules}
-use native.Mathlib.Omega.{arith}
 use Rattle.reader_parts.proofs.Parts.{call_none, call_right}
 use Rattle.reader_parts.proofs.read_call.Goals as goal
 

@@ -1,5 +1,4 @@
 -- `read_field` meets its contract. Assumes nothing.
-use borrow.Author.Rules.{rules}
 use native.Mathlib.Omega.{arith}
 use Rattle.reader_parts.proofs.Parts.{field-took}
 use Rattle.reader_parts.proofs.read_field.Goals as goal

@@ -1,5 +1,4 @@
 -- `read_index` meets its contract. Assumes nothing.
-use borrow.Author.Rules.{rules}
 use native.Mathlib.Omega.{arith}
 use Rattle.reader_fields.proofs.Laws.{narrow}
 use Rattle.reader_parts.proofs.Parts.{index-took}

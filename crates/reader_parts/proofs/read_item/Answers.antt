@@ -1,5 +1,4 @@
 -- `read_item` meets its contract. Assumes nothing.
-use borrow.Author.Rules.{rules}
 use native.Mathlib.Omega.{arith}
 use Rattle.reader_parts.proofs.Parts.{item-bad, item-value, item-is-bare, item-is-alias}
 use Rattle.reader_parts.proofs.read_item.Goals as goal

@@ -1,5 +1,4 @@
 -- `read_key` meets its contract. Assumes nothing.
-use borrow.Author.Rules.{rules}
 use native.Mathlib.Omega.{arith}
 use Rattle.reader_parts.proofs.Parts.{key-bad, key_right}
 use Rattle.reader_parts.proofs.read_key.Goals as goal

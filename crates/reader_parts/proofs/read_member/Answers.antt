@@ -1,5 +1,4 @@
 -- `read_member` meets its contract. Assumes nothing.
-use borrow.Author.Rules.{rules}
 use native.Mathlib.Omega.{arith}
 use Rattle.reader_fields.proofs.Exprs.{reads-grown}
 use Rattle.reader_parts.proofs.Parts.{expr_bad, member-took}

@@ -1,5 +1,4 @@
 -- `read_over` meets its contract. Assumes nothing.
-use borrow.Author.Rules.{rules}
 use native.Mathlib.Omega.{arith}
 use Rattle.cpl.specs.Read.{any}
 use mathlib.Core.Path.{refl}

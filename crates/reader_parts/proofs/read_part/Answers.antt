@@ -1,5 +1,4 @@
 -- `read_part` meets its contract. Assumes nothing.
-use borrow.Author.Rules.{rules}
 use native.Mathlib.Omega.{arith}
 use Rattle.reader_parts.proofs.read_part.Goals as goal
 

@@ -1,5 +1,4 @@
 -- `read_value` meets its contract. Assumes nothing.
-use borrow.Author.Rules.{rules}
 use native.Mathlib.Omega.{arith}
 use Rattle.cpl.specs.Plan.{pair}
 use Rattle.reader_parts.proofs.Parts.{value-bad, value_call_bad, value-took}

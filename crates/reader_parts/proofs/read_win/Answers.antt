@@ -1,5 +1,4 @@
 -- `read_win` meets its contract. Assumes nothing.
-use borrow.Author.Rules.{rules}
 use native.Mathlib.Omega.{arith}
 use Rattle.reader_parts.proofs.Wins.{win-bad, win-right}
 use Rattle.reader_parts.proofs.read_win.Goals as goal

@@ -1,6 +1,5 @@
 -- `request::all_fields` meets its contract. Assumes nothing.
 use Rattle.request.proofs.Steps.{all_asked}
-use borrow.Author.Rules.{rules}
 use Rattle.request.proofs.all_fields.Goals as goal
 
 pub returns : goal.returns

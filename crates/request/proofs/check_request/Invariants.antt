@@ -1,12 +1,8 @@
 -- `request::check_request` meets its contract: the indices passed are in order, below the width, and in the set. Assumes nothing.
 use Prim.Native.Nat.{◌-◌}
-use Rattle.request.proofs.Steps.{Taken, taken-all, taken_more, taken_none, too_high, too_low}
-use Rattle.request.specs.Requests.{RequestIs}
+use Rattle.request.proofs.Steps.{Taken}
 use Rattle.required_indices.specs.Request.{Lent}
-use borrow.Author.Rules.{rules}
 use lib.ListN.{length}
-use mathlib.Core.Path.{refl, subst, sym}
-use native.Mathlib.Omega.{arith}
 use Rattle.request.proofs.check_request.Given as goal
 
 abbrev pub invariant-loop-i : goal.invariant-loop-i

@@ -1,13 +1,12 @@
 -- The proof of the cycle of calls {add}. The measure is the node's number. Each case is a law of `Adding`. Assumes nothing.
-use borrow.Author.Rules.{rules}
-use mathlib.Core.Path.{◌≡◌, refl, sym, ap, ◌∙◌}
-use mathlib.Core.Option.{Option, some}
+use mathlib.Core.Path.{◌≡◌, refl, sym}
+use mathlib.Core.Option.{some}
 use mathlib.Core.List.{List}
-use Prim.Native.Nat.{ℕ, ◌+◌, ◌*◌, ◌<◌}
+use Prim.Native.Nat.{ℕ, ◌<◌}
 use native.Mathlib.Omega.{arith}
 use Rattle.arena.proofs.Laws.{operand}
 use Rattle.cpl.specs.Exprs.{find}
-use Rattle.cpl.specs.Plan.{Pair, pair}
+use Rattle.cpl.specs.Plan.{Pair}
 use Rattle.cpl.proofs.Lookup.{found_below}
 use Rattle.lookup.proofs.Lists.{list_length}
 use Rattle.lookup.specs.Fields.{field_at, row_at}

@@ -1,5 +1,4 @@
 -- `requests::split_join_requirements` meets its contract: each type is a law of `Parting`. Assumes nothing.
-use borrow.Author.Rules.{rules}
 use Rattle.requests.proofs.Parting.{parted_full, parted_inner, parted_left, parted_left_anti, parted_left_semi, parted_right, parted_right_anti, parted_right_semi}
 use Rattle.requests.proofs.split_join_requirements.Goals as goal
 

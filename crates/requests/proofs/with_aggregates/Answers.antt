@@ -1,17 +1,13 @@
 -- `requests::with_aggregates` meets its contract. The invariant: what is left to be added are the picked aggregates of the rest. Assumes nothing.
-use borrow.Author.Rules.{rules}
-use mathlib.Core.Logic.{⊎_elim}
-use mathlib.Core.Path.{◌≡◌, sym, ap, ◌∙◌}
-use Prim.Native.Nat.{ℕ, ◌+◌, ◌-◌, ◌<◌}
+use mathlib.Core.Path.{sym, ap, ◌∙◌}
+use Prim.Native.Nat.{◌+◌}
 use native.Mathlib.Omega.{arith}
 use Rattle.cpl.specs.Exprs.{agg_exprs}
 use Rattle.cpl.specs.Tests.{concat_map}
 use Rattle.rules.specs.Mask.{select}
-use Rattle.required_indices.specs.Request.{request_mask, set_of}
-use Rattle.tree.specs.Rows.{agg_at, aggs_at}
-use Rattle.lookup.specs.Fields.{row_at}
-use Rattle.lookup.proofs.Lists.{rest, rest_all, rest-next, rest-none}
-use Rattle.requests.proofs.Lists.{Picked, picked_all, picked_no, picked_none, picked_yes}
+use Rattle.required_indices.specs.Request.{request_mask}
+use Rattle.lookup.proofs.Lists.{rest_all, rest-next, rest-none}
+use Rattle.requests.proofs.Lists.{picked_all, picked_no, picked_none, picked_yes}
 use Rattle.requests.proofs.with_aggregates.Goals as goal
 use Rattle.requests.proofs.with_aggregates.Goals.{then-contains, else-contains}
 

@@ -1,17 +1,13 @@
 -- `requests::with_aggregates` meets its contract. The invariant: what is left to be added are the picked aggregates of the rest. Assumes nothing.
-use borrow.Author.Rules.{rules}
-use mathlib.Core.Logic.{⊎_elim}
-use mathlib.Core.Path.{◌≡◌, sym, ap, ◌∙◌}
-use Prim.Native.Nat.{ℕ, ◌+◌, ◌-◌, ◌<◌}
-use native.Mathlib.Omega.{arith}
+use Prim.Native.Nat.{◌-◌}
 use Rattle.cpl.specs.Exprs.{agg_exprs}
 use Rattle.cpl.specs.Tests.{concat_map}
 use Rattle.rules.specs.Mask.{select}
 use Rattle.required_indices.specs.Request.{request_mask, set_of}
 use Rattle.tree.specs.Rows.{agg_at, aggs_at}
 use Rattle.lookup.specs.Fields.{row_at}
-use Rattle.lookup.proofs.Lists.{rest, rest_all, rest-next, rest-none}
-use Rattle.requests.proofs.Lists.{Picked, picked_all, picked_no, picked_none, picked_yes}
+use Rattle.lookup.proofs.Lists.{rest}
+use Rattle.requests.proofs.Lists.{Picked}
 use Rattle.requests.proofs.with_aggregates.Given as goal
 
 abbrev pub invariant-loop-i : goal.invariant-loop-i

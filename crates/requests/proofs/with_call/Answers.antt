@@ -1,15 +1,12 @@
 -- `requests::with_call` meets its contract. Assumes nothing.
-use borrow.Author.Rules.{rules}
 use borrow.Author.Tests.{eq-eqb, ne_eqb}
-use mathlib.Core.Path.{◌≡◌, ap, sym, subst, ◌∙◌}
+use mathlib.Core.Path.{◌≡◌}
 use mathlib.Core.List.{[], ◌∷◌}
-use Prim.Native.Nat.{ℕ, ◌<◌}
+use Prim.Native.Nat.{ℕ}
 use native.Mathlib.Omega.{arith}
-use Rattle.cpl.specs.Codes.{fn_of}
 use Rattle.cpl.specs.Exprs.{call_exprs}
 use Rattle.cpl.specs.Plan.{Expr}
 use Rattle.tree.specs.Rows.{call_of}
-use Rattle.requests.specs.Asked.{Adds}
 use Rattle.requests.proofs.Adding.{adds_none}
 use Rattle.requests.proofs.with_call.Goals as goal
 

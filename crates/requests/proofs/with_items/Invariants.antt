@@ -1,20 +1,15 @@
 -- `requests::with_items` meets its contract. The invariant: what is left to be added are the picked items of the rest. Assumes nothing.
-use borrow.Author.Rules.{rules}
-use mathlib.Core.Logic.{⊎_elim}
-use mathlib.Core.Path.{◌≡◌, refl, sym, ◌∙◌}
+use mathlib.Core.Path.{◌≡◌}
 use mathlib.Core.List.{map}
-use Prim.Native.Nat.{ℕ, ◌+◌, ◌-◌, ◌<◌}
-use native.Mathlib.Omega.{arith}
+use Prim.Native.Nat.{◌-◌}
 use Rattle.cpl.specs.Plan.{item_expr}
 use Rattle.rules.specs.Mask.{select}
 use Rattle.required_indices.specs.Request.{Lent, flag_of, request_mask, set_of}
 use Rattle.arena.specs.Rows.{item_at, items_at}
-use Rattle.arena.proofs.Rows.{read_expr_lem, read_wf, row_fits, row_ok}
 use Rattle.lookup.specs.Fields.{row_at}
-use Rattle.lookup.proofs.Lists.{rest, rest-next, rest-none}
+use Rattle.lookup.proofs.Lists.{rest}
 use Rattle.requests.specs.Asked.{of_words}
-use Rattle.requests.proofs.Adding.{adds_words}
-use Rattle.requests.proofs.Lists.{Picked, item_only, items_picked, picked_all, picked_no, picked_none, picked_yes}
+use Rattle.requests.proofs.Lists.{Picked, item_only}
 use Rattle.requests.proofs.with_items.Given as goal
 
 abbrev pub invariant-loop-i : goal.invariant-loop-i

@@ -1,13 +1,9 @@
 -- `requests::with_roots` meets its contract. The invariant: what is left to be added is the rest of the list. Assumes nothing.
 use borrow.Author.Rules.{rules}
-use mathlib.Core.Path.{◌≡◌, refl, ap, ◌∙◌}
-use Prim.Native.Nat.{ℕ, ◌+◌, ◌*◌, ◌-◌, ◌<◌}
+use mathlib.Core.Path.{refl}
 use native.Mathlib.Omega.{arith}
-use Rattle.required_indices.specs.Request.{Lent, flag_of}
-use Rattle.lookup.specs.Fields.{row_at}
-use Rattle.requests.specs.Asked.{of_words}
 use Rattle.requests.proofs.Adding.{adds_words}
-use Rattle.requests.proofs.Lists.{Rooted, rooted_all, rooted_more, rooted_none}
+use Rattle.requests.proofs.Lists.{rooted_all, rooted_more, rooted_none}
 use Rattle.requests.proofs.with_roots.Goals as goal
 
 pub loop-i-init : goal.loop-i-init

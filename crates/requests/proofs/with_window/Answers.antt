@@ -1,8 +1,4 @@
 -- `requests::with_window` meets its contract: the function's columns, then the parts', then the keys'. Assumes nothing.
-use borrow.Author.Rules.{rules}
-use mathlib.Core.Path.{◌≡◌, sym, ap, ◌∙◌}
-use mathlib.Core.List.{map}
-use Prim.Native.Nat.{ℕ, ◌+◌, ◌*◌, ◌<◌}
 use native.Mathlib.Omega.{arith}
 use Rattle.cpl.specs.Exprs.{win_exprs}
 use Rattle.requests.proofs.Adding.{adds_then}

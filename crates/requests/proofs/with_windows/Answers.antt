@@ -1,16 +1,8 @@
 -- `requests::with_windows` meets its contract. The invariant: what is left to be added are the picked windows from row `at` on. Assumes nothing.
-use borrow.Author.Rules.{rules}
-use mathlib.Core.Logic.{⊎_elim}
-use mathlib.Core.Path.{◌≡◌, refl, sym, ap, subst, ◌∙◌}
-use Prim.Native.Nat.{ℕ, ◌+◌, ◌-◌, ◌<◌}
+use mathlib.Core.Path.{◌≡◌, sym, ◌∙◌}
+use Prim.Native.Nat.{◌-◌}
 use native.Mathlib.Omega.{arith}
-use Rattle.cpl.specs.Exprs.{win_exprs}
-use Rattle.cpl.specs.Tests.{concat_map}
-use Rattle.rules.specs.Mask.{select}
-use Rattle.required_indices.specs.Request.{request_mask, set_of}
-use Rattle.tree.specs.Rows.{AllAt, WinOk, win_at, win_size, wins_at}
-use Rattle.lookup.specs.Fields.{row_at}
-use Rattle.requests.proofs.Lists.{Picked, all_here, list-end, list-next, picked_all, picked_no, picked_none, picked_yes}
+use Rattle.requests.proofs.Lists.{all_here, list-end, list-next, picked_all, picked_no, picked_none, picked_yes}
 use Rattle.requests.proofs.with_windows.Goals as goal
 use Rattle.requests.proofs.with_windows.Goals.{then-contains, else-contains}
 

@@ -1,16 +1,12 @@
 -- `requests::with_windows` meets its contract. The invariant: what is left to be added are the picked windows from row `at` on. Assumes nothing.
-use borrow.Author.Rules.{rules}
-use mathlib.Core.Logic.{⊎_elim}
-use mathlib.Core.Path.{◌≡◌, refl, sym, ap, subst, ◌∙◌}
-use Prim.Native.Nat.{ℕ, ◌+◌, ◌-◌, ◌<◌}
-use native.Mathlib.Omega.{arith}
+use Prim.Native.Nat.{◌-◌}
 use Rattle.cpl.specs.Exprs.{win_exprs}
 use Rattle.cpl.specs.Tests.{concat_map}
 use Rattle.rules.specs.Mask.{select}
 use Rattle.required_indices.specs.Request.{request_mask, set_of}
-use Rattle.tree.specs.Rows.{AllAt, WinOk, win_at, win_size, wins_at}
+use Rattle.tree.specs.Rows.{AllAt, WinOk, win_size, wins_at}
 use Rattle.lookup.specs.Fields.{row_at}
-use Rattle.requests.proofs.Lists.{Picked, all_here, list-end, list-next, picked_all, picked_no, picked_none, picked_yes}
+use Rattle.requests.proofs.Lists.{Picked}
 use Rattle.requests.proofs.with_windows.Given as goal
 
 abbrev pub invariant-loop-i : goal.invariant-loop-i

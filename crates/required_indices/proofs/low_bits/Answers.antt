@@ -1,5 +1,4 @@
 -- `required_indices::low_bits` meets its contract.
-use borrow.Author.Rules.{rules}
 use native.Mathlib.Omega.{arith}
 use Prim.Native.Nat.{ℕ, ◌-◌, ◌^◌, min}
 use mathlib.Core.Path.{ap, ◌∙◌}

@@ -1,5 +1,4 @@
 -- `required_indices::word` meets its contract.
-use borrow.Author.Rules.{rules}
 use native.Mathlib.Omega.{arith}
 use mathlib.Core.Path.{sym}
 use lib.ListN.{take, length-take, get_or-eq_default}

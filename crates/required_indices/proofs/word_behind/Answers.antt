@@ -1,10 +1,8 @@
 -- `required_indices::word_behind` meets its contract.
-use borrow.Author.Rules.{rules}
 use native.Mathlib.Omega.{arith}
 use mathlib.Core.Path.{sym, ◌∙◌}
 use lib.ListN.{take}
 use Rattle.required_indices.proofs.Slides.{get_below, get_ahead}
-use borrow.Author.Rules.{rules}
 use Rattle.required_indices.proofs.word_behind.Goals as goal
 
 pub returns-then-k-up : goal.returns-then-k-up

@@ -1,7 +1,6 @@
 -- `result::push_record` meets its contract.
-use borrow.Author.Rules.{rules}
 use native.Mathlib.Omega.{arith}
-use mathlib.Core.Path.{◌≡◌, refl, sym, ◌∙◌}
+use mathlib.Core.Path.{refl, sym}
 use Rattle.result.proofs.Forms.{appended}
 use Rattle.result.proofs.push_record.Goals as goal
 

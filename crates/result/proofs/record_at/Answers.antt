@@ -1,5 +1,4 @@
 -- `result::record_at` meets its contract.
-use borrow.Author.Rules.{rules}
 use Rattle.result.proofs.Forms.{form_columns, form_items, form_kept, form_nothing}
 use Rattle.result.proofs.record_at.Goals as goal
 

@@ -1,5 +1,4 @@
 -- `shapes::empty_shape` meets its contract. Assumes nothing.
-use borrow.Author.Rules.{rules}
 use mathlib.Core.Path.{◌∙◌}
 use Rattle.cpl.specs.Codes.{bit}
 use Rattle.shapes.proofs.empty_shape.Goals as goal

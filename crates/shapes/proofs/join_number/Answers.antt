@@ -1,5 +1,4 @@
 -- `shapes::join_number` meets its contract. Assumes nothing.
-use borrow.Author.Rules.{rules}
 use Rattle.cpl.specs.Codes.{join_number}
 use Rattle.shapes.proofs.join_number.Goals as goal
 

@@ -1,5 +1,4 @@
 -- `shapes::join_shape` meets its contract. Assumes nothing.
-use borrow.Author.Rules.{rules}
 use native.Mathlib.Omega.{arith}
 use Rattle.shapes.proofs.Segments.{join-small}
 use Rattle.shapes.proofs.join_shape.Goals as goal

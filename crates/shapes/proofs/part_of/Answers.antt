@@ -1,5 +1,4 @@
 -- `shapes::part_of` meets its contract: the rest behind `from`, and what is below n of it. Assumes nothing.
-use borrow.Author.Rules.{rules}
 use mathlib.Core.Path.{ap, ◌∙◌}
 use Prim.Native.Nat.{ℕ, ◌%◌, ◌^◌}
 use Rattle.shapes.proofs.part_of.Goals as goal

@@ -1,5 +1,4 @@
 -- `shapes::scan_shape` meets its contract. Assumes nothing.
-use borrow.Author.Rules.{rules}
 use Rattle.shapes.proofs.scan_shape.Goals as goal
 
 pub returns-then-s : goal.returns-then-s

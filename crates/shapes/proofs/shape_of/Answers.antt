@@ -1,5 +1,4 @@
 -- `shapes::shape_of` meets its contract. Assumes nothing.
-use borrow.Author.Rules.{rules}
 use native.Mathlib.Omega.{arith}
 use mathlib.Core.Path.{◌∙◌}
 use Rattle.shapes.proofs.shape_of.Goals as goal

@@ -1,5 +1,4 @@
 -- `shapes::write_shape` meets its contract. Assumes nothing.
-use borrow.Author.Rules.{rules}
 use native.Mathlib.Omega.{arith}
 use Rattle.required_indices.specs.Request.{set_in}
 use mathlib.Core.Path.{refl}

@@ -1,6 +1,5 @@
 -- `simmerroof::simmerroof_join_keys` meets its contract: what `join_keys` answers, as three numbers. Assumes nothing.
 use Rattle.simmerroof.proofs.Numbers.{keys-numbers}
-use borrow.Author.Rules.{rules}
 use Rattle.simmerroof.proofs.simmerroof_join_keys.Goals as goal
 
 pub returns : goal.returns

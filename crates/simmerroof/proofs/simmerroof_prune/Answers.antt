@@ -1,6 +1,5 @@
 -- `simmerroof::simmerroof_prune` meets its contract: what `prune` answers, as three numbers. Assumes nothing.
 use Rattle.simmerroof.proofs.Numbers.{numbers}
-use borrow.Author.Rules.{rules}
 use Rattle.simmerroof.proofs.simmerroof_prune.Goals as goal
 
 pub returns : goal.returns

@@ -1,6 +1,5 @@
 -- `simmerroof::simmerroof_prune_all` meets its contract: what `prune_all` answers, as three numbers. Assumes nothing.
 use Rattle.simmerroof.proofs.Numbers.{numbers}
-use borrow.Author.Rules.{rules}
 use Rattle.simmerroof.proofs.simmerroof_prune_all.Goals as goal
 
 pub returns : goal.returns

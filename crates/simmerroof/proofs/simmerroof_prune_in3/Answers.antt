@@ -1,7 +1,6 @@
 -- `simmerroof::simmerroof_prune_in3` meets its contract: what `prune_in` answers of these fields, as three numbers. Assumes nothing.
 use Rattle.pruner.proofs.Entries.{of_these}
 use Rattle.simmerroof.proofs.Numbers.{numbers}
-use borrow.Author.Rules.{rules}
 use Rattle.simmerroof.proofs.simmerroof_prune_in3.Goals as goal
 
 pub returns : goal.returns

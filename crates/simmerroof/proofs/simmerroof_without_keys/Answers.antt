@@ -1,6 +1,5 @@
 -- `simmerroof::simmerroof_without_keys` meets its contract: what `without_keys` answers, as three numbers. Assumes nothing.
 use Rattle.simmerroof.proofs.Numbers.{keys-numbers}
-use borrow.Author.Rules.{rules}
 use Rattle.simmerroof.proofs.simmerroof_without_keys.Goals as goal
 
 pub returns : goal.returns

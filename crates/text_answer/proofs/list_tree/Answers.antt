@@ -2,9 +2,7 @@
 use Rattle.cpl.specs.Plan.{rows}
 use Rattle.text_answer.proofs.Listed.{listed, no_room}
 use Rattle.rules.specs.OwnTables.{nodes}
-use Rattle.tree.proofs.Plans.{taken}
 use Rattle.tree.specs.Tree.{lent, plan_at}
-use borrow.Author.Rules.{rules}
 use mathlib.Core.Path.{refl}
 use native.Mathlib.Omega.{arith}
 use Rattle.text_answer.proofs.list_tree.Goals as goal

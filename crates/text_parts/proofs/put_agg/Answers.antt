@@ -1,7 +1,6 @@
 -- `text_parts::put_agg` meets its contract. Assumes nothing.
 use Rattle.text_parts.proofs.Parts.{agg_put}
 use Rattle.tree.proofs.Plans.{node}
-use borrow.Author.Rules.{rules}
 use native.Mathlib.Omega.{arith}
 use Rattle.text_parts.proofs.put_agg.Goals as goal
 

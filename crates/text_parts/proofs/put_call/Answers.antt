@@ -1,7 +1,5 @@
 -- `text_parts::put_call` meets its contract. Assumes nothing.
 use Rattle.text_parts.proofs.Parts.{call_none, call_over_lem}
-use Rattle.tree.proofs.Plans.{taken}
-use borrow.Author.Rules.{rules}
 use native.Mathlib.Omega.{arith}
 use Rattle.text_parts.proofs.put_call.Goals as goal
 

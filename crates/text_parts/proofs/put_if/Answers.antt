@@ -1,7 +1,5 @@
 -- `text_parts::put_if` meets its contract. Assumes nothing.
 use Rattle.text_parts.proofs.Parts.{no_put, yes_put}
-use Rattle.tree.proofs.Plans.{taken}
-use borrow.Author.Rules.{rules}
 use Rattle.text_parts.proofs.put_if.Goals as goal
 
 pub returns-then-yes : goal.returns-then-yes

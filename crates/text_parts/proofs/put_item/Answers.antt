@@ -1,8 +1,6 @@
 -- `text_parts::put_item` meets its contract. Assumes nothing.
 use Rattle.arena.proofs.Rows.{read_wf}
 use Rattle.text_parts.proofs.Parts.{item-bare, item-named}
-use Rattle.tree.proofs.Plans.{taken}
-use borrow.Author.Rules.{rules}
 use Rattle.text_parts.proofs.put_item.Goals as goal
 
 -- LOST slice-aggregate-put-text : tie.Need-slice-aggregate-put-text

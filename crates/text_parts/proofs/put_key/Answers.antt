@@ -1,7 +1,6 @@
 -- `text_parts::put_key` meets its contract. Assumes nothing.
 use Rattle.text_parts.proofs.Parts.{key_put}
 use Rattle.tree.proofs.Plans.{node}
-use borrow.Author.Rules.{rules}
 use Rattle.text_parts.proofs.put_key.Goals as goal
 
 -- LOST slice-aggregate-put-if : tie.Need-slice-aggregate-put-if

@@ -2,9 +2,7 @@
 use Rattle.cpl.specs.Plan.{rows}
 use Rattle.text_parts.proofs.Parts.{first-ok, members-none, members-some, others-ok, part-inside}
 use Rattle.text_parts.specs.Parts.{PartOk, part_text}
-use Rattle.tree.proofs.Plans.{taken}
 use Rattle.tree.specs.Rows.{one}
-use borrow.Author.Rules.{rules}
 use native.Mathlib.Omega.{arith}
 use Rattle.text_parts.proofs.put_members.Goals as goal
 

@@ -1,14 +1,9 @@
 -- `text_parts::put_more` meets its contract: the rows from `row` on are left to be put. Assumes nothing.
-use Rattle.text_parts.proofs.Parts.{first-ok, more-done, more_turn, others-ok, part-inside}
-use Rattle.text_parts.specs.Parts.{PartOk, PartsOk, more_at, part_text}
-use Rattle.text_put.proofs.Laws.{begin}
+use Rattle.text_parts.specs.Parts.{PartsOk, more_at, part_text}
 use Rattle.text_put.specs.Puts.{Leads}
-use Rattle.tree.proofs.Plans.{taken}
 use Rattle.tree.specs.Rows.{one}
-use borrow.Author.Rules.{rules}
 use lib.ListN.{length}
-use mathlib.Core.Path.{◌≡◌, refl}
-use native.Mathlib.Omega.{arith}
+use mathlib.Core.Path.{◌≡◌}
 use Rattle.text_parts.proofs.put_more.Given as goal
 
 abbrev pub invariant-loop-left : goal.invariant-loop-left

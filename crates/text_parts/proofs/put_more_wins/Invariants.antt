@@ -1,14 +1,9 @@
 -- `text_parts::put_more_wins` meets its contract: the windows from `row` on are left to be put. Assumes nothing.
-use Rattle.text_parts.proofs.Parts.{first-ok, more-done, more_turn, others-ok}
 use Rattle.text_parts.specs.Parts.{WinsOk, more_at, win_text_at}
-use Rattle.text_put.proofs.Laws.{begin}
 use Rattle.text_put.specs.Puts.{Leads}
-use Rattle.tree.proofs.Plans.{taken}
-use Rattle.tree.specs.Rows.{WinOk, win_size}
-use borrow.Author.Rules.{rules}
+use Rattle.tree.specs.Rows.{win_size}
 use lib.ListN.{length}
-use mathlib.Core.Path.{◌≡◌, refl}
-use native.Mathlib.Omega.{arith}
+use mathlib.Core.Path.{◌≡◌}
 use Rattle.text_parts.proofs.put_more_wins.Given as goal
 
 abbrev pub invariant-loop-left : goal.invariant-loop-left

@@ -1,6 +1,5 @@
 -- `text_parts::put_on` meets its contract. Assumes nothing.
 use Rattle.text_parts.proofs.Parts.{on_put}
-use borrow.Author.Rules.{rules}
 use Rattle.text_parts.proofs.put_on.Goals as goal
 
 -- LOST slice-aggregate-put-text : tie.Need-slice-aggregate-put-text

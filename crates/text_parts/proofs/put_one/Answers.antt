@@ -2,7 +2,6 @@
 use Rattle.arena.proofs.Rows.{rest}
 use Rattle.cpl.specs.Codes.{op1_of}
 use Rattle.plan_text.specs.Write.{op1_text}
-use borrow.Author.Rules.{rules}
 use mathlib.Core.Path.{◌≡◌}
 use native.Mathlib.Omega.{arith}
 use Rattle.text_parts.proofs.put_one.Goals as goal

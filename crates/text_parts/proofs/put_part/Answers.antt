@@ -1,6 +1,5 @@
 -- `text_parts::put_part` meets its contract: by what the row holds. Assumes nothing.
 use Rattle.tree.proofs.Plans.{node}
-use borrow.Author.Rules.{rules}
 use Rattle.text_parts.proofs.put_part.Goals as goal
 
 pub put_item-requires : goal.put_item-requires

@@ -1,7 +1,6 @@
 -- `text_parts::put_win` meets its contract. Assumes nothing.
 use Rattle.text_parts.proofs.Parts.{each_all, members_put, win_put}
 use Rattle.tree.proofs.Plans.{node}
-use borrow.Author.Rules.{rules}
 use native.Mathlib.Omega.{arith}
 use Rattle.text_parts.proofs.put_win.Goals as goal
 

@@ -2,9 +2,7 @@
 use Rattle.cpl.specs.Plan.{rows}
 use Rattle.text_parts.proofs.Parts.{first-ok, members-none, members-some, others-ok}
 use Rattle.text_parts.specs.Parts.{win_text_at}
-use Rattle.tree.proofs.Plans.{taken}
 use Rattle.tree.specs.Rows.{WinOk, win_size}
-use borrow.Author.Rules.{rules}
 use native.Mathlib.Omega.{arith}
 use Rattle.text_parts.proofs.put_wins.Goals as goal
 

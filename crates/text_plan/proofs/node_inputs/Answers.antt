@@ -1,5 +1,4 @@
 -- `text_plan::node_inputs` meets its contract: by the kind of the node. Assumes nothing.
-use borrow.Author.Rules.{rules}
 use Rattle.text_plan.proofs.node_inputs.Goals as goal
 
 pub returns-in-Union : goal.returns-in-Union

@@ -1,7 +1,6 @@
 -- `text_plan::put_aggregate` meets its contract. Assumes nothing.
 use Rattle.text_parts.proofs.Parts.{each_all, rows_all}
 use Rattle.text_plan.proofs.Heads.{aggregate_put}
-use borrow.Author.Rules.{rules}
 use Rattle.text_plan.proofs.put_aggregate.Goals as goal
 
 -- LOST slice-aggregate-put-list : tie.Need-slice-aggregate-put-list

@@ -1,7 +1,6 @@
 -- `text_plan::put_alias` meets its contract. Assumes nothing.
 use Rattle.plan_text.specs.Write.{unary_text}
 use Rattle.text_put.proofs.Laws.{◌then◌}
-use borrow.Author.Rules.{rules}
 use Rattle.text_plan.proofs.put_alias.Goals as goal
 
 -- LOST slice-aggregate-put-text : tie.Need-slice-aggregate-put-text

@@ -2,8 +2,6 @@
 use Rattle.cpl.specs.Plan.{rows}
 use Rattle.text_parts.proofs.Parts.{each_all}
 use Rattle.text_plan.proofs.Heads.{columns-none, columns-some}
-use Rattle.tree.proofs.Plans.{taken}
-use borrow.Author.Rules.{rules}
 use Rattle.text_plan.proofs.put_columns.Goals as goal
 
 -- LOST slice-aggregate-put-text : tie.Need-slice-aggregate-put-text

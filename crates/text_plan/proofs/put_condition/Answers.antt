@@ -1,7 +1,5 @@
 -- `text_plan::put_condition` meets its contract. Assumes nothing.
 use Rattle.text_plan.proofs.Heads.{condition_none, condition_some}
-use Rattle.tree.proofs.Plans.{taken}
-use borrow.Author.Rules.{rules}
 use Rattle.text_plan.proofs.put_condition.Goals as goal
 
 -- LOST slice-aggregate-put-text : tie.Need-slice-aggregate-put-text

@@ -2,7 +2,6 @@
 use Rattle.cpl.specs.Plan.{rows}
 use Rattle.text_parts.proofs.Parts.{each_all}
 use Rattle.text_plan.proofs.Heads.{empty_put}
-use borrow.Author.Rules.{rules}
 use Rattle.text_plan.proofs.put_empty.Goals as goal
 
 -- LOST slice-aggregate-put-text : tie.Need-slice-aggregate-put-text

@@ -1,7 +1,5 @@
 -- `text_plan::put_fetch` meets its contract. Assumes nothing.
 use Rattle.text_plan.proofs.Heads.{fetch_none, fetch_some}
-use Rattle.tree.proofs.Plans.{taken}
-use borrow.Author.Rules.{rules}
 use Rattle.text_plan.proofs.put_fetch.Goals as goal
 
 -- LOST slice-aggregate-put-text : tie.Need-slice-aggregate-put-text

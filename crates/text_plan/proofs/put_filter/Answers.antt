@@ -1,7 +1,6 @@
 -- `text_plan::put_filter` meets its contract. Assumes nothing.
 use Rattle.plan_text.specs.Write.{unary_text}
 use Rattle.text_put.proofs.Laws.{◌then◌}
-use borrow.Author.Rules.{rules}
 use Rattle.text_plan.proofs.put_filter.Goals as goal
 
 -- LOST slice-aggregate-put-text : tie.Need-slice-aggregate-put-text

@@ -2,8 +2,6 @@
 use Rattle.cpl.specs.Plan.{rows}
 use Rattle.text_parts.proofs.Parts.{each_all}
 use Rattle.text_plan.proofs.Heads.{filters-none, filters-some}
-use Rattle.tree.proofs.Plans.{taken}
-use borrow.Author.Rules.{rules}
 use native.Mathlib.Omega.{arith}
 use Rattle.text_plan.proofs.put_filters.Goals as goal
 

@@ -5,7 +5,6 @@ use Rattle.plan_text.specs.Write.{binary_text, head_text, key_text, list_text, u
 use Rattle.text_parts.proofs.Parts.{each_all, rows_all}
 use Rattle.text_plan.proofs.Heads.{items_put, list_put}
 use Rattle.tree.specs.Rows.{key_at}
-use borrow.Author.Rules.{rules}
 use mathlib.Core.List.{◌++◌}
 use Rattle.text_plan.proofs.put_head.Goals as goal
 

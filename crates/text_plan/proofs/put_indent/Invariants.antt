@@ -1,13 +1,8 @@
 -- `text_plan::put_indent` meets its contract: the spaces of `left` levels are left to be put. Assumes nothing.
 use Rattle.plan_text.specs.Listing.{indent}
-use Rattle.text_plan.proofs.Heads.{indent-done, indent_turn}
-use Rattle.text_put.proofs.Laws.{begin}
 use Rattle.text_put.specs.Puts.{Leads}
-use Rattle.tree.proofs.Plans.{taken}
-use borrow.Author.Rules.{rules}
 use lib.ListN.{length}
-use mathlib.Core.Path.{◌≡◌, refl}
-use native.Mathlib.Omega.{arith}
+use mathlib.Core.Path.{◌≡◌}
 use Rattle.text_plan.proofs.put_indent.Given as goal
 
 abbrev pub invariant-loop-left : goal.invariant-loop-left

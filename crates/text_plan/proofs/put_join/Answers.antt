@@ -1,7 +1,6 @@
 -- `text_plan::put_join` meets its contract. Assumes nothing.
 use Rattle.text_parts.proofs.Parts.{each_all}
 use Rattle.text_plan.proofs.Heads.{join_put}
-use borrow.Author.Rules.{rules}
 use Rattle.text_plan.proofs.put_join.Goals as goal
 
 -- LOST slice-aggregate-put-text : tie.Need-slice-aggregate-put-text

@@ -1,6 +1,5 @@
 -- `text_plan::put_limit` meets its contract. Assumes nothing.
 use Rattle.text_plan.proofs.Heads.{limit_put}
-use borrow.Author.Rules.{rules}
 use Rattle.text_plan.proofs.put_limit.Goals as goal
 
 -- LOST slice-aggregate-put-text : tie.Need-slice-aggregate-put-text

@@ -1,6 +1,5 @@
 -- `text_plan::put_line` meets its contract. Assumes nothing.
 use Rattle.text_put.proofs.Laws.{◌then◌}
-use borrow.Author.Rules.{rules}
 use Rattle.text_plan.proofs.put_line.Goals as goal
 
 -- LOST slice-aggregate-put-text : tie.Need-slice-aggregate-put-text

@@ -1,6 +1,5 @@
 -- `text_plan::put_list` meets its contract. Assumes nothing.
 use Rattle.text_put.proofs.Laws.{◌then◌}
-use borrow.Author.Rules.{rules}
 use Rattle.text_plan.proofs.put_list.Goals as goal
 
 pub returns : goal.returns

@@ -1,7 +1,6 @@
 -- `text_plan::put_scan` meets its contract. Assumes nothing.
 use Rattle.text_plan.proofs.Heads.{scan_put}
 use Rattle.tree.proofs.Few.{room}
-use borrow.Author.Rules.{rules}
 use native.Mathlib.Omega.{arith}
 use Rattle.text_plan.proofs.put_scan.Goals as goal
 

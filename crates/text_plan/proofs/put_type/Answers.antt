@@ -1,6 +1,5 @@
 -- `text_plan::put_type` meets its contract: by the type. Assumes nothing.
 use Rattle.plan_text.specs.Write.{join_text}
-use borrow.Author.Rules.{rules}
 use Rattle.text_plan.proofs.put_type.Goals as goal
 
 -- LOST slice-aggregate-put-text : tie.Need-slice-aggregate-put-text

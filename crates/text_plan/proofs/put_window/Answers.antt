@@ -2,7 +2,6 @@
 use Rattle.plan_text.specs.Write.{list_text, unary_text}
 use Rattle.text_parts.proofs.Parts.{members_put}
 use Rattle.text_put.proofs.Laws.{◌then◌}
-use borrow.Author.Rules.{rules}
 use Rattle.text_plan.proofs.put_window.Goals as goal
 
 -- LOST slice-aggregate-put-text : tie.Need-slice-aggregate-put-text

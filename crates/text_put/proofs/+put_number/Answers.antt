@@ -1,7 +1,5 @@
 -- `text_put::put_number` meets its contract: a digit, or the digits before the last one and then that. Assumes nothing.
-use Prim.Native.Nat.{◌<◌, ℕ}
 use Rattle.text_put.proofs.Laws.{digit, digit_more}
-use borrow.Author.Rules.{rules}
 use native.Mathlib.Omega.{arith}
 use Rattle.text_put.proofs.+put_number.Goals as goal
 

@@ -1,6 +1,5 @@
 -- `text_put::put_byte` meets its contract: in the buffer, behind its end, behind the last place. Assumes nothing.
 use Rattle.text_put.proofs.Laws.{letter_in, letter_last, letter_out}
-use borrow.Author.Rules.{rules}
 use native.Mathlib.Omega.{arith}
 use Rattle.text_put.proofs.put_byte.Goals as goal
 

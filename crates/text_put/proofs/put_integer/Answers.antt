@@ -1,6 +1,5 @@
 -- `text_put::put_integer` meets its contract. Assumes nothing.
 use Rattle.text_put.proofs.Laws.{integer_neg, integer-pos}
-use borrow.Author.Rules.{rules}
 use native.Mathlib.Omega.{arith}
 use Rattle.text_put.proofs.put_integer.Goals as goal
 

@@ -1,6 +1,5 @@
 -- `text_put::put_pair` meets its contract. Assumes nothing.
 use Rattle.text_put.proofs.Laws.{pair-bare, pair-qualified}
-use borrow.Author.Rules.{rules}
 use native.Mathlib.Omega.{arith}
 use Rattle.text_put.proofs.put_pair.Goals as goal
 

@@ -1,11 +1,6 @@
 -- `text_put::put_text` meets its contract: the letters from i on are left to be put. Assumes nothing.
-use Prim.Native.Nat.{◌-◌, ◌≤◌}
-use Rattle.plan_text.specs.Write.{word}
 use Rattle.text_put.proofs.Laws.{begin, word-done, word_turn}
-use Rattle.text_put.specs.Puts.{Leads}
-use borrow.Author.Rules.{rules}
-use lib.ListN.{drop, length}
-use mathlib.Core.Path.{◌∙◌, ◌≡◌, refl}
+use mathlib.Core.Path.{◌∙◌, refl}
 use native.Mathlib.Omega.{arith}
 use Rattle.text_put.proofs.put_text.Goals as goal
 

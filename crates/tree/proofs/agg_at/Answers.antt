@@ -1,5 +1,4 @@
 -- `tree::agg_at` meets its contract. Assumes nothing.
-use borrow.Author.Rules.{rules}
 use Rattle.tree.proofs.Parts.{agg-is}
 use Rattle.tree.proofs.agg_at.Goals as goal
 

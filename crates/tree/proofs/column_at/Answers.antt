@@ -1,6 +1,5 @@
 -- `tree::column_at` meets its contract. Assumes nothing.
 use mathlib.Core.Path.{◌∙◌}
-use borrow.Author.Rules.{rules}
 use Rattle.tree.proofs.Parts.{number_is}
 use Rattle.tree.proofs.column_at.Goals as goal
 

@@ -1,5 +1,4 @@
 -- `tree::join_node` meets its contract. Assumes nothing.
-use borrow.Author.Rules.{rules}
 use Rattle.tree.specs.Node.{join_node}
 use Rattle.tree.proofs.join_node.Goals as goal
 

@@ -1,5 +1,4 @@
 -- `tree::key_at` meets its contract. Assumes nothing.
-use borrow.Author.Rules.{rules}
 use Rattle.tree.proofs.Parts.{key_is}
 use Rattle.tree.proofs.key_at.Goals as goal
 

@@ -1,6 +1,5 @@
 -- `tree::node_of` meets its contract: each kind by computing, and every kind from 12 on. Assumes nothing.
 use mathlib.Core.Path.{◌≡◌, sym, ap, ◌∙◌}
-use borrow.Author.Rules.{rules}
 use Prim.Native.Nat.{ℕ}
 use lib.Dec.{eqb}
 use Rattle.cpl.specs.Read.{pick}

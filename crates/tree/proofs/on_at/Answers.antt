@@ -1,5 +1,4 @@
 -- `tree::on_at` meets its contract. Assumes nothing.
-use borrow.Author.Rules.{rules}
 use Rattle.tree.proofs.Parts.{on-is}
 use Rattle.tree.proofs.on_at.Goals as goal
 

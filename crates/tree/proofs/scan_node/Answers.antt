@@ -1,6 +1,5 @@
 -- `tree::scan_node` meets its contract. Assumes nothing.
 use mathlib.Core.Path.{refl}
-use borrow.Author.Rules.{rules}
 use Rattle.tree.specs.Node.{scan_node}
 use Rattle.tree.proofs.scan_node.Goals as goal
 

@@ -1,5 +1,4 @@
 -- `tree::win_at` meets its contract. Assumes nothing.
-use borrow.Author.Rules.{rules}
 use Rattle.tree.proofs.Parts.{win-is}
 use Rattle.tree.proofs.win_at.Goals as goal
 

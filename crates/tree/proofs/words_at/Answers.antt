@@ -1,6 +1,5 @@
 -- `tree::words_at` meets its contract. Assumes nothing.
 use mathlib.Core.Path.{refl}
-use borrow.Author.Rules.{rules}
 use Rattle.tree.specs.Node.{words_at}
 use Rattle.tree.proofs.words_at.Goals as goal
 

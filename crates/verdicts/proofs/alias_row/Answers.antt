@@ -1,6 +1,5 @@
 -- `verdicts::alias_row` meets its contract. Assumes nothing.
 use Rattle.verdicts.proofs.Rowed.{row_new}
-use borrow.Author.Rules.{rules}
 use Rattle.verdicts.proofs.alias_row.Goals as goal
 
 pub returns : goal.returns

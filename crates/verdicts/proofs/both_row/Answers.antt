@@ -2,8 +2,6 @@
 use Rattle.verdicts.proofs.Rowed.{both_rowed, row-length, row-over, two-long}
 use Rattle.cpl.proofs.Clash.{clear_left}
 use Rattle.lookup.specs.Fields.{right_row}
-use Rattle.tree.proofs.Plans.{taken}
-use borrow.Author.Rules.{rules}
 use Rattle.verdicts.proofs.both_row.Goals as goal
 
 pub returns-then-most-width : goal.returns-then-most-width

@@ -2,7 +2,6 @@
 use Rattle.verdicts.proofs.References.{looked_at, looked_none, looked_one, looked_two}
 use Rattle.cpl.specs.Exprs.{leaf_exprs}
 use Rattle.cpl.specs.Plan.{rows}
-use borrow.Author.Rules.{rules}
 use mathlib.Core.Path.{refl}
 use Rattle.verdicts.proofs.input_sides.Goals as goal
 

@@ -1,7 +1,6 @@
 -- `verdicts::is_even` meets its contract. Assumes nothing.
 use Rattle.verdicts.specs.Nodes.{even_of}
 use Rattle.tree.specs.declared.Node.{Node}
-use borrow.Author.Rules.{rules}
 use mathlib.Core.Path.{ap, sym}
 use Rattle.verdicts.proofs.is_even.Goals as goal
 

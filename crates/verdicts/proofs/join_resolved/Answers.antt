@@ -3,7 +3,6 @@ use Rattle.verdicts.proofs.References.{join_with, join-without}
 use Rattle.arena.specs.Cells.{expr_at}
 use Rattle.lookup.specs.Fields.{left_row, right_row}
 use Rattle.tree.specs.Node.{join_is}
-use borrow.Author.Rules.{rules}
 use Rattle.verdicts.proofs.join_resolved.Goals as goal
 
 pub resolve_both-filter-requires : goal.resolve_both-filter-requires

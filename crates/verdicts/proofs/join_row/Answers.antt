@@ -5,7 +5,6 @@ use Rattle.cpl.specs.Fields.{join_fields}
 use Rattle.lookup.specs.Fields.{left_row, right_row}
 use Rattle.tree.specs.Node.{join_is}
 use Rattle.tree.specs.declared.JoinType.{JoinType}
-use borrow.Author.Rules.{rules}
 use mathlib.Core.Path.{ap, sym}
 use Rattle.verdicts.proofs.join_row.Goals as goal
 

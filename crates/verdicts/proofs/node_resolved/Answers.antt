@@ -8,7 +8,6 @@ use Rattle.lookup.specs.Answers.{resolving}
 use Rattle.lookup.specs.Fields.{left_row, right_row}
 use Rattle.parts.proofs.Exprs.{items_exprs, items-roots, keys_exprs, keys-roots, seen_append, seen_one}
 use Rattle.tree.proofs.Few.{room}
-use borrow.Author.Rules.{rules}
 use mathlib.Core.Path.{◌∙◌, ap}
 use native.Mathlib.Omega.{arith}
 use Rattle.verdicts.proofs.node_resolved.Goals as goal

@@ -7,7 +7,6 @@ use Rattle.cpl.specs.Plan.{rows}
 use Rattle.lookup.specs.Fields.{left_row, right_row}
 use Rattle.tree.proofs.Few.{room}
 use Rattle.tree.specs.Rows.{columns_at}
-use borrow.Author.Rules.{rules}
 use mathlib.Core.List.{◌++◌}
 use mathlib.Core.Path.{◌∙◌, ap}
 use native.Mathlib.Omega.{arith}

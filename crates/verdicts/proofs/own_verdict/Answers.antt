@@ -9,11 +9,9 @@ use Rattle.cpl.specs.Accept.{clash}
 use Rattle.cpl.specs.Plan.{rows}
 use Rattle.lookup.specs.Fields.{left_row, right_row}
 use Rattle.tree.proofs.Few.{room}
-use Rattle.tree.proofs.Plans.{node, taken}
+use Rattle.tree.proofs.Plans.{node}
 use Rattle.tree.proofs.Stored.{stored}
 use Rattle.tree.specs.Tree.{head_of}
-use borrow.Author.Rules.{rules}
-use borrow.Author.Tests.{not-false, not-true}
 use lib.ListN.{length-set}
 use mathlib.Core.List.{◌++◌}
 use mathlib.Core.Path.{◌∙◌, ap, ap₂, refl, sym}

@@ -3,9 +3,7 @@ use Rattle.verdicts.proofs.Rowed.{row_new, row-over}
 use Rattle.arena.specs.Rows.{pair_at}
 use Rattle.cpl.specs.Plan.{rows}
 use Rattle.lookup.proofs.Lists.{list_length}
-use Rattle.tree.proofs.Plans.{taken}
 use Rattle.tree.specs.Rows.{one}
-use borrow.Author.Rules.{rules}
 use mathlib.Core.Path.{sym}
 use Rattle.verdicts.proofs.pairs_row.Goals as goal
 

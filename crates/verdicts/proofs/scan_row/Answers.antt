@@ -4,9 +4,7 @@ use Rattle.verdicts.proofs.Rowed.{all_few, row_new, rowed_is}
 use Rattle.cpl.specs.Fields.{scan_field}
 use Rattle.cpl.specs.Plan.{rows}
 use Rattle.parts.specs.Catalogue.{table_at}
-use Rattle.tree.proofs.Plans.{taken}
 use Rattle.tree.specs.Rows.{columns_at}
-use borrow.Author.Rules.{rules}
 use mathlib.Core.List.{map}
 use mathlib.Core.Path.{ap}
 use native.Mathlib.Omega.{arith}

@@ -3,8 +3,6 @@ use Rattle.verdicts.proofs.References.{looked_none, looked_table, no_filters}
 use Rattle.verdicts.proofs.Rowed.{all_few}
 use Rattle.cpl.specs.Plan.{rows}
 use Rattle.tree.proofs.Few.{room}
-use Rattle.tree.proofs.Plans.{taken}
-use borrow.Author.Rules.{rules}
 use mathlib.Core.Path.{refl}
 use native.Mathlib.Omega.{arith}
 use Rattle.verdicts.proofs.table_sides.Goals as goal

@@ -5,9 +5,7 @@ use Rattle.cpl.proofs.Clash.{clear_left}
 use Rattle.cpl.specs.Plan.{rows}
 use Rattle.lookup.proofs.Lists.{list_length}
 use Rattle.tree.proofs.Few.{room}
-use Rattle.tree.proofs.Plans.{taken}
 use Rattle.tree.specs.Rows.{win_size}
-use borrow.Author.Rules.{rules}
 use native.Mathlib.Omega.{arith}
 use Rattle.verdicts.proofs.window_row.Goals as goal
 

@@ -2,7 +2,6 @@
 use Rattle.lookup.specs.Fields.{row_at}
 use Rattle.projections.specs.Lists.{kept_items}
 use Rattle.walk_steps.proofs.Ways.{columns_picked, items_picked, large_picked, rows_fit}
-use borrow.Author.Rules.{rules}
 use native.Mathlib.Omega.{arith}
 use Rattle.walk_steps.proofs.choose.Goals as goal
 

@@ -1,5 +1,4 @@
 -- `walk_steps::get_at_indices` meets its contract. Assumes nothing.
-use borrow.Author.Rules.{rules}
 use Rattle.walk_steps.proofs.get_at_indices.Goals as goal
 
 pub choose-requires : goal.choose-requires

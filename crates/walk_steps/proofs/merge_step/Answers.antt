@@ -1,6 +1,5 @@
 -- `walk_steps::merge_step` meets its contract. Assumes nothing.
 use Rattle.walk_steps.proofs.Ways.{merge_room}
-use borrow.Author.Rules.{rules}
 use Rattle.walk_steps.proofs.merge_step.Goals as goal
 
 pub merge_consecutive_projections-requires : goal.merge_consecutive_projections-requires

@@ -1,5 +1,4 @@
 -- `walk_steps::over` meets its contract. Assumes nothing.
-use borrow.Author.Rules.{rules}
 use mathlib.Core.Path.{refl}
 use Rattle.walk_steps.proofs.over.Goals as goal
 

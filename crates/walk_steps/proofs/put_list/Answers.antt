@@ -1,5 +1,4 @@
 -- `walk_steps::put_list` meets its contract. Assumes nothing.
-use borrow.Author.Rules.{rules}
 use mathlib.Core.Path.{refl}
 use Rattle.walk_steps.proofs.put_list.Goals as goal
 

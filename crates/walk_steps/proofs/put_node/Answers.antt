@@ -1,6 +1,5 @@
 -- `walk_steps::put_node` meets its contract. Assumes nothing.
 use Rattle.walk_steps.proofs.Ways.{left_for, node_put}
-use borrow.Author.Rules.{rules}
 use mathlib.Core.Path.{refl}
 use Rattle.walk_steps.proofs.put_node.Goals as goal
 

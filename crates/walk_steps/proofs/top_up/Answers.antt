@@ -1,6 +1,4 @@
 -- `walk_steps::top_up` meets its contract. Assumes nothing.
-use borrow.Author.Rules.{rules}
-use borrow.Author.Tests.{not-false, not-true}
 use mathlib.Core.Path.{refl}
 use Rattle.walk_steps.proofs.top_up.Goals as goal
 

@@ -1,5 +1,4 @@
 -- `writer::kids` meets its contract. Assumes nothing.
-use borrow.Author.Rules.{rules}
 use mathlib.Core.Path.{◌∙◌, sym}
 use Rattle.writer.proofs.kids.Goals as goal
 

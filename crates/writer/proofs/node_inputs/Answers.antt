@@ -1,5 +1,4 @@
 -- `writer::node_inputs` meets its contract. Assumes nothing.
-use borrow.Author.Rules.{rules}
 use mathlib.Core.Path.{◌∙◌}
 use Rattle.writer.proofs.node_inputs.Goals as goal
 

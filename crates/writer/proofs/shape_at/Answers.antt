@@ -1,5 +1,4 @@
 -- `writer::shape_at` meets its contract. Assumes nothing.
-use borrow.Author.Rules.{rules}
 use mathlib.Core.Path.{◌∙◌, sym}
 use Rattle.writer.proofs.shape_at.Goals as goal
 

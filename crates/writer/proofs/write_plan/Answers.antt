@@ -1,8 +1,6 @@
 -- `writer::write_plan` meets its contract. Assumes nothing.
-use Rattle.writer_parts.proofs.Over.{kept, part, start}
+use Rattle.writer_parts.proofs.Over.{part, start}
 use Rattle.writer.proofs.Plans.{copy_wrote, with_numbers}
-use borrow.Author.Rules.{rules}
-use mathlib.Core.Path.{sym}
 use native.Mathlib.Omega.{arith}
 use lib.Seq.{length-take-le}
 use Rattle.writer.proofs.write_plan.Goals as goal

@@ -1,6 +1,4 @@
 -- The proof of the cycle of calls {expr_size}. The measure is the node's number. Assumes nothing.
-use borrow.Author.Rules.{rules}
-use Prim.Native.Nat.{ℕ, ◌<◌}
 use native.Mathlib.Omega.{arith}
 use Rattle.arena.proofs.Laws.{lower}
 use Rattle.writer_parts.proofs.Exprs.{col-length, lit-length, miss-length, one-length, two-length, col-tags, lit-tags, miss-tags, one-tags, two-tags}

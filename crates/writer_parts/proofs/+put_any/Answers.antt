@@ -1,5 +1,4 @@
-use Prim.Native.Nat.{ℕ, ◌<◌, ◌-◌, ◌%◌}
-use borrow.Author.Rules.{rules}
+use Prim.Native.Nat.{◌-◌, ◌%◌}
 use native.Mathlib.Omega.{arith}
 use lib.ListN.{set, length-set}
 use Rattle.writer_parts.proofs.Over.{kept, fits, put_more, put_none}

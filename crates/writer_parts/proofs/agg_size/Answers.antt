@@ -1,5 +1,4 @@
 -- `writer_parts::agg_size` meets its contract. Assumes nothing.
-use borrow.Author.Rules.{rules}
 use native.Mathlib.Omega.{arith}
 use Rattle.writer_parts.proofs.Rows.{agg-length, agg-tags}
 use Rattle.writer_parts.proofs.agg_size.Goals as goal

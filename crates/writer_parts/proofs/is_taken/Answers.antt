@@ -1,5 +1,4 @@
 -- `writer_parts::is_taken` meets its contract. Assumes nothing.
-use borrow.Author.Rules.{rules}
 use Rattle.writer_parts.proofs.is_taken.Goals as goal
 
 pub contains-requires : goal.contains-requires

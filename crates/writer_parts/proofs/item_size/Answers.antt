@@ -1,5 +1,4 @@
 -- `writer_parts::item_size` meets its contract. Assumes nothing.
-use borrow.Author.Rules.{rules}
 use native.Mathlib.Omega.{arith}
 use Rattle.writer_parts.proofs.Rows.{bare-length, bare-tags, named-length, named-tags}
 use Rattle.arena.proofs.Rows.{read_wf}

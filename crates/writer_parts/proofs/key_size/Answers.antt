@@ -1,5 +1,4 @@
 -- `writer_parts::key_size` meets its contract. Assumes nothing.
-use borrow.Author.Rules.{rules}
 use native.Mathlib.Omega.{arith}
 use Rattle.writer_parts.proofs.Rows.{key-length, key-tags}
 use Rattle.writer_parts.proofs.key_size.Goals as goal

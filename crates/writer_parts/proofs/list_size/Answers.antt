@@ -1,14 +1,11 @@
 -- `writer_parts::list_size` meets its contract. Assumes nothing.
-use borrow.Author.Rules.{rules}
 use native.Mathlib.Omega.{arith}
 use mathlib.Core.List.{List}
 use mathlib.Core.Path.{refl}
-use Prim.Native.Nat.{ℕ, ◌+◌, ◌-◌, ◌≤◌}
-use lib.ListN.{length}
-use Rattle.writer_parts.specs.Wrote.{Counts}
+use Prim.Native.Nat.{ℕ, ◌+◌}
 use Rattle.writer_parts.specs.Parts.{part_bytes, part_tags}
 use Rattle.required_indices.specs.Request.{set_in}
-use Rattle.writer_parts.specs.Lists.{chosen, chosen_sum, takes, which}
+use Rattle.writer_parts.specs.Lists.{takes, which}
 use Rattle.writer_parts.proofs.Lists.{all-counts, cond-length, none-counts, sum_fits, turn_counts, turn_fits}
 use Rattle.writer_parts.proofs.list_size.Goals as goal
 

@@ -1,5 +1,4 @@
 -- `writer_parts::on_size` meets its contract. Assumes nothing.
-use borrow.Author.Rules.{rules}
 use native.Mathlib.Omega.{arith}
 use Rattle.writer_parts.proofs.Rows.{on-length, on-tags}
 use Rattle.writer_parts.proofs.on_size.Goals as goal

@@ -1,5 +1,4 @@
 -- `writer_parts::part_size` meets its contract. Assumes nothing.
-use borrow.Author.Rules.{rules}
 use Rattle.writer_parts.proofs.Rows.{field-length, field-tags, pair-length}
 use Rattle.writer_parts.proofs.Over.{length-bytes}
 use mathlib.Core.Path.{refl, sym}

@@ -1,5 +1,4 @@
 -- `writer_parts::put` meets its contract: each width by its own writer. Assumes nothing.
-use borrow.Author.Rules.{rules}
 use native.Mathlib.Omega.{arith}
 use Rattle.writer_parts.proofs.Over.{put_one}
 use Rattle.writer_parts.proofs.put.Goals as goal

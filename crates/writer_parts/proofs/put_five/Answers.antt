@@ -1,5 +1,4 @@
 -- `writer_parts::put_five` meets its contract: the first byte, and then the others. Assumes nothing.
-use borrow.Author.Rules.{rules}
 use native.Mathlib.Omega.{arith}
 use Prim.Native.Nat.{◌%◌}
 use lib.ListN.{length-set, set}

@@ -1,5 +1,4 @@
 -- `writer_parts::put_four` meets its contract: one half, and then the other. Assumes nothing.
-use borrow.Author.Rules.{rules}
 use mathlib.Core.Path.{refl}
 use Rattle.writer_parts.proofs.Over.{part, so, halves_of_four}
 use Rattle.writer_parts.proofs.put_four.Goals as goal

@@ -1,5 +1,4 @@
 -- `writer_parts::put_two` meets its contract. Assumes nothing.
-use borrow.Author.Rules.{rules}
 use Rattle.writer_parts.proofs.Over.{put_both}
 use Rattle.writer_parts.proofs.put_two.Goals as goal
 

@@ -1,5 +1,4 @@
 -- `writer_parts::taken_count` meets its contract. Assumes nothing.
-use borrow.Author.Rules.{rules}
 use Rattle.writer_parts.proofs.taken_count.Goals as goal
 
 pub len-requires : goal.len-requires

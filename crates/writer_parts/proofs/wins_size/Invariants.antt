@@ -1,9 +1,6 @@
 -- `writer_parts::wins_size` meets its contract. Assumes nothing.
-use borrow.Author.Rules.{rules}
-use native.Mathlib.Omega.{arith}
-use mathlib.Core.List.{List}
-use mathlib.Core.Path.{◌≡◌, refl, sym, ap, ◌∙◌}
-use Prim.Native.Nat.{ℕ, ◌+◌, ◌-◌, ◌≤◌}
+use mathlib.Core.Path.{◌≡◌}
+use Prim.Native.Nat.{◌-◌, ◌≤◌}
 use lib.ListN.{length}
 use Rattle.cpl.specs.Bytes.{win_bytes}
 use Rattle.cpl.specs.Exprs.{win_tags}
@@ -11,7 +8,6 @@ use Rattle.tree.specs.Rows.{win_at, win_size}
 use Rattle.required_indices.specs.Request.{set_in}
 use Rattle.writer_parts.specs.Lists.{chosen, chosen_sum, row_from, takes, which}
 use Rattle.writer_parts.specs.Wrote.{Counts}
-use Rattle.writer_parts.proofs.Lists.{all-counts, cond-length, none-counts, row_next, sum_fits, turn_counts, turn_fits}
 use Rattle.writer_parts.proofs.wins_size.Given as goal
 
 abbrev pub invariant-loop-i : goal.invariant-loop-i

@@ -1,5 +1,4 @@
 -- `writer_parts::write_agg` meets its contract. Assumes nothing.
-use borrow.Author.Rules.{rules}
 use native.Mathlib.Omega.{arith}
 use Rattle.writer_parts.proofs.Rows.{agg-length, agg-wrote}
 use Rattle.writer_parts.proofs.write_agg.Goals as goal

@@ -1,5 +1,4 @@
 -- `writer_parts::write_call` meets its contract. Assumes nothing.
-use borrow.Author.Rules.{rules}
 use native.Mathlib.Omega.{arith}
 use Rattle.arena.specs.Cells.{expr_at}
 use Rattle.writer_parts.proofs.Rows.{call_none, call_some}

@@ -1,5 +1,4 @@
 -- `writer_parts::write_counted` meets its contract. Assumes nothing.
-use borrow.Author.Rules.{rules}
 use native.Mathlib.Omega.{arith}
 use Rattle.required_indices.specs.Request.{set_in}
 use Rattle.writer_parts.specs.Lists.{list_bytes, taken_count, which}

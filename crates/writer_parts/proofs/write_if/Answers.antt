@@ -1,5 +1,4 @@
 -- `writer_parts::write_if` meets its contract. Assumes nothing.
-use borrow.Author.Rules.{rules}
 use Rattle.writer_parts.proofs.Over.{start}
 use Rattle.writer_parts.proofs.write_if.Goals as goal
 

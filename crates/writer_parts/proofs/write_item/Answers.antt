@@ -1,5 +1,4 @@
 -- `writer_parts::write_item` meets its contract. Assumes nothing.
-use borrow.Author.Rules.{rules}
 use native.Mathlib.Omega.{arith}
 use Rattle.writer_parts.proofs.Rows.{bare-length, bare-wrote, named-length, named-wrote}
 use Rattle.arena.proofs.Rows.{read_wf}

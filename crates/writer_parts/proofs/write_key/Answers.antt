@@ -1,5 +1,4 @@
 -- `writer_parts::write_key` meets its contract. Assumes nothing.
-use borrow.Author.Rules.{rules}
 use native.Mathlib.Omega.{arith}
 use Rattle.writer_parts.proofs.Rows.{key-length, key-wrote}
 use Rattle.writer_parts.proofs.write_key.Goals as goal

@@ -1,14 +1,9 @@
 -- `writer_parts::write_list` meets its contract. Assumes nothing.
-use borrow.Author.Rules.{rules}
-use native.Mathlib.Omega.{arith}
-use mathlib.Core.List.{List}
-use Prim.Native.Nat.{ℕ, ◌+◌, ◌-◌, ◌≤◌}
+use Prim.Native.Nat.{◌+◌, ◌-◌, ◌≤◌}
 use Rattle.writer_parts.specs.Wrote.{Wrote}
 use Rattle.writer_parts.specs.Parts.{part_bytes}
 use Rattle.required_indices.specs.Request.{set_in}
 use Rattle.writer_parts.specs.Lists.{chosen, takes, which}
-use Rattle.writer_parts.proofs.Lists.{turn, turn_all, turn_fits, turn_none, upto-length}
-use Rattle.writer_parts.proofs.Over.{kept}
 use Rattle.writer_parts.proofs.write_list.Given as goal
 
 abbrev pub invariant-loop-i : goal.invariant-loop-i

@@ -1,5 +1,4 @@
 -- `writer_parts::write_on` meets its contract. Assumes nothing.
-use borrow.Author.Rules.{rules}
 use native.Mathlib.Omega.{arith}
 use Rattle.writer_parts.proofs.Rows.{on-length, on-wrote}
 use Rattle.writer_parts.proofs.write_on.Goals as goal

@@ -1,5 +1,4 @@
 -- `writer_parts::write_part` meets its contract. Assumes nothing.
-use borrow.Author.Rules.{rules}
 use native.Mathlib.Omega.{arith}
 use Rattle.writer_parts.proofs.Rows.{field-length, field-wrote, number-wrote, pair-length, pair-wrote}
 use Rattle.writer_parts.proofs.Over.{length-bytes}

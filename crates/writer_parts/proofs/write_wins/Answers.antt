@@ -1,14 +1,12 @@
 -- `writer_parts::write_wins` meets its contract. Assumes nothing.
-use borrow.Author.Rules.{rules}
 use native.Mathlib.Omega.{arith}
 use mathlib.Core.List.{List}
-use mathlib.Core.Path.{◌≡◌, refl, sym, ap, ◌∙◌}
-use Prim.Native.Nat.{ℕ, ◌+◌, ◌-◌, ◌≤◌}
+use mathlib.Core.Path.{refl, sym, ap, ◌∙◌}
+use Prim.Native.Nat.{ℕ, ◌+◌}
 use Rattle.cpl.specs.Bytes.{win_bytes}
 use Rattle.tree.specs.Rows.{win_at, win_size}
 use Rattle.required_indices.specs.Request.{set_in}
-use Rattle.writer_parts.specs.Lists.{chosen, row_from, takes, which}
-use Rattle.writer_parts.specs.Wrote.{Wrote}
+use Rattle.writer_parts.specs.Lists.{row_from, takes, which}
 use Rattle.writer_parts.proofs.Lists.{row_next, turn, turn_all, turn_fits, turn_none, upto-length}
 use Rattle.writer_parts.proofs.Over.{kept}
 use Rattle.writer_parts.proofs.write_wins.Goals as goal

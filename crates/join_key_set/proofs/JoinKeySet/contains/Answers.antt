@@ -1,8 +1,6 @@
 -- `join_key_set::JoinKeySet::contains` meets its contract: the pairs passed are others. Assumes nothing.
-use Prim.Native.Nat.{◌-◌}
-use Rattle.arena.specs.Cells.{expr_at}
 use Rattle.join_key_set.proofs.Pairs.{key-inside, read_wf}
-use Rattle.join_key_set.proofs.Sets.{Sought, sought_all, sought_mirror, sought_more, sought_none, sought_pair}
+use Rattle.join_key_set.proofs.Sets.{sought_all, sought_mirror, sought_more, sought_none, sought_pair}
 use native.Mathlib.Omega.{arith}
 use Rattle.join_key_set.proofs.JoinKeySet.contains.Goals as goal
 

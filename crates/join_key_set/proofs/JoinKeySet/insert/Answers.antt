@@ -1,7 +1,6 @@
 -- `join_key_set::JoinKeySet::insert` meets its contract. Assumes nothing.
 use Rattle.join_key_set.proofs.Pairs.{behind-refl, put_behind, put_in}
 use Rattle.join_key_set.proofs.Sets.{insert_65th, insert-known, insert_new}
-use borrow.Author.Rules.{rules}
 use native.Mathlib.Omega.{arith}
 use Rattle.join_key_set.proofs.JoinKeySet.insert.Goals as goal
 

@@ -1,10 +1,8 @@
 -- `join_key_set::JoinKeySet::insert_all` meets its contract: the pairs are worked in one after the other. Assumes nothing.
 use Prim.Native.Nat.{ℕ, ◌-◌}
-use Rattle.join_key_set.proofs.Fold.{Work, all_folds, work_65th, work_all, work_in, work_inside, work_more, work_none, work_ok, work_room, work_wf}
+use Rattle.join_key_set.proofs.Fold.{Work}
 use Rattle.join_key_set.specs.Pairs.{KeysIn, keys_at}
 use Rattle.join_keys.specs.Keys.{insert_all}
-use borrow.Author.Rules.{rules}
-use native.Mathlib.Omega.{arith}
 use Rattle.join_key_set.proofs.JoinKeySet.insert_all.Given as goal
 
 abbrev pub invariant-loop-i : goal.invariant-loop-i

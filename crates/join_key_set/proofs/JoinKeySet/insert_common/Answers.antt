@@ -2,7 +2,6 @@
 use Rattle.join_key_set.proofs.Pairs.{behind-refl}
 use Rattle.join_key_set.proofs.Sets.{common_no, common_yes}
 use Rattle.join_keys.specs.Entries.{result}
-use borrow.Author.Rules.{rules}
 use Rattle.join_key_set.proofs.JoinKeySet.insert_common.Goals as goal
 
 pub contains-requires : goal.contains-requires

@@ -1,9 +1,5 @@
 -- `join_key_set::JoinKeySet::insert_intersection` meets its contract: the pairs are worked in one after the other. Assumes nothing.
-use Prim.Native.Nat.{◌-◌}
-use Rattle.join_key_set.proofs.Fold.{Work, common_folds, work_65th, work_all, work_inside, work_keys, work_more, work_none, work_ok, work_other, work_room, work_wf}
-use Rattle.join_key_set.specs.Pairs.{keys_at}
-use Rattle.join_keys.specs.Keys.{insert_intersection}
-use borrow.Author.Rules.{rules}
+use Rattle.join_key_set.proofs.Fold.{common_folds, work_65th, work_all, work_inside, work_keys, work_more, work_none, work_ok, work_other, work_room, work_wf}
 use native.Mathlib.Omega.{arith}
 use Rattle.join_key_set.proofs.JoinKeySet.insert_intersection.Goals as goal
 

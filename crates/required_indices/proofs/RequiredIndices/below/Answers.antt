@@ -1,16 +1,15 @@
 -- `required_indices::RequiredIndices::below` meets its contract.
 use borrow.Author.Rules.{rules}
 use native.Mathlib.Omega.{arith}
-use Prim.Native.Nat.{ℕ, ◌-◌, ◌*◌}
+use Prim.Native.Nat.{ℕ}
 use mathlib.Core.Path.{◌≡◌, refl, sym, ap, ◌∙◌}
 use lib.ListN.{length, take, length-take}
 use lib.Seq.{get_or-take}
 use Rattle.required_indices.specs.Words.{number}
-use Rattle.required_indices.specs.Request.{words_n, words_of, flag_of}
-use Rattle.required_indices.proofs.Loops.{Filled}
+use Rattle.required_indices.specs.Request.{words_n, words_of}
 use Rattle.required_indices.proofs.Pads.{words_take}
 use Rattle.required_indices.proofs.Places.{words}
-use Rattle.required_indices.proofs.Parts.{part_w, below_start, below_turn, below_end}
+use Rattle.required_indices.proofs.Parts.{below_start, below_turn, below_end}
 use Rattle.required_indices.proofs.RequiredIndices.below.Goals as goal
 
 pub loop-k-init : goal.loop-k-init

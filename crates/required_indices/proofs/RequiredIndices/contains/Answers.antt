@@ -1,5 +1,4 @@
 -- `required_indices::RequiredIndices::contains` meets its contract.
-use borrow.Author.Rules.{rules}
 use native.Mathlib.Omega.{arith}
 use mathlib.Core.Path.{◌≡◌, sym, ap, ◌∙◌}
 use mathlib.Core.List.{List}
@@ -9,7 +8,6 @@ use Rattle.required_indices.specs.Set.{has}
 use Rattle.required_indices.specs.Request.{words_n}
 use Rattle.required_indices.proofs.Pads.{words_take, in_use}
 use Rattle.required_indices.proofs.Places.{words, has_at}
-use borrow.Author.Rules.{rules}
 use Rattle.required_indices.proofs.RequiredIndices.contains.Goals as goal
 
 pub returns : goal.returns

@@ -2,7 +2,6 @@
 use mathlib.Core.Path.{ap, ◌∙◌}
 use Prim.Native.Nat.{ℕ}
 use lib.Dec.{eqb}
-use borrow.Author.Rules.{rules}
 use Rattle.required_indices.specs.Request.{set_of}
 use Rattle.required_indices.proofs.RequiredIndices.contains_all.Goals as goal
 

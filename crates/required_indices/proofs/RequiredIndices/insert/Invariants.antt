@@ -1,17 +1,9 @@
 -- `required_indices::RequiredIndices::insert` meets its contract.
-use borrow.Author.Rules.{rules}
-use native.Mathlib.Omega.{arith}
-use Prim.Native.Nat.{ℕ, ◌+◌, ◌-◌, ◌*◌, ◌/◌, ◌%◌, ◌^◌, ◌≤◌, ◌<◌}
-use mathlib.Core.Path.{◌≡◌, sym, ap, ap₂, ◌∙◌}
-use lib.Bits.{bit_or, or_lt}
-use lib.ListN.{length, get_or, take, set, length-take}
-use lib.Seq.{take-set-lt, get_or-take}
-use Rattle.required_indices.specs.Words.{number}
+use Prim.Native.Nat.{◌+◌, ◌-◌, ◌≤◌}
+use lib.ListN.{length, take}
 use Rattle.required_indices.specs.Request.{words_n, Lent}
 use Rattle.required_indices.proofs.Loops.{Filled}
-use Rattle.required_indices.proofs.Pads.{wide, words_take, extend_start, extend_turn, extend_end}
-use Rattle.required_indices.proofs.Places.{words, add_at, lent-set}
-use Rattle.required_indices.proofs.Shifts.{shifted_one}
+use Rattle.required_indices.proofs.Pads.{wide}
 use Rattle.required_indices.proofs.RequiredIndices.insert.Given as goal
 
 abbrev pub invariant-loop-j : goal.invariant-loop-j

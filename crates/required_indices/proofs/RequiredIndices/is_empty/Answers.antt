@@ -1,7 +1,6 @@
 -- `required_indices::RequiredIndices::is_empty` meets its contract.
 use mathlib.Core.Path.{ap, ◌∙◌}
 use lib.Dec.{eqb}
-use borrow.Author.Rules.{rules}
 use Rattle.required_indices.specs.Request.{set_of}
 use Rattle.required_indices.proofs.RequiredIndices.is_empty.Goals as goal
 

@@ -1,10 +1,8 @@
 -- `required_indices::RequiredIndices::len` meets its contract.
-use borrow.Author.Rules.{rules}
 use native.Mathlib.Omega.{arith}
-use Prim.Native.Nat.{◌+◌, ◌-◌}
 use mathlib.Core.Path.{◌≡◌, ap}
 use lib.Count.{ones}
-use lib.ListN.{length, drop, take, length-take, drop_of_length-le}
+use lib.ListN.{length, take, length-take, drop_of_length-le}
 use lib.Seq.{get_or-take}
 use Rattle.required_indices.specs.Request.{words_n}
 use Rattle.required_indices.proofs.Pads.{words_take}

@@ -1,13 +1,12 @@
 -- `required_indices::RequiredIndices::load` meets its contract.
 use borrow.Author.Rules.{rules}
 use native.Mathlib.Omega.{arith}
-use Prim.Native.Nat.{ℕ, ◌+◌, ◌-◌}
+use Prim.Native.Nat.{ℕ, ◌+◌}
 use mathlib.Core.Path.{◌≡◌, refl, sym, ap, ◌∙◌}
-use mathlib.Core.Bool.{false}
 use lib.ListN.{length, take, drop}
 use Rattle.required_indices.specs.Words.{number}
-use Rattle.required_indices.specs.Request.{words_n, flag_of}
-use Rattle.required_indices.proofs.Loops.{Filled, fill_start, fill_turn, fill_end}
+use Rattle.required_indices.specs.Request.{words_n}
+use Rattle.required_indices.proofs.Loops.{fill_start, fill_turn, fill_end}
 use Rattle.required_indices.proofs.Stored.{load_word, load_long}
 use Rattle.required_indices.proofs.RequiredIndices.load.Goals as goal
 

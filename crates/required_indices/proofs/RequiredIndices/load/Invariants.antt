@@ -1,14 +1,10 @@
 -- `required_indices::RequiredIndices::load` meets its contract.
-use borrow.Author.Rules.{rules}
-use native.Mathlib.Omega.{arith}
-use Prim.Native.Nat.{ℕ, ◌+◌, ◌-◌}
-use mathlib.Core.Path.{◌≡◌, refl, sym, ap, ◌∙◌}
+use Prim.Native.Nat.{◌+◌, ◌-◌}
+use mathlib.Core.Path.{◌≡◌}
 use mathlib.Core.Bool.{false}
-use lib.ListN.{length, take, drop}
-use Rattle.required_indices.specs.Words.{number}
-use Rattle.required_indices.specs.Request.{words_n, flag_of}
-use Rattle.required_indices.proofs.Loops.{Filled, fill_start, fill_turn, fill_end}
-use Rattle.required_indices.proofs.Stored.{load_word, load_long}
+use lib.ListN.{take, drop}
+use Rattle.required_indices.specs.Request.{flag_of}
+use Rattle.required_indices.proofs.Loops.{Filled}
 use Rattle.required_indices.proofs.RequiredIndices.load.Given as goal
 
 abbrev pub invariant-loop-k : goal.invariant-loop-k

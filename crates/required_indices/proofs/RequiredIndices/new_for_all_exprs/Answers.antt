@@ -1,14 +1,11 @@
 -- `required_indices::RequiredIndices::new_for_all_exprs` meets its contract.
 use borrow.Author.Rules.{rules}
 use native.Mathlib.Omega.{arith}
-use Prim.Native.Nat.{ℕ, ◌-◌, ◌*◌}
+use Prim.Native.Nat.{ℕ}
 use mathlib.Core.Path.{◌≡◌, refl, ap, ◌∙◌}
-use mathlib.Core.Bool.{false}
 use lib.ListN.{length, take}
 use Rattle.required_indices.specs.Words.{number}
-use Rattle.required_indices.specs.Request.{words_n, flag_of}
-use Rattle.required_indices.proofs.Loops.{Filled}
-use Rattle.required_indices.proofs.Words.{all_w}
+use Rattle.required_indices.specs.Request.{words_n}
 use Rattle.required_indices.proofs.Parts.{all_start, all_turn, all_end}
 use Rattle.required_indices.proofs.RequiredIndices.new_for_all_exprs.Goals as goal
 

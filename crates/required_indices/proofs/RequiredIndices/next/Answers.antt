@@ -1,7 +1,6 @@
 -- `required_indices::RequiredIndices::next` meets its contract.
-use borrow.Author.Rules.{rules}
 use native.Mathlib.Omega.{arith}
-use Prim.Native.Nat.{ℕ, ◌-◌, ◌*◌, ◌+◌, ◌/◌, ◌^◌}
+use Prim.Native.Nat.{ℕ, ◌*◌, ◌+◌, ◌/◌, ◌^◌}
 use mathlib.Core.Path.{◌≡◌, sym, ap, ◌∙◌, subst}
 use lib.ListN.{length, get_or, take, length-take}
 use lib.Seq.{get_or-take}
@@ -12,7 +11,7 @@ use Rattle.required_indices.specs.Request.{words_n, set_in, IsNext}
 use Rattle.required_indices.specs.declared.Next.TheVariants.{At}
 use Rattle.required_indices.proofs.Pads.{words_take}
 use Rattle.required_indices.proofs.Places.{words}
-use Rattle.required_indices.proofs.Search.{Searched, search_start, search_turn, search_found, search_end}
+use Rattle.required_indices.proofs.Search.{search_start, search_turn, search_found, search_end}
 use Rattle.required_indices.proofs.RequiredIndices.next.Goals as goal
 
 pub loop-k-init : goal.loop-k-init

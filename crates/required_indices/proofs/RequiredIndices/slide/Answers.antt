@@ -7,11 +7,10 @@ use mathlib.Core.List.{List}
 use lib.ListN.{length, get_or, length-take}
 use mir.Val.{Fits}
 use mir.Syntax.{w64}
-use Rattle.required_indices.specs.Request.{words_n, words_of, flag_of}
-use Rattle.required_indices.proofs.Loops.{Filled}
+use Rattle.required_indices.specs.Request.{words_n, words_of}
 use Rattle.required_indices.proofs.Pads.{words_take, in_use}
 use Rattle.required_indices.proofs.Places.{words}
-use Rattle.required_indices.proofs.Slides.{ahead, slide_w, slide_start, slide_turn, slide_end, slide_fits}
+use Rattle.required_indices.proofs.Slides.{ahead, slide_start, slide_turn, slide_end, slide_fits}
 use Rattle.required_indices.proofs.RequiredIndices.slide.Goals as goal
 
 pub overflow_add-a : goal.overflow_add-a

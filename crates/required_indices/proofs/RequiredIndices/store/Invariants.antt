@@ -1,13 +1,8 @@
 -- `required_indices::RequiredIndices::store` meets its contract.
-use borrow.Author.Rules.{rules}
-use native.Mathlib.Omega.{arith}
-use Prim.Native.Nat.{ℕ, suc, ◌+◌, ◌-◌, ◌≤◌}
-use mathlib.Core.Path.{◌≡◌, sym, ap, ap₂, ◌∙◌}
-use mathlib.Core.List.{◌∷◌}
-use lib.ListN.{length, set, take, length-take, length-set}
-use lib.Seq.{paste, paste-zero, length-paste, get_or-take}
-use Rattle.required_indices.specs.Request.{words_n}
-use Rattle.required_indices.proofs.Stored.{store_turn, store_whole}
+use Prim.Native.Nat.{◌+◌, ◌-◌, ◌≤◌}
+use mathlib.Core.Path.{◌≡◌}
+use lib.ListN.{take}
+use lib.Seq.{paste}
 use Rattle.required_indices.proofs.RequiredIndices.store.Given as goal
 
 abbrev pub invariant-loop-k : goal.invariant-loop-k

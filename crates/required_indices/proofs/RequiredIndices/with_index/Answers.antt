@@ -1,5 +1,4 @@
 -- `required_indices::RequiredIndices::with_index` meets its contract.
-use borrow.Author.Rules.{rules}
 use mathlib.Core.Path.{refl}
 use Rattle.required_indices.proofs.RequiredIndices.with_index.Goals as goal
 
