@@ -6,16 +6,16 @@ use native.Mathlib.Omega.{arith}
 use Rattle.writer.proofs.head_size.Goals as goal
 
 pub shape_size-requires : goal.shape_size-requires
-shape_size-requires c = let w = ((search rules, λ j. search rules), head-ready (head_of_lem c.requires _ c.in-Kept.is c.record_at-form.ensures c.set_at-set.ensures (omega (arith, c.well_formed.1.1.0.0))) (head_countable c.requires.writes)) in record { lent = w.0; shape_ok = w.1.0; countable = w.1.1 }
+shape_size-requires c = let w = head-ready (head_of_lem c.requires _ c.in-Kept.is c.record_at-form.ensures c.set_at-set.ensures (omega (arith, c.well_formed.1.1.0.0))) (head_countable c.requires.writes) in record { lent = (search rules, λ j. search rules); shape_ok = w.0; countable = w.1 }
 
 pub shape_size-requires-in-Columns : goal.shape_size-requires-in-Columns
-shape_size-requires-in-Columns c = let w = ((search rules, λ j. search rules), head-ready (head_of_lem c.requires _ c.in-Columns.is c.record_at-form.ensures c.set_at-set.ensures (omega (arith, c.well_formed.1.1.1.0.0))) (head_countable c.requires.writes)) in record { lent = w.0; shape_ok = w.1.0; countable = w.1.1 }
+shape_size-requires-in-Columns c = let w = head-ready (head_of_lem c.requires _ c.in-Columns.is c.record_at-form.ensures c.set_at-set.ensures (omega (arith, c.well_formed.1.1.1.0.0))) (head_countable c.requires.writes) in record { lent = (search rules, λ j. search rules); shape_ok = w.0; countable = w.1 }
 
 pub shape_size-requires-in-Items : goal.shape_size-requires-in-Items
-shape_size-requires-in-Items c = let w = ((search rules, λ j. search rules), head-ready (head_of_lem c.requires _ c.in-Items.is c.record_at-form.ensures c.set_at-set.ensures (omega (arith, c.shape_size-arg-in-Items-1.given.0))) (head_countable c.requires.writes)) in record { lent = w.0; shape_ok = w.1.0; countable = w.1.1 }
+shape_size-requires-in-Items c = let w = head-ready (head_of_lem c.requires _ c.in-Items.is c.record_at-form.ensures c.set_at-set.ensures (omega arith)) (head_countable c.requires.writes) in record { lent = (search rules, λ j. search rules); shape_ok = w.0; countable = w.1 }
 
 pub shape_size-requires-in-Nothing : goal.shape_size-requires-in-Nothing
-shape_size-requires-in-Nothing c = let w = ((search rules, λ j. search rules), head-ready (head_of_lem c.requires _ c.in-Nothing.is c.record_at-form.ensures c.set_at-set.ensures (omega (arith, c.well_formed.1.1.0.0))) (head_countable c.requires.writes)) in record { lent = w.0; shape_ok = w.1.0; countable = w.1.1 }
+shape_size-requires-in-Nothing c = let w = head-ready (head_of_lem c.requires _ c.in-Nothing.is c.record_at-form.ensures c.set_at-set.ensures (omega (arith, c.well_formed.1.1.0.0))) (head_countable c.requires.writes) in record { lent = (search rules, λ j. search rules); shape_ok = w.0; countable = w.1 }
 
 pub returns-in-Kept : goal.returns-in-Kept
 returns-in-Kept c =
@@ -32,7 +32,7 @@ returns-in-Columns c =
 pub returns-in-Items : goal.returns-in-Items
 returns-in-Items c =
     λ s. head-counts
-    (head_of_lem s _ c.in-Items.is c.record_at-form.ensures c.set_at-set.ensures (omega (arith, c.shape_size-arg-in-Items-1.given.0)))
+    (head_of_lem s _ c.in-Items.is c.record_at-form.ensures c.set_at-set.ensures (omega arith))
     c.shape_size-in-Items.ensures
 
 pub returns-in-Nothing : goal.returns-in-Nothing

@@ -7,35 +7,23 @@ use native.Mathlib.Omega.{arith}
 use lib.Seq.{length-take-le}
 use Rattle.writer.proofs.write_plan.Goals as goal
 
--- LOST slice-aggregate-copy : tie.Need-slice-aggregate-copy
--- LOST slice-aggregate-copy c =
--- LOST     let args = c.before.before.before.before.before.args in
--- LOST     let pre = c.before.before.before.before.before.requires in
--- LOST     sym (length-take-le args.start args.file.now pre.0)
-
--- LOST copy-requires : tie.Need-copy-requires
--- LOST copy-requires c κs =
--- LOST     let pre = c.before.before.before.before.before.before.requires in
--- LOST     let args = c.before.before.before.before.before.before.args in
--- LOST     omega (arith, pre.1.1, length-take-le args.start args.file.now pre.0)
-
 pub slice_bounds-write_node-count : goal.slice_bounds-write_node-count
 slice_bounds-write_node-count c =
-    omega (arith, c.requires.w_in_bounds.1, length-take-le c.args.start c.args.file.now c.requires.start_in_bounds, c.?copy.ensures.0, c.?copy.auto)
+    omega (arith, c.requires.w_in_bounds.1, length-take-le c.args.start c.args.file.now c.requires.start_in_bounds)
 
 pub slice_bounds-write_node-start : goal.slice_bounds-write_node-start
 slice_bounds-write_node-start c =
-    omega (arith, c.requires.w_in_bounds.1, length-take-le c.args.start c.args.file.now c.requires.start_in_bounds, c.?copy.ensures.0, c.?copy.auto)
+    omega (arith, c.requires.w_in_bounds.1, length-take-le c.args.start c.args.file.now c.requires.start_in_bounds)
 
 pub write_node-plan-requires : goal.write_node-plan-requires
 write_node-plan-requires c =
-    (with_numbers c.requires.w_in_bounds.0, omega (arith, c.requires.w_in_bounds.1, length-take-le c.args.start c.args.file.now c.requires.start_in_bounds, c.?copy.ensures.0, c.?copy.auto))
+    (with_numbers c.requires.w_in_bounds.0, omega (arith, c.requires.w_in_bounds.1, length-take-le c.args.start c.args.file.now c.requires.start_in_bounds))
 
 pub overflow_add-result : goal.overflow_add-result
 overflow_add-result c =
     let l = length-take-le c.args.start c.args.file.now c.requires.start_in_bounds in
-    omega (arith, c.requires.w_in_bounds.1, l, c.?copy.ensures.0, (c.write_node-plan.ensures (with_numbers c.requires.w_in_bounds.0)).long, c.well_formed.1.1.1.1.1.1.1.1.1.1.1.1.0.0)
+    omega (arith, c.requires.w_in_bounds.1, l, (c.write_node-plan.ensures (with_numbers c.requires.w_in_bounds.0)).long, c.well_formed.1.1.1.1.1.1.1.1.1.1.1.1.0.0)
 
 pub returns : goal.returns
 returns c =
-    λ w. part (copy_wrote c.args.start c.args.file.now c.?copy.ensures.0 c.?copy.ensures.1) (c.write_node-plan.ensures (with_numbers w))
+    λ w. part (copy_wrote c.args.start c.args.file.now c.requires.start_in_bounds c.copy_from_slice.ensures.after) (c.write_node-plan.ensures (with_numbers w))
