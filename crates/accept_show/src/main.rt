@@ -3,22 +3,22 @@
 
 ghost use Rattle.std.specs.Prelude.{◌<◌, ◌≤◌};
 
-use libc::STDOUT_FILENO;
 use lookup::{Field, Lookup};
 use required_indices::RequiredIndices;
+use std::io;
 use verdicts::Verdict;
 
-fn text(s: &[u8]) {
-    io::write_all(STDOUT_FILENO, s);
+fn text(rt: &impl Print, s: &[u8]) -> io::Result<()> {
+    rt.write_all(s)
 }
 
-fn number(x: usize) {
-    io::print_decimal(STDOUT_FILENO, x as u64);
-    text(b" ");
+fn number(rt: &impl Print, x: usize) -> io::Result<()> {
+    rt.print(x as u64)?;
+    text(rt, b" ")
 }
 
 // The verdict on an Empty with two pairs, whose names are not 0, in a plan of version 1.
-fn judge(q: u16, n: u16, r: u16, m: u16)
+fn judge(rt: &impl Print, q: u16, n: u16, r: u16, m: u16) -> io::Result<()>
     requires { (0 < n) × (0 < m) }
 {
     let cells = [0u64; 1];
@@ -41,28 +41,30 @@ fn judge(q: u16, n: u16, r: u16, m: u16)
         0,
         0,
     ) {
-        Verdict::Fine(_) => text(b"fine\n"),
+        Verdict::Fine(_) => text(rt, b"fine\n")?,
         Verdict::Bad(code, node) => {
-            text(b"bad ");
-            number(code as usize);
-            number(node);
-            text(b"\n");
+            text(rt, b"bad ")?;
+            number(rt, code as usize)?;
+            number(rt, node)?;
+            text(rt, b"\n")?;
         }
     }
+    Ok(())
 }
 
 // What a reference finds among four fields, two of which have one name.
-fn place(q: u16, n: u16) {
+fn place(rt: &impl Print, q: u16, n: u16) -> io::Result<()> {
     let fields = [1u16, 1, 1, 2, 0, 3, 2, 1];
     match lookup::look_up(&fields, 0, 4, true, q, n) {
         Lookup::Found(i) => {
-            text(b"found ");
-            number(i);
-            text(b"\n");
+            text(rt, b"found ")?;
+            number(rt, i)?;
+            text(rt, b"\n")?;
         }
-        Lookup::Absent => text(b"absent\n"),
-        Lookup::Ambiguous => text(b"ambiguous\n"),
+        Lookup::Absent => text(rt, b"absent\n")?,
+        Lookup::Ambiguous => text(rt, b"ambiguous\n")?,
     }
+    Ok(())
 }
 
 // How many indices a set has.
@@ -71,32 +73,32 @@ fn size(set: RequiredIndices) -> usize {
 }
 
 // What is said of a request of three fields.
-fn ask(request: &[u16]) {
+fn ask(rt: &impl Print, request: &[u16]) -> io::Result<()> {
     let a = request::check_request(request, 3);
     if a.refused {
-        text(b"refused ");
-        number(a.place);
+        text(rt, b"refused ")?;
+        number(rt, a.place)?;
     } else {
-        text(b"asked ");
-        number(size(a.set));
+        text(rt, b"asked ")?;
+        number(rt, size(a.set))?;
     }
-    text(b"\n");
+    text(rt, b"\n")
 }
 
-fn main() {
-    judge(1, 1, 0, 2);
-    judge(1, 1, 1, 1);
-    judge(1, 1, 0, 1);
-    judge(1, 1, 2, 1);
-    place(1, 2);
-    place(0, 2);
-    place(2, 2);
-    place(0, 3);
-    place(1, 3);
-    place(2, 1);
-    place(0, 1);
-    ask(&[0, 2]);
-    ask(&[1, 1]);
-    ask(&[0, 3]);
-    ask(&[0, 1, 2]);
+fn main(rt: HostRuntime) -> io::Result<()> {
+    judge(&rt, 1, 1, 0, 2)?;
+    judge(&rt, 1, 1, 1, 1)?;
+    judge(&rt, 1, 1, 0, 1)?;
+    judge(&rt, 1, 1, 2, 1)?;
+    place(&rt, 1, 2)?;
+    place(&rt, 0, 2)?;
+    place(&rt, 2, 2)?;
+    place(&rt, 0, 3)?;
+    place(&rt, 1, 3)?;
+    place(&rt, 2, 1)?;
+    place(&rt, 0, 1)?;
+    ask(&rt, &[0, 2])?;
+    ask(&rt, &[1, 1])?;
+    ask(&rt, &[0, 3])?;
+    ask(&rt, &[0, 1, 2])
 }

@@ -7,81 +7,83 @@ ghost use Rattle.arena.specs.Rows.{RowsOk};
 
 use arena::View;
 use arena_build::{Built, Found, Listed};
-use libc::STDOUT_FILENO;
+use std::io;
 
-fn number(x: u64) {
-    io::print_decimal(STDOUT_FILENO, x);
-    io::write_all(STDOUT_FILENO, b" ");
+fn number(rt: &impl Print, x: u64) -> io::Result<()> {
+    rt.print(x)?;
+    rt.write_all(b" ")
 }
 
-fn answer(b: bool) {
+fn answer(rt: &impl Print, b: bool) -> io::Result<()> {
     if b {
-        io::write_all(STDOUT_FILENO, b"yes ");
+        rt.write_all(b"yes ")
     } else {
-        io::write_all(STDOUT_FILENO, b"no ");
+        rt.write_all(b"no ")
     }
 }
 
-fn line() {
-    io::write_all(STDOUT_FILENO, b"\n");
+fn line(rt: &impl Print) -> io::Result<()> {
+    rt.write_all(b"\n")
 }
 
 /// Node `i`, by its view. The nodes up to it are well formed.
-fn show_node(cells: &[u64], i: usize)
+fn show_node(rt: &impl Print, cells: &[u64], i: usize) -> io::Result<()>
     requires { Wf cells.now (i + 1) }
 {
     let v = arena::node_at(cells, i);
     match v {
         View::Col(q, n) => {
-            io::write_all(STDOUT_FILENO, b"col ");
-            number(q as u64);
-            number(n as u64);
+            rt.write_all(b"col ")?;
+            number(rt, q as u64)?;
+            number(rt, n as u64)?;
         }
         View::Lit(x) => {
-            io::write_all(STDOUT_FILENO, b"lit ");
-            number(x);
+            rt.write_all(b"lit ")?;
+            number(rt, x)?;
         }
         View::Miss => {
-            io::write_all(STDOUT_FILENO, b"miss ");
+            rt.write_all(b"miss ")?;
         }
         View::One(t, x) => {
-            number(t);
-            number(x as u64);
+            number(rt, t)?;
+            number(rt, x as u64)?;
         }
         View::Two(t, x, y) => {
-            number(t);
-            number(x as u64);
-            number(y as u64);
+            number(rt, t)?;
+            number(rt, x as u64)?;
+            number(rt, y as u64)?;
         }
     }
-    line();
+    line(rt)
 }
 
 /// The first `n` nodes, which are well formed.
-fn show_nodes(cells: &[u64], n: usize)
+fn show_nodes(rt: &impl Print, cells: &[u64], n: usize) -> io::Result<()>
     requires { Wf cells.now n }
 {
     let mut i = 0;
     while i < n {
-        show_node(cells, i);
+        show_node(rt, cells, i)?;
         i += 1;
     }
+    Ok(())
 }
 
 /// The first `n` rows, which lie in the array.
-fn show_rows(rows: &[u16], n: usize)
+fn show_rows(rt: &impl Print, rows: &[u16], n: usize) -> io::Result<()>
     requires { n * 4 ≤ length rows.now }
 {
     let mut i = 0;
     while i < n {
         let row = arena::row_at(rows, i);
-        number(row.qualifier as u64);
-        number(row.name as u64);
-        number(row.mark as u64);
-        number(row.root as u64);
-        line();
+        number(rt, row.qualifier as u64)?;
+        number(rt, row.name as u64)?;
+        number(rt, row.mark as u64)?;
+        number(rt, row.root as u64)?;
+        line(rt)?;
         i += 1;
     }
+    Ok(())
 }
 
 // (1,1), 5, (1,1) + 5, not that, (0,7), missing, (1,1) and not ((1,1) + 5), (0,3)
@@ -101,49 +103,58 @@ const UPPER: [u16; 36] = [
     0, 6, 0, 6,
 ];
 
-fn read_exprs() {
+fn read_exprs(rt: &impl Print) -> io::Result<()> {
     let cells = CELLS;
-    show_nodes(&cells, 8);
-    number(arena::tag_at(&cells, 6));
-    number(arena::count_uses(&cells, 6, 1, 1) as u64);
-    number(arena::count_tags(&cells, 6) as u64);
-    answer(arena::has_column(&cells, 6));
-    answer(arena::has_column(&cells, 5));
-    answer(arena::is_column(&cells, 4, 0, 7));
-    answer(arena::is_column(&cells, 4, 1, 7));
-    line();
+    show_nodes(rt, &cells, 8)?;
+    number(rt, arena::tag_at(&cells, 6))?;
+    number(rt, arena::count_uses(&cells, 6, 1, 1) as u64)?;
+    number(rt, arena::count_tags(&cells, 6) as u64)?;
+    answer(rt, arena::has_column(&cells, 6))?;
+    answer(rt, arena::has_column(&cells, 5))?;
+    answer(rt, arena::is_column(&cells, 4, 0, 7))?;
+    answer(rt, arena::is_column(&cells, 4, 1, 7))?;
+    line(rt)
 }
 
-fn read_lists() {
+fn read_lists(rt: &impl Print) -> io::Result<()> {
     let cells = CELLS;
     let items = ITEMS;
-    number(arena::list_uses(&items, 0, 5, &cells, 1, 1) as u64);
-    number(arena::list_tags(&items, 0, 5, &cells) as u64);
-    answer(arena::uses_no_column(&items, 0, 5, &cells));
-    answer(arena::uses_no_column(&items, 2, 1, &cells));
-    answer(arena::all_plain(&items, 0, 5, &cells));
-    answer(arena::all_plain(&items, 2, 1, &cells));
-    line();
+    number(rt, arena::list_uses(&items, 0, 5, &cells, 1, 1) as u64)?;
+    number(rt, arena::list_tags(&items, 0, 5, &cells) as u64)?;
+    answer(rt, arena::uses_no_column(&items, 0, 5, &cells))?;
+    answer(rt, arena::uses_no_column(&items, 2, 1, &cells))?;
+    answer(rt, arena::all_plain(&items, 0, 5, &cells))?;
+    answer(rt, arena::all_plain(&items, 2, 1, &cells))?;
+    line(rt)
 }
 
-fn compare() {
+fn compare(rt: &impl Print) -> io::Result<()> {
     let cells = CELLS;
     let items = ITEMS;
     let above = ABOVE;
     let upper = UPPER;
-    answer(arena::same_expr(&cells, 6, &cells, 6));
-    answer(arena::same_expr(&cells, 6, &above, 2));
-    answer(arena::same_expr(&cells, 0, &above, 1));
-    answer(arena::same_item(&items, 0, &cells, &upper, 2, &above));
-    answer(arena::same_item(&items, 0, &cells, &upper, 4, &above));
-    answer(arena::same_list(&items, 0, 5, &cells, &items, 0, 5, &cells));
-    answer(arena::same_list(&items, 0, 5, &cells, &items, 0, 3, &cells));
-    answer(arena::same_list(&items, 0, 1, &cells, &upper, 2, 1, &above));
-    line();
+    answer(rt, arena::same_expr(&cells, 6, &cells, 6))?;
+    answer(rt, arena::same_expr(&cells, 6, &above, 2))?;
+    answer(rt, arena::same_expr(&cells, 0, &above, 1))?;
+    answer(rt, arena::same_item(&items, 0, &cells, &upper, 2, &above))?;
+    answer(rt, arena::same_item(&items, 0, &cells, &upper, 4, &above))?;
+    answer(
+        rt,
+        arena::same_list(&items, 0, 5, &cells, &items, 0, 5, &cells),
+    )?;
+    answer(
+        rt,
+        arena::same_list(&items, 0, 5, &cells, &items, 0, 3, &cells),
+    )?;
+    answer(
+        rt,
+        arena::same_list(&items, 0, 1, &cells, &upper, 2, 1, &above),
+    )?;
+    line(rt)
 }
 
 // What a name alone finds in the lower list; and the upper list over the lower one.
-fn build() {
+fn build(rt: &impl Print) -> io::Result<()> {
     let cells = CELLS;
     let items = ITEMS;
     let above = ABOVE;
@@ -152,21 +163,22 @@ fn build() {
     let mut dst = [0u64; 54];
     let f = arena_build::find_def(&items, 0, 5, 0, 8);
     match f {
-        Found::At(j) => number(j as u64),
-        Found::Nothing => line(),
+        Found::At(j) => number(rt, j as u64)?,
+        Found::Nothing => line(rt)?,
     }
     let l = arena_build::replace_items(
         &upper, 0, 9, &above, &items, 0, 5, &cells, &mut rows, 0, &mut dst, 0,
     );
     match l {
         Listed::Done(u) => {
-            number(u as u64);
-            line();
-            show_nodes(&dst, u);
-            show_rows(&rows, 9);
+            number(rt, u as u64)?;
+            line(rt)?;
+            show_nodes(rt, &dst, u)?;
+            show_rows(rt, &rows, 9)?;
         }
-        Listed::Full => line(),
+        Listed::Full => line(rt)?,
     }
+    Ok(())
 }
 
 /// Copies the item (0,1) as (0,2) into row after row, to 128, until the cells are full: how many rows there are then.
@@ -200,7 +212,7 @@ const CHAIN: [u64; 93] = [
 const LOWER: [u16; 4] = [0, 1, 1, 30];
 
 /// Merges the list over the chain, and says how many nodes and tags it then has, or that there is no room.
-fn merge(upper: &[u16], n: usize, above: &[u64], dst: &mut [u64])
+fn merge(rt: &impl Print, upper: &[u16], n: usize, above: &[u64], dst: &mut [u64]) -> io::Result<()>
     requires n_bound { (n ≤ 128) × RowsOk upper.now above.now 0 n }
     requires dst_len_bound { length dst.old ≤ 196608 }
 {
@@ -212,39 +224,46 @@ fn merge(upper: &[u16], n: usize, above: &[u64], dst: &mut [u64])
     );
     match l {
         Listed::Done(u) => {
-            number(u as u64);
-            number(arena::list_tags(&rows, 0, n, dst) as u64);
+            number(rt, u as u64)?;
+            number(rt, arena::list_tags(&rows, 0, n, dst) as u64)?;
         }
         Listed::Full => {
-            io::write_all(STDOUT_FILENO, b"full");
+            rt.write_all(b"full")?;
         }
     }
-    line();
+    line(rt)
 }
 
 /// The same in room for so many nodes only, which the array has.
-fn merge_within(upper: &[u16], n: usize, above: &[u64], dst: &mut [u64], room: usize)
+fn merge_within(
+    rt: &impl Print,
+    upper: &[u16],
+    n: usize,
+    above: &[u64],
+    dst: &mut [u64],
+    room: usize,
+) -> io::Result<()>
     requires n_bound { (n ≤ 128) × RowsOk upper.now above.now 0 n }
     requires dst_len_bound { (length dst.old ≤ 196608) × (room * 3 ≤ length dst.old) }
 {
     let end = room * 3;
-    merge(upper, n, above, &mut dst[..end]);
+    merge(rt, upper, n, above, &mut dst[..end])
 }
 
 /// 128 items over a definition of 31 tags make 4,096 tags in 3,968 nodes: in room for so many nodes, and for one fewer.
-fn large() {
+fn large(rt: &impl Print) -> io::Result<()> {
     let mut upper = [0u16; 512];
     let mut above = [0u64; 384];
     let mut dst = [0u64; 11904];
     let n = copies(&mut upper, &mut above);
-    merge_within(&upper, n, &above, &mut dst, 3968);
-    merge_within(&upper, n, &above, &mut dst, 3967);
+    merge_within(rt, &upper, n, &above, &mut dst, 3968)?;
+    merge_within(rt, &upper, n, &above, &mut dst, 3967)
 }
 
-fn main() {
-    read_exprs();
-    read_lists();
-    compare();
-    build();
-    large();
+fn main(rt: HostRuntime) -> io::Result<()> {
+    read_exprs(&rt)?;
+    read_lists(&rt)?;
+    compare(&rt)?;
+    build(&rt)?;
+    large(&rt)
 }

@@ -2,13 +2,15 @@
 //! whose `run` says every byte that is written.
 #![tactic(auto)]
 
+use std::io;
+
 // Standard input is read up to this many bytes; what is behind them counts as cut off. A file of 65,536 bytes and a request of 65,536 indices fit.
 const INPUT: usize = 262144;
 
-fn main() {
+fn main(rt: HostRuntime) -> io::Result<()> {
     let mut input = [0u8; INPUT];
-    let n = io::read_full(0, &mut input);
+    let n = input_bytes::read_full(&mut rt.stdin(), &mut input)?;
     let mut text = [0u8; 65600];
     let m = calls::run(&input[..n], &mut text);
-    io::write_all(1, &text[..m]);
+    rt.write_all(&text[..m])
 }

@@ -9,6 +9,7 @@
 ghost use Rattle.std.specs.Prelude.{◌≡◌, ◌≤◌, length};
 
 use answers::Answer;
+use std::io;
 use vector_text::Parsed;
 
 // What stands in the output buffer before a call.
@@ -49,12 +50,12 @@ enum Verdict {
     Malformed,
 }
 
-fn text(s: &[u8]) {
-    io::write_all(1, s);
+fn text(rt: &impl Print, s: &[u8]) -> io::Result<()> {
+    rt.write_all(s)
 }
 
-fn number(n: u64) {
-    io::print_decimal(1, n);
+fn number(rt: &impl Print, n: u64) -> io::Result<()> {
+    rt.print(n)
 }
 
 // A line's numbers, where its code, length and place are these fields.
@@ -178,81 +179,89 @@ fn run(line: &[u8]) -> Verdict {
 }
 
 // A line that differs, and the answer that was given.
-fn differs(at: u64, a: Answer) {
-    text(b"line ");
-    number(at);
-    text(b" differs: code ");
-    number(a.code as u64);
-    text(b" length ");
-    number(a.length as u64);
-    text(b" place ");
-    number(a.place as u64);
-    text(b"\n");
+fn differs(rt: &impl Print, at: u64, a: Answer) -> io::Result<()> {
+    text(rt, b"line ")?;
+    number(rt, at)?;
+    text(rt, b" differs: code ")?;
+    number(rt, a.code as u64)?;
+    text(rt, b" length ")?;
+    number(rt, a.length as u64)?;
+    text(rt, b" place ")?;
+    number(rt, a.place as u64)?;
+    text(rt, b"\n")
 }
 
-fn malformed(at: u64) {
-    text(b"line ");
-    number(at);
-    text(b" is no vector\n");
+fn malformed(rt: &impl Print, at: u64) -> io::Result<()> {
+    text(rt, b"line ")?;
+    number(rt, at)?;
+    text(rt, b" is no vector\n")
 }
 
 // Runs a line. The tally counts the vectors of each code that are as they should be, and the lines that are not.
-fn count(line: &[u8], at: u64, tally: &mut [u64; CODES], bad: &mut u64) {
+fn count(
+    rt: &impl Print,
+    line: &[u8],
+    at: u64,
+    tally: &mut [u64; CODES],
+    bad: &mut u64,
+) -> io::Result<()> {
     match run(line) {
         Verdict::Same(code) => {
             if code < CODES {
-                tally[code] = std::num::wrapping_add_u64(tally[code], 1);
+                tally[code] = tally[code].wrapping_add(1);
             }
         }
         Verdict::Differs(a) => {
-            differs(at, a);
-            *bad = std::num::wrapping_add_u64(*bad, 1);
+            differs(rt, at, a)?;
+            *bad = bad.wrapping_add(1);
         }
         Verdict::Malformed => {
-            malformed(at);
-            *bad = std::num::wrapping_add_u64(*bad, 1);
+            malformed(rt, at)?;
+            *bad = bad.wrapping_add(1);
         }
     }
+    Ok(())
 }
 
 // Runs every line.
-fn lines(all: &[u8], tally: &mut [u64; CODES], bad: &mut u64) -> u64 {
+fn lines(rt: &impl Print, all: &[u8], tally: &mut [u64; CODES], bad: &mut u64) -> io::Result<u64> {
     let mut from = 0;
     let mut at: u64 = 0;
     while from < all.len() {
         let to = vector_text::find(all, from, b'\n');
-        at = std::num::wrapping_add_u64(at, 1);
-        count(&all[from..to], at, tally, bad);
+        at = at.wrapping_add(1);
+        count(rt, &all[from..to], at, tally, bad)?;
         if all.len() <= to {
-            return at;
+            return Ok(at);
         }
         from = to + 1;
     }
-    at
+    Ok(at)
 }
 
 // How many lines of each code were as they should be.
-fn summary(tally: [u64; CODES]) {
+fn summary(rt: &impl Print, tally: [u64; CODES]) -> io::Result<()> {
     for code in 0..CODES {
-        text(b"code ");
-        number(code as u64);
-        text(b": ");
-        number(tally[code]);
-        text(b"\n");
+        text(rt, b"code ")?;
+        number(rt, code as u64)?;
+        text(rt, b": ")?;
+        number(rt, tally[code])?;
+        text(rt, b"\n")?;
     }
+    Ok(())
 }
 
-fn replay(all: &[u8]) {
+fn replay(rt: &impl Print, all: &[u8]) -> io::Result<()> {
     let mut tally = [0u64; CODES];
     let mut bad: u64 = 0;
-    let n = lines(all, &mut tally, &mut bad);
-    text(b"vectors ");
-    number(n);
-    text(b"\n");
-    summary(tally);
-    text(b"differ ");
-    number(bad);
-    text(b"\n");
+    let n = lines(rt, all, &mut tally, &mut bad)?;
+    text(rt, b"vectors ")?;
+    number(rt, n)?;
+    text(rt, b"\n")?;
+    summary(rt, tally)?;
+    text(rt, b"differ ")?;
+    number(rt, bad)?;
+    text(rt, b"\n")
 }
 
 // Room for standard input.
@@ -262,12 +271,13 @@ fn input_buffer() -> [u8; INPUT]
     [0; INPUT]
 }
 
-fn main() {
+fn main(rt: HostRuntime) -> io::Result<()> {
     let mut input = input_buffer();
-    let n = io::read_full(0, &mut input);
+    let n = input_bytes::read_full(&mut rt.stdin(), &mut input)?;
     if n < INPUT {
-        replay(&input[..n]);
+        replay(&rt, &input[..n])?;
     } else {
-        text(b"more than 524,287 bytes\n");
+        text(&rt, b"more than 524,287 bytes\n")?;
     }
+    Ok(())
 }

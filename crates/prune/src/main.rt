@@ -2,13 +2,15 @@
 //! fields, and what comes out is listed node by node, or its refusal. Every byte that is written is said by `listing::run`.
 #![tactic(auto)]
 
+use std::io;
+
 // The settings, and the plan bytes that are read.
 const INPUT: usize = 65539;
 
-fn main() {
+fn main(rt: HostRuntime) -> io::Result<()> {
     let mut input = [0u8; INPUT];
-    let n = io::read_full(0, &mut input);
+    let n = input_bytes::read_full(&mut rt.stdin(), &mut input)?;
     let mut text = [0u8; 16384];
     let m = listing::run(&input[..n], &mut text);
-    io::write_all(1, &text[..m]);
+    rt.write_all(&text[..m])
 }

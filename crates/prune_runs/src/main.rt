@@ -2,6 +2,7 @@
 //! program prints of each is written, one after the other.
 #![tactic(auto)]
 
+use std::io;
 use vector_text::Parsed;
 
 // What a run is given at the most: the settings, and the plan bytes that are read.
@@ -11,39 +12,41 @@ const GIVEN: usize = 65539;
 const INPUT: usize = 131072;
 
 // What the program prints where it is given the first n bytes.
-fn print(given: &[u8], n: usize) {
+fn print(rt: &impl Print, given: &[u8], n: usize) -> io::Result<()> {
     if n <= given.len() {
         let mut text = [0u8; 16384];
         let m = listing::run(&given[0..n], &mut text);
-        io::write_all(1, &text[..m]);
+        rt.write_all(&text[..m])?;
     }
+    Ok(())
 }
 
 // One run.
-fn run(line: &[u8]) {
+fn run(rt: &impl Print, line: &[u8]) -> io::Result<()> {
     let mut given = [0u8; GIVEN];
     let Parsed::Number(n) = vector_text::bytes(line, &mut given) else {
-        io::write_all(1, b"a line that is no run\n");
-        return;
+        rt.write_all(b"a line that is no run\n")?;
+        return Ok(());
     };
-    print(&given, n);
+    print(rt, &given, n)
 }
 
 // Runs every line.
-fn lines(all: &[u8]) {
+fn lines(rt: &impl Print, all: &[u8]) -> io::Result<()> {
     let mut from = 0;
     while from < all.len() {
         let to = vector_text::find(all, from, b'\n');
-        run(&all[from..to]);
+        run(rt, &all[from..to])?;
         if all.len() <= to {
-            return;
+            return Ok(());
         }
         from = to + 1;
     }
+    Ok(())
 }
 
-fn main() {
+fn main(rt: HostRuntime) -> io::Result<()> {
     let mut input = [0u8; INPUT];
-    let n = io::read_full(0, &mut input);
-    lines(&input[..n]);
+    let n = input_bytes::read_full(&mut rt.stdin(), &mut input)?;
+    lines(&rt, &input[..n])
 }

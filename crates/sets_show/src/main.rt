@@ -4,36 +4,36 @@
 ghost use Rattle.std.specs.Prelude.{◌≤◌};
 
 use required_indices::{Next, RequiredIndices};
+use std::io;
 
-fn text(s: &[u8]) {
-    io::write_all(1, s);
+fn text(rt: &impl Print, s: &[u8]) -> io::Result<()> {
+    rt.write_all(s)
 }
 
-fn number(n: usize) {
-    io::print_decimal(1, n as u64);
+fn number(rt: &impl Print, n: usize) -> io::Result<()> {
+    rt.print(n as u64)
 }
 
-fn answer(b: bool) {
+fn answer(rt: &impl Print, b: bool) -> io::Result<()> {
     if b {
-        text(b" yes");
+        text(rt, b" yes")
     } else {
-        text(b" no");
+        text(rt, b" no")
     }
 }
 
 // The indices of a set in order.
-fn indices(r: RequiredIndices) {
+fn indices(rt: &impl Print, r: RequiredIndices) -> io::Result<()> {
     let mut at = 0;
     loop {
         match RequiredIndices::next(&r.indices, r.used, at) {
             Next::At(i) => {
-                text(b" ");
-                number(i);
+                text(rt, b" ")?;
+                number(rt, i)?;
                 at = i + 1;
             }
             Next::Nothing => {
-                text(b"\n");
-                return;
+                return text(rt, b"\n");
             }
         }
     }
@@ -46,24 +46,24 @@ fn behind(a: RequiredIndices, r: RequiredIndices, n: usize) -> RequiredIndices {
 }
 
 // Whether r has n, its two parts at n, these put together again, and the second put behind a set of 1 with the flag.
-fn parts(r: RequiredIndices, n: usize) {
-    text(b"at ");
-    number(n);
-    answer(RequiredIndices::contains(&r.indices, r.used, n));
-    text(b"\n  below:");
+fn parts(rt: &impl Print, r: RequiredIndices, n: usize) -> io::Result<()> {
+    text(rt, b"at ")?;
+    number(rt, n)?;
+    answer(rt, RequiredIndices::contains(&r.indices, r.used, n))?;
+    text(rt, b"\n  below:")?;
     let s = r.split_off(n);
-    indices(s.below);
-    text(b"  rest:");
-    indices(s.rest);
-    text(b"  again:");
-    indices(behind(s.below, r, n));
+    indices(rt, s.below)?;
+    text(rt, b"  rest:")?;
+    indices(rt, s.rest)?;
+    text(rt, b"  again:")?;
+    indices(rt, behind(s.below, r, n))?;
     let one = RequiredIndices::new()
         .with_index(1)
         .with_projection_beneficial();
     let both = behind(one, r, n);
-    text(b"  with 1:");
-    answer(both.projection_beneficial());
-    indices(both);
+    text(rt, b"  with 1:")?;
+    answer(rt, both.projection_beneficial())?;
+    indices(rt, both)
 }
 
 // How many indices a set has.
@@ -72,27 +72,27 @@ fn size(r: RequiredIndices) -> usize {
 }
 
 // All indices below n: how many, whether r has all of them, what r is with them, whether that is all below 512.
-fn all(r: RequiredIndices, n: usize)
+fn all(rt: &impl Print, r: RequiredIndices, n: usize) -> io::Result<()>
     requires { n ≤ 512 }
 {
     let a = RequiredIndices::new_for_all_exprs(n);
     let both = r.append(a);
     let whole = RequiredIndices::new_for_all_exprs(512);
-    text(b"all below ");
-    number(n);
-    text(b": ");
-    number(size(a));
-    answer(a.is_empty());
-    answer(r.contains_all(a));
-    answer(whole.contains_all(a));
-    text(b" ");
-    number(size(both));
-    answer(both.equals(whole));
-    answer(both.projection_beneficial());
-    text(b"\n");
+    text(rt, b"all below ")?;
+    number(rt, n)?;
+    text(rt, b": ")?;
+    number(rt, size(a))?;
+    answer(rt, a.is_empty())?;
+    answer(rt, r.contains_all(a))?;
+    answer(rt, whole.contains_all(a))?;
+    text(rt, b" ")?;
+    number(rt, size(both))?;
+    answer(rt, both.equals(whole))?;
+    answer(rt, both.projection_beneficial())?;
+    text(rt, b"\n")
 }
 
-fn main() {
+fn main(rt: HostRuntime) -> io::Result<()> {
     let r = RequiredIndices::new()
         .with_index(127)
         .with_index(0)
@@ -101,20 +101,20 @@ fn main() {
         .with_index(63)
         .with_index(300)
         .with_index(0);
-    text(b"set:");
-    indices(r);
-    parts(r, 0);
-    parts(r, 63);
-    parts(r, 64);
-    parts(r, 127);
-    parts(r, 300);
-    parts(r, 511);
-    parts(r, 512);
-    all(r, 0);
-    all(r, 63);
-    all(r, 64);
-    all(r, 127);
-    all(r, 300);
-    all(r, 511);
-    all(r.with_projection_beneficial(), 512);
+    text(&rt, b"set:")?;
+    indices(&rt, r)?;
+    parts(&rt, r, 0)?;
+    parts(&rt, r, 63)?;
+    parts(&rt, r, 64)?;
+    parts(&rt, r, 127)?;
+    parts(&rt, r, 300)?;
+    parts(&rt, r, 511)?;
+    parts(&rt, r, 512)?;
+    all(&rt, r, 0)?;
+    all(&rt, r, 63)?;
+    all(&rt, r, 64)?;
+    all(&rt, r, 127)?;
+    all(&rt, r, 300)?;
+    all(&rt, r, 511)?;
+    all(&rt, r.with_projection_beneficial(), 512)
 }

@@ -4,7 +4,7 @@ use Rattle.std.proofs.Math.Option.{Option, none, some}
 use Rattle.vector_text.specs.declared.Parsed.{Parsed}
 use Rattle.vector_text.specs.declared.Parsed.TheVariants.{Number, Not}
 use Rattle.vector_text.specs.declared.Index.{Index}
-use Rattle.vector_text.specs.declared.Index.TheVariants.{Is, Not as None}
+use Rattle.vector_text.specs.declared.Index.TheVariants.{Is, Not as NoIndex}
 use Rattle.vector_text.specs.declared.Byte.{Byte}
 use Rattle.vector_text.specs.declared.Byte.TheVariants.{Is as IsByte, Not as NoByte}
 
@@ -14,7 +14,7 @@ parsed Not = none
 
 abbrev pub index : Index → Option ℕ
 index (Is x) = some x
-index None = none
+index NoIndex = none
 
 abbrev pub byte : Byte → Option ℕ
 byte (IsByte x) = some x

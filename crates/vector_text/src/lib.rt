@@ -34,6 +34,13 @@ enum Byte {
     Not,
 }
 
+// Do two texts have the same bytes?
+fn same(a: &[u8], b: &[u8]) -> bool
+    ensures { (result ≡ true → a.now ≡ b.now) × (a.now ≡ b.now → result ≡ true) }
+{
+    a == b
+}
+
 // The value of a hexadecimal digit, 16 for what is none.
 fn digit(b: u8) -> usize
     ensures { result ≡ digit_of b }
@@ -129,7 +136,7 @@ fn short(text: &[u8], from: usize, to: usize) -> Index
 pub fn list(text: &[u8], out: &mut [u16]) -> Parsed
     ensures { Stored (list_of text.now) out.old out.new result }
 {
-    if check::same(text, b"-") {
+    if same(text, b"-") {
         return Parsed::Number(0);
     }
     let mut n = 0;
@@ -170,7 +177,7 @@ fn hex(high: u8, low: u8) -> Byte
 pub fn bytes(text: &[u8], out: &mut [u8]) -> Parsed
     ensures { Stored (bytes_of text.now) out.old out.new result }
 {
-    if check::same(text, b"-") {
+    if same(text, b"-") {
         return Parsed::Number(0);
     }
     if text.len() == 0 {
@@ -202,7 +209,7 @@ pub fn is_word(line: &[u8], k: usize, word: &[u8]) -> bool
     let s = field(line, k);
     let from = s.from;
     let to = s.to;
-    check::same(&line[from..to], word)
+    same(&line[from..to], word)
 }
 
 /// The number that field k of a line is.
