@@ -140,7 +140,7 @@ key_right file s e l c c1 w w1 (Bad code place) h n = rw (e s.tags n, h n)
 
 pub call_sized : Sized call_store
 unfolding call_cells call_nodes
-call_sized = record { cells_long = λ made g. elim g [ rows ↦ refl | over f e ↦ expr_long made e ]; rows_long = λ made g. refl }
+call_sized = record { cells_long = λ made g. elim g as (λ k. length (call_store.cells_of made k) ≡ 3 * call_store.nodes_in k) [ rows ↦ refl | over f e ↦ expr_long made e ]; rows_long = λ made g. refl }
 
 module _ (file : List ℕ) (s : Spot) (f : ℕ) (c : List ℕ) where
   pub call_none : f ≡ 0 → s.tags ≤ max_tags → RightAt call_store (read_call f) file s s.tags c c [] [] (Done s)
@@ -228,7 +228,7 @@ two_sized : Sized two_store
 unfolding on_cells on_nodes
 two_sized =
     record {
-      cells_long = λ made o. elim o [ on a b ↦ simp length-append (omega (arith, expr_long made a, expr_long (made + expr_tags a) b)) ];
+      cells_long = λ made o. elim o as (λ k. length (two_store.cells_of made k) ≡ 3 * two_store.nodes_in k) [ on a b ↦ simp length-append (omega (arith, expr_long made a, expr_long (made + expr_tags a) b)) ];
       rows_long = λ made o. refl;
     }
 
@@ -276,7 +276,7 @@ pair-row-long (pair q m) x y = refl
 
 pub key-sized : Sized key_store
 unfolding key_cells key_row key_nodes
-key-sized = record { cells_long = λ made k. elim k [ key d m e ↦ expr_long made e ]; rows_long = λ made k. elim k [ key d m e ↦ refl ] }
+key-sized = record { cells_long = λ made k. elim k as (λ k. length (key_store.cells_of made k) ≡ 3 * key_store.nodes_in k) [ key d m e ↦ expr_long made e ]; rows_long = λ made k. elim k as (λ k. length (key_store.rows_of made k) ≡ 4 * key_store.rows_held k) [ key d m e ↦ refl ] }
 
 pub key-some : (k : Key) → 0 < key_nodes k
 unfolding key_nodes
@@ -288,11 +288,11 @@ expr_sized = record { cells_long = expr_long; rows_long = λ made e. refl }
 pub sized_of : (k : Kind) → Sized (store_of k)
 unfolding item_row agg_cells agg_row agg_nodes on_cells on_row on_nodes
 sized_of kind.Item =
-    record { cells_long = λ made i. expr_long made (item_expr i); rows_long = λ made i. elim i [ bare c ↦ pair-row-long c 0 _ | named c e ↦ pair-row-long c 1 _ ] }
+    record { cells_long = λ made i. expr_long made (item_expr i); rows_long = λ made i. elim i as (λ k. length ((store_of kind.Item).rows_of made k) ≡ 4 * (store_of kind.Item).rows_held k) [ bare c ↦ pair-row-long c 0 _ | named c e ↦ pair-row-long c 1 _ ] }
 sized_of kind.Key = key-sized
 sized_of kind.Expr = expr_sized
-sized_of kind.Agg = record { cells_long = λ made a. elim a [ agg c g ↦ call_sized.cells_long made g ]; rows_long = λ made a. elim a [ agg c g ↦ pair-row-long c (call_number g) _ ] }
-sized_of kind.On = record { cells_long = λ made o. two_sized.cells_long made o; rows_long = λ made o. elim o [ on a b ↦ refl ] }
+sized_of kind.Agg = record { cells_long = λ made a. elim a as (λ k. length ((store_of kind.Agg).cells_of made k) ≡ 3 * (store_of kind.Agg).nodes_in k) [ agg c g ↦ call_sized.cells_long made g ]; rows_long = λ made a. elim a as (λ k. length ((store_of kind.Agg).rows_of made k) ≡ 4 * (store_of kind.Agg).rows_held k) [ agg c g ↦ pair-row-long c (call_number g) _ ] }
+sized_of kind.On = record { cells_long = λ made o. two_sized.cells_long made o; rows_long = λ made o. elim o as (λ k. length ((store_of kind.On).rows_of made k) ≡ 4 * (store_of kind.On).rows_held k) [ on a b ↦ refl ] }
 sized_of kind.Pair = record { cells_long = λ made c. refl; rows_long = λ made c. pair-row-long c 0 0 }
 sized_of (kind.Column k columns) = record { cells_long = λ made i. refl; rows_long = λ made i. refl }
 

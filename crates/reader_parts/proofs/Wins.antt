@@ -172,7 +172,7 @@ win-right file s {c} {next} e c0 c1 w w1 r h n = right_as win_store (spot next s
 
 pub win-sized : Sized win_store
 unfolding win_cells win_rows win_nodes win_rows_in
-win-sized = record { cells_long = λ made v. elim v [ win c g ps ks ↦ cells made c g ps ks ]; rows_long = λ made v. elim v [ win c g ps ks ↦ rows made c g ps ks ] }
+win-sized = record { cells_long = λ made v. elim v as (λ k. length (win_store.cells_of made k) ≡ 3 * win_store.nodes_in k) [ win c g ps ks ↦ cells made c g ps ks ]; rows_long = λ made v. elim v as (λ k. length (win_store.rows_of made k) ≡ 4 * win_store.rows_held k) [ win c g ps ks ↦ rows made c g ps ks ] }
   where
     parts : Sized (list_store expr_store)
     parts = list-sized expr_store expr_sized

@@ -31,4 +31,4 @@ returns-in-12 c =
 pub returns-in_default : goal.returns-in_default
 returns-in_default c =
     let e = rw c.in-Got.is at c.read_tag-tag.ensures in
-    item-value _ _ _ e.0 c.in-0.rest.0.1 c.in-0.rest.1
+    item-value _ _ _ e.0 (λ e. omega arith) (λ e. omega arith)

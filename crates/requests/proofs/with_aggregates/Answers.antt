@@ -13,6 +13,7 @@ use Rattle.lookup.specs.Fields.{row_at}
 use Rattle.lookup.proofs.Lists.{rest, rest_all, rest-next, rest-none}
 use Rattle.requests.proofs.Lists.{Picked, picked_all, picked_no, picked_none, picked_yes}
 use Rattle.requests.proofs.with_aggregates.Goals as goal
+use Rattle.requests.proofs.with_aggregates.Goals.{then-contains, else-contains}
 
 pub loop-i-init : goal.loop-i-init
 loop-i-init c =
@@ -41,10 +42,10 @@ pub loop-i-preserved : goal.loop-i-preserved
 unfolding agg_exprs
 loop-i-preserved c =
     let next = rest-next _ _ _ _ c.loop-i-test.true in
-    ⊎_elim
-    (λ w. rw w.3 (picked_yes c.loop-i.invariant _ _ next c.loop-i-test.true (sym c.contains.ensures ∙ w.0.taken) (rw (w.1.ensures.means c.args.cells.now) w.2.ensures)))
-    (λ w. rw w.1 (picked_no c.loop-i.invariant _ _ next c.loop-i-test.true (sym c.contains.ensures ∙ w.0.left)))
-    c.if-contains.branch
+    elim c.if-contains.branch [
+    | then-contains w ↦ rw w.out-is (picked_yes c.loop-i.invariant _ _ next c.loop-i-test.true (sym c.contains.ensures ∙ w.if-contains.true) (rw (w.agg_at-a.ensures.means c.args.cells.now) w.with_call-out.ensures))
+    | else-contains w ↦ rw w.out-is (picked_no c.loop-i.invariant _ _ next c.loop-i-test.true (sym c.contains.ensures ∙ w.if-contains.false))
+    ]
 
 pub returns : goal.returns
 returns c =

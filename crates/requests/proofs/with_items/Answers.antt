@@ -16,6 +16,7 @@ use Rattle.requests.specs.Asked.{of_words}
 use Rattle.requests.proofs.Adding.{adds_words}
 use Rattle.requests.proofs.Lists.{Picked, item_only, items_picked, picked_all, picked_no, picked_none, picked_yes}
 use Rattle.requests.proofs.with_items.Goals as goal
+use Rattle.requests.proofs.with_items.Goals.{then-contains, else-contains}
 
 pub loop-i-init : goal.loop-i-init
 loop-i-init c = (picked_none (items_picked _ _ _ _ _), search rules, refl)
@@ -42,10 +43,10 @@ loop-i-smaller c =
 pub loop-i-preserved : goal.loop-i-preserved
 loop-i-preserved c =
     let next = rest-next _ _ _ _ c.loop-i-test.true in
-    ⊎_elim
-    (λ w. rw (w.4, w.5) (picked_yes c.loop-i.invariant.0 _ _ next c.loop-i-test.true (sym c.contains.ensures ∙ w.0.taken) (rw (read_expr_lem _ w.1.ensures (row_ok _ _ _ _ c.requires.rows_ok _ c.loop-i-test.true)) w.3.ensures.0), w.3.ensures.1, c.loop-i.invariant.2))
-    (λ w. rw (w.1, w.2) (picked_no c.loop-i.invariant.0 _ _ next c.loop-i-test.true (sym c.contains.ensures ∙ w.0.left), c.loop-i.invariant.1, c.loop-i.invariant.2))
-    c.if-contains.branch
+    elim c.if-contains.branch [
+    | then-contains w ↦ rw (w.out-is, w.used-is) (picked_yes c.loop-i.invariant.0 _ _ next c.loop-i-test.true (sym c.contains.ensures ∙ w.if-contains.true) (rw (read_expr_lem _ w.row_at-row.ensures (row_ok _ _ _ _ c.requires.rows_ok _ c.loop-i-test.true)) w.add-used.ensures.adds), w.add-used.ensures.lent_2, c.loop-i.invariant.2)
+    | else-contains w ↦ rw (w.out-is, w.used-is) (picked_no c.loop-i.invariant.0 _ _ next c.loop-i-test.true (sym c.contains.ensures ∙ w.if-contains.false), c.loop-i.invariant.1, c.loop-i.invariant.2)
+    ]
 
 pub returns : goal.returns
 returns c =

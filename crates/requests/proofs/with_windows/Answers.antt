@@ -12,6 +12,7 @@ use Rattle.tree.specs.Rows.{AllAt, WinOk, win_at, win_size, wins_at}
 use Rattle.lookup.specs.Fields.{row_at}
 use Rattle.requests.proofs.Lists.{Picked, all_here, list-end, list-next, picked_all, picked_no, picked_none, picked_yes}
 use Rattle.requests.proofs.with_windows.Goals as goal
+use Rattle.requests.proofs.with_windows.Goals.{then-contains, else-contains}
 
 pub loop-i-init : goal.loop-i-init
 loop-i-init c =
@@ -37,10 +38,10 @@ pub loop-i-preserved : goal.loop-i-preserved
 loop-i-preserved c =
     let next = list-next _ _ _ _ _ c.loop-i-test.true in
     rw c.win_at-w.ensures.next_is (
-      ⊎_elim
-          (λ w. rw w.2 (picked_yes c.loop-i.invariant.0 _ _ next c.loop-i-test.true (sym c.contains.ensures ∙ w.0.taken) w.1.ensures))
-          (λ w. rw w.1 (picked_no c.loop-i.invariant.0 _ _ next c.loop-i-test.true (sym c.contains.ensures ∙ w.0.left)))
-          c.if-contains.branch,
+      elim c.if-contains.branch [
+      | then-contains w ↦ rw w.out-is (picked_yes c.loop-i.invariant.0 _ _ next c.loop-i-test.true (sym c.contains.ensures ∙ w.if-contains.true) w.with_window-out.ensures)
+      | else-contains w ↦ rw w.out-is (picked_no c.loop-i.invariant.0 _ _ next c.loop-i-test.true (sym c.contains.ensures ∙ w.if-contains.false))
+      ],
       (all_here _ _ _ _ _ c.loop-i-test.true c.loop-i.invariant.1).1,
     )
 

@@ -12,7 +12,7 @@ pub slice_bounds-put_any-start : goal.slice_bounds-put_any-start
 slice_bounds-put_any-start t c = simp length-set (omega arith)
 
 pub put_any-requires : goal.put_any-requires
-put_any-requires t c = λ _.
+put_any-requires t c =
     (omega (arith, c.decreases), fits (set c.args.out.now 0 (c.args.x % 256)) 1 (c.args.k - 1) (omega (arith, c.requires, length-set c.args.out.now 0 (c.args.x % 256))))
 
 pub shape_of-out : goal.shape_of-out

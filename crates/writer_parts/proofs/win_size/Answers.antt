@@ -10,10 +10,10 @@ use Rattle.writer_parts.proofs.Wins.{win-keys, win-length, win-parts, win-tags}
 use Rattle.writer_parts.proofs.win_size.Goals as goal
 
 pub counted_size-p-requires : goal.counted_size-p-requires
-counted_size-p-requires c = record { lent = lent c.new-none.result.indices c.new-none.type-inv.1.1.0.0 c.new-none.type-inv.1.1.0.1.0.1 c.new-none.type-inv.1.1.0.1.1; parts_ok = win-parts c.args.cells.now c.win_at-w.ensures c.requires.win_ok (which true (set_of c.new-none.result)) refl (omega (arith, c.well_formed.0.0)); countable = omega (arith, c.requires.countable, win-length c.args.cells.now c.win_at-w.ensures c.requires.win_ok (which true (set_of c.new-none.result)) refl, win-tags c.args.cells.now c.win_at-w.ensures c.requires.win_ok (which true (set_of c.new-none.result)) refl) }
+counted_size-p-requires c = record { lent = (search rules, λ j. search rules); parts_ok = win-parts c.args.cells.now c.win_at-w.ensures c.requires.win_ok (which true (set_of c.new-none.result)) refl (omega (arith, c.well_formed.0.0)); countable = omega (arith, c.requires.countable, win-length c.args.cells.now c.win_at-w.ensures c.requires.win_ok (which true (set_of c.new-none.result)) refl, win-tags c.args.cells.now c.win_at-w.ensures c.requires.win_ok (which true (set_of c.new-none.result)) refl) }
 
 pub counted_size-k-requires : goal.counted_size-k-requires
-counted_size-k-requires c = record { lent = lent c.new-none.result.indices c.new-none.type-inv.1.1.0.0 c.new-none.type-inv.1.1.0.1.0.1 c.new-none.type-inv.1.1.0.1.1; parts_ok = win-keys c.args.cells.now c.win_at-w.ensures c.requires.win_ok (which true (set_of c.new-none.result)) refl (omega (arith, c.well_formed.0.0)); countable = omega (arith, c.requires.countable, win-length c.args.cells.now c.win_at-w.ensures c.requires.win_ok (which true (set_of c.new-none.result)) refl, win-tags c.args.cells.now c.win_at-w.ensures c.requires.win_ok (which true (set_of c.new-none.result)) refl) }
+counted_size-k-requires c = record { lent = (search rules, λ j. search rules); parts_ok = win-keys c.args.cells.now c.win_at-w.ensures c.requires.win_ok (which true (set_of c.new-none.result)) refl (omega (arith, c.well_formed.0.0)); countable = omega (arith, c.requires.countable, win-length c.args.cells.now c.win_at-w.ensures c.requires.win_ok (which true (set_of c.new-none.result)) refl, win-tags c.args.cells.now c.win_at-w.ensures c.requires.win_ok (which true (set_of c.new-none.result)) refl) }
 
 pub call_size-m-requires : goal.call_size-m-requires
 call_size-m-requires c = record { wf = c.win_at-w.ensures.node _ c.requires.win_ok; countable = omega (arith, c.requires.countable, win-length c.args.cells.now c.win_at-w.ensures c.requires.win_ok (which true (set_of c.new-none.result)) refl, win-tags c.args.cells.now c.win_at-w.ensures c.requires.win_ok (which true (set_of c.new-none.result)) refl) }

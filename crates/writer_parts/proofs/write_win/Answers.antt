@@ -27,7 +27,7 @@ slice_bounds-write_counted-start c =
     omega (arith, c.requires.i_in_bounds, win-length c.args.cells.now c.win_at-w.ensures c.requires.win_ok (which true (set_of c.new-none.result)) refl, c.put_pair-a.ensures.long, c.put_at-b.ensures.long, c.well_formed.1.1.1.0.0)
 
 pub write_counted-p-requires : goal.write_counted-p-requires
-write_counted-p-requires c = record { lent = lent c.new-none.result.indices c.new-none.type-inv.1.1.0.0 c.new-none.type-inv.1.1.0.1.0.1 c.new-none.type-inv.1.1.0.1.1; parts_ok = win-parts c.args.cells.now c.win_at-w.ensures c.requires.win_ok (which true (set_of c.new-none.result)) refl (omega (arith, c.well_formed.0.0)); used_in_bounds = omega (arith, c.requires.i_in_bounds, win-length c.args.cells.now c.win_at-w.ensures c.requires.win_ok (which true (set_of c.new-none.result)) refl) }
+write_counted-p-requires c = record { lent = (search rules, λ j. search rules); parts_ok = win-parts c.args.cells.now c.win_at-w.ensures c.requires.win_ok (which true (set_of c.new-none.result)) refl (omega (arith, c.well_formed.0.0)); used_in_bounds = omega (arith, c.requires.i_in_bounds, win-length c.args.cells.now c.win_at-w.ensures c.requires.win_ok (which true (set_of c.new-none.result)) refl) }
 
 pub overflow_add-c : goal.overflow_add-c
 overflow_add-c c =
@@ -42,7 +42,7 @@ slice_bounds-write_counted-start-2 c =
     omega (arith, c.requires.i_in_bounds, win-length c.args.cells.now c.win_at-w.ensures c.requires.win_ok (which true (set_of c.new-none.result)) refl, c.put_pair-a.ensures.long, c.put_at-b.ensures.long, c.write_counted-p.ensures.long, c.well_formed.1.1.1.0.0)
 
 pub write_counted-k-requires : goal.write_counted-k-requires
-write_counted-k-requires c = record { lent = lent c.new-none.result.indices c.new-none.type-inv.1.1.0.0 c.new-none.type-inv.1.1.0.1.0.1 c.new-none.type-inv.1.1.0.1.1; parts_ok = win-keys c.args.cells.now c.win_at-w.ensures c.requires.win_ok (which true (set_of c.new-none.result)) refl (omega (arith, c.well_formed.0.0)); used_in_bounds = let k = kept (part (then (then start c.put_pair-a.ensures) c.put_at-b.ensures) c.write_counted-p.ensures) (omega (arith, c.requires.i_in_bounds, win-length c.args.cells.now c.win_at-w.ensures c.requires.win_ok (which true (set_of c.new-none.result)) refl, c.put_pair-a.ensures.long, c.put_at-b.ensures.long, c.write_counted-p.ensures.long)) in omega (arith, c.requires.i_in_bounds, win-length c.args.cells.now c.win_at-w.ensures c.requires.win_ok (which true (set_of c.new-none.result)) refl, c.put_pair-a.ensures.long, c.put_at-b.ensures.long, c.write_counted-p.ensures.long, k) }
+write_counted-k-requires c = record { lent = (search rules, λ j. search rules); parts_ok = win-keys c.args.cells.now c.win_at-w.ensures c.requires.win_ok (which true (set_of c.new-none.result)) refl (omega (arith, c.well_formed.0.0)); used_in_bounds = let k = kept (part (then (then start c.put_pair-a.ensures) c.put_at-b.ensures) c.write_counted-p.ensures) (omega (arith, c.requires.i_in_bounds, win-length c.args.cells.now c.win_at-w.ensures c.requires.win_ok (which true (set_of c.new-none.result)) refl, c.put_pair-a.ensures.long, c.put_at-b.ensures.long, c.write_counted-p.ensures.long)) in omega (arith, c.requires.i_in_bounds, win-length c.args.cells.now c.win_at-w.ensures c.requires.win_ok (which true (set_of c.new-none.result)) refl, c.put_pair-a.ensures.long, c.put_at-b.ensures.long, c.write_counted-p.ensures.long, k) }
 
 pub overflow_add-d : goal.overflow_add-d
 overflow_add-d c =
