@@ -29,8 +29,9 @@ pub fn put_text(out: &mut [u8], at: usize, s: &[u8]) -> usize
     requires { at + length s.now ≤ length out.old }
     ensures { Puts at s.now out.old result out.new }
 {
-    let n = bytes::copy(s, &mut out[at..]);
-    at + n
+    let end = at + s.len();
+    out[at..end].copy_from_slice(s);
+    end
 }
 
 /// The decimal digits of n from `at` on; the place after them.

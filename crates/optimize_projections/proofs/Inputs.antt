@@ -161,7 +161,7 @@ module _ (s : Settings) {cells rows nodes fields widths keys : List ℕ} where
         first_too_large q {i} d = record {
           is = λ b.
               subst (InputsIs (merge_by s) b.standing.C (lent cells rows nodes) b.standing.count r r₁ u k j b.Q b.P i) (sym e)
-              (subst (TwoIs b.standing.C (lent cells rows nodes) b.standing.count r r₁ u _ _) (sym d)
+              (subst (TwoIs b.standing.C (lent cells rows nodes) b.standing.count r r₁ u (input_walk (merge_by s) b.standing.C (plan_at (lent cells rows nodes) (k + 1)) (flag_of j.ask) true b.Q) (input_walk (merge_by s) b.standing.C (plan_at (lent cells rows nodes) right) (flag_of j.second) true b.P)) (sym d)
               (first-large b.standing.C (lent cells rows nodes) b.standing.count r r₁ r₁ u (input_walk (merge_by s) b.standing.C (plan_at (lent cells rows nodes) (k + 1)) (flag_of j.ask) true b.Q)
               (input_walk (merge_by s) b.standing.C (plan_at (lent cells rows nodes) right) (flag_of j.second) true b.P) w.kept (first-end b Large q)));
         }
@@ -177,8 +177,8 @@ module _ (s : Settings) {cells rows nodes fields widths keys : List ℕ} where
             is = λ b.
                 let x₁ = first-end b (Done rec v) q in
                 subst (InputsIs (merge_by s) b.standing.C (lent cells rows nodes) b.standing.count r r₂ u k j b.Q b.P i) (sym e)
-                (subst (TwoIs b.standing.C (lent cells rows nodes) b.standing.count r r₂ u _ _) (sym d.0)
-                (both b.standing.C (lent cells rows nodes) b.standing.count r r₁ r₂ u _ _ rec v x₁.0 x₁.2 w₂.kept w₂.end (y.is (second-before b))));
+                (subst (TwoIs b.standing.C (lent cells rows nodes) b.standing.count r r₂ u (input_walk (merge_by s) b.standing.C (plan_at (lent cells rows nodes) (k + 1)) (flag_of j.ask) true b.Q) (input_walk (merge_by s) (second-before b).standing.C (plan_at (lent cells rows nodes) right) (flag_of j.second) true (second-before b).R)) (sym d.0)
+                (both b.standing.C (lent cells rows nodes) b.standing.count r r₁ r₂ u (input_walk (merge_by s) b.standing.C (plan_at (lent cells rows nodes) (k + 1)) (flag_of j.ask) true b.Q) _ rec v x₁.0 x₁.2 w₂.kept w₂.end (y.is (second-before b))));
           }
 
     -- one input

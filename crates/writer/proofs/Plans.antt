@@ -5,7 +5,7 @@ use mathlib.Core.List.{List, [], ◌++◌, append_assoc, append-nil}
 use Prim.Native.Nat.{ℕ, zero, suc, ◌+◌, ◌*◌, ◌-◌, ◌^◌, ◌<◌, ◌≤◌}
 use native.Mathlib.Omega.{arith}
 use lib.ListN.{length, take, drop, length-append}
-use lib.Seq.{take_all}
+use lib.Seq.{length-take-le, take_all}
 use Rattle.cpl.specs.Bytes.{plan_bytes, unary_bytes}
 use Rattle.cpl.specs.Exprs.{plan_nodes, plan_tags}
 use Rattle.cpl.specs.Limits.{Version}
@@ -349,9 +349,8 @@ pub room_after : (o ys : List ℕ) (a m n : ℕ) {k : ℕ} → length o ≡ k �
 room_after o ys a m n d e l = fits (back o ys a) (a + m) n (omega (arith, d, l, length_back a o ys (omega (arith, d, l)) e))
 
 -- the start of a file was copied
-pub copy_wrote : {xs out : List ℕ} {a : ℕ} (start : ℕ) (file : List ℕ) → a ≡ length (take start file) →
-    out ≡ take (length (take start file)) (take start file) ++ drop (length (take start file)) xs → Wrote (take start file) xs a out
+pub copy_wrote : {xs ys : List ℕ} (start : ℕ) (file : List ℕ) → start ≤ length file → ys ≡ take start file → Wrote (take start file) xs start (ys ++ drop start xs)
 unfolding over
-copy_wrote {xs} start file e d =
-    let w = take start file in
-    record { long = e; ends = d ∙ ap (λ (ys : List ℕ). ys ++ drop (length w) xs) (take_all (length w) w (omega arith)) }
+copy_wrote {xs} {ys} start file h e =
+    let l : length (take start file) ≡ start = length-take-le start file h in
+    record { long = sym l; ends = ap₂ ◌++◌ e (ap (λ (k : ℕ). drop k xs) (sym l)) }

@@ -381,7 +381,7 @@ pub fn write_plan(
         records.now items.now icells.now i)
         → Wrote (take start file.now ++ plan_bytes (version_of version) (plan_of w)) out.old result out.new }
 {
-    let at = bytes::copy(&file[..start], out);
+    out[..start].copy_from_slice(&file[..start]);
     let plan = write_node(
         version.wide,
         version.late,
@@ -394,7 +394,7 @@ pub fn write_plan(
         items,
         icells,
         i,
-        &mut out[at..],
+        &mut out[start..],
     );
-    at + plan
+    start + plan
 }
