@@ -1,6 +1,6 @@
 /* Simmerroof: column pruning for query plans.
  *
- * Link target/staticlib/libsimmerroof.a, which `rt staticlib simmerroof` proves and writes (x86-64 Linux).
+ * Link crates/simmerroof/out/libsimmerroof.a, which `rt lib` in crates/simmerroof proves and writes (x86-64 Linux).
  *
  * A plan file and a request go in; a plan file comes out whose scans read only the columns that are needed. The file's
  * form is in docs/FORMAT.md, with worked examples byte by byte; examples/ has small programs.
@@ -92,7 +92,7 @@ extern "C" {
  * Stack: 4 MiB are enough for the two plain functions on files of version 1, 8 MiB on files of version 2, and 3 MiB for the lent
  * form below on both; less where plans are small. The plain ones keep their working arrays on the stack and clear them in each
  * call: 1.2 MB for a file of version 1, 3.2 MB for one of version 2. Besides, each level of a plan takes some 3.3 KB, and each
- * level of an expression a third of a KB. (Measured, not proved: bench/stack.)
+ * level of an expression a third of a KB. (Measured on the kit before this one, not proved: bench/stack.)
  *
  * request: the wanted fields of the plan's root, by index, strictly increasing. */
 void simmerroof_prune(uint8_t mode, uint16_t mask, const uint8_t *file, size_t file_len, const uint16_t *request,

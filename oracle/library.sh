@@ -18,17 +18,17 @@ takes() { # USAGE CHOICES WORDS...
     done
 }
 
-# Exports SIMMERROOF_LIB, the folder of the libsimmerroof.a to link: as it is set, or else target/staticlib, where tools/build
+# Exports SIMMERROOF_LIB, the folder of the libsimmerroof.a to link: as it is set, or else crates/simmerroof/out, where tools/build
 # proves and writes it if it is absent or older than a source. Before anything is built it refuses a processor that cannot run
-# what is linked; with `cross` it does not, as the command has a compiler and a way to run programs for x86-64.
-library() { # COMMAND [cross]
+# what is linked.
+library() { # COMMAND
     if [ -n "${SIMMERROOF_LIB-}" ]; then
         [ -f "$SIMMERROOF_LIB/libsimmerroof.a" ] || refuse "$1: there is no libsimmerroof.a in $SIMMERROOF_LIB (SIMMERROOF_LIB)"
-    elif [ "$(uname -m)" != x86_64 ] && [ "${2-}" != cross ]; then
-        refuse "$1: needs x86-64, and this is $(uname -m): run it there, or set SIMMERROOF_LIB to the folder of a libsimmerroof.a for this processor (for tests: oracle/arm-library $1)"
+    elif [ "$(uname -m)" != x86_64 ]; then
+        refuse "$1: needs x86-64, and this is $(uname -m): run it there, or set SIMMERROOF_LIB to the folder of a libsimmerroof.a for this processor"
     else
         "$root/tools/build" library simmerroof
-        SIMMERROOF_LIB=$root/target/staticlib
+        SIMMERROOF_LIB=$root/crates/simmerroof/out
     fi
     SIMMERROOF_LIB=$(cd "$SIMMERROOF_LIB" && pwd)
     export SIMMERROOF_LIB

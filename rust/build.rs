@@ -1,4 +1,4 @@
-//! Links libsimmerroof.a from the directory SIMMERROOF_LIB, or from ../target/staticlib, where `rt staticlib simmerroof` puts it.
+//! Links libsimmerroof.a from the directory SIMMERROOF_LIB, or from ../crates/simmerroof/out, where `rt lib` puts it.
 use std::env;
 use std::path::PathBuf;
 
@@ -12,13 +12,13 @@ fn main() {
                 arch == "x86_64",
                 "the library is for x86-64, not {arch}: set SIMMERROOF_LIB to the directory of one for it"
             );
-            PathBuf::from(env::var("CARGO_MANIFEST_DIR").unwrap()).join("../target/staticlib")
+            PathBuf::from(env::var("CARGO_MANIFEST_DIR").unwrap()).join("../crates/simmerroof/out")
         }
     };
     let archive = dir.join("libsimmerroof.a");
     assert!(
         archive.is_file(),
-        "{} is not there: run `rt staticlib simmerroof`, or set SIMMERROOF_LIB to the directory of libsimmerroof.a",
+        "{} is not there: run `rt lib` in crates/simmerroof, or set SIMMERROOF_LIB to the directory of libsimmerroof.a",
         archive.display()
     );
     println!("cargo:rerun-if-changed={}", archive.display());

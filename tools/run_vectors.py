@@ -2,7 +2,7 @@
 """tools/run_vectors.py [FOLDER]: runs all stored vectors and says how many differ; the status is 1 if one does.
 
 FOLDER (../shared/vectors) has the files of the table FILES below, in the form that its README.md says; adding a file is adding a
-row. The programs are proved and built where that is needed (tools/build) and run on either processor (tools/run). Not part of the
+row. The programs are proved and built where that is needed (tools/build) and run (tools/run). Not part of the
 gate, which replays the choice in crates/replay/stdin.
 """
 import subprocess

@@ -1,0 +1,18 @@
+-- The proof of the cycle of calls {check_from}. The measure is the number of versions that are left. Assumes nothing.
+use Prim.Native.Nat.{ℕ, ◌<◌, ◌-◌}
+use borrow.Author.Rules.{rules}
+use native.Mathlib.Omega.{arith}
+use Rattle.acceptance.proofs.Marks.{first_narrow, none_more, unmarked}
+use Rattle.acceptance.proofs.+check_from.Goals as goal
+
+pub returns-then-number-gt2 : goal.returns-then-number-gt2
+returns-then-number-gt2 t c =
+    unmarked _ _ c.requires c.if-number-gt2.true c.refuse-refused.result c.refuse-refused.ensures
+
+pub check_narrow-requires : goal.check_narrow-requires
+check_narrow-requires t c =
+    first_narrow _ c.if-has_mark.true c.has_mark.ensures c.if-number-eq1.true
+
+pub check_from-requires : goal.check_from-requires
+check_from-requires t c =
+    (omega (arith, c.decreases, c.if-number-gt2.false), none_more _ _ c.requires c.if-has_mark.false c.has_mark.ensures)
