@@ -1,4 +1,4 @@
--- `arena::node_at` meets its contract: each case is a law of `exprAt`. Assumes nothing.
+-- `arena::node_at` meets its contract: each case is a law of `expr_at`. Assumes nothing.
 use mathlib.Core.Path.{◌≡◌, refl, sym, ap, ap₂, ◌∙◌}
 use mathlib.Core.List.{List}
 use Prim.Native.Nat.{ℕ, ◌<◌, ◌≤◌}
