@@ -111,10 +111,10 @@ module _ (mode mask : ℕ) (file : List ℕ) where
     pub printed_refusal : 0 < r.code → Wrote (refused_text r.code r.place) xs n ys → Wrote (printed_text mode mask file) xs n ys
     unfolding printed_text
     printed_refusal l w =
-        so w (ap₂ refused_text h.code-is h.place_is ∙ sym (refusal-text (verdict mode mask file all) given (omega (arith, h.code-is)))) refl
+        so w (ap₂ refused_text h.code_is h.place_is ∙ sym (refusal-text (verdict mode mask file all) given (omega (arith, h.code_is)))) refl
 
     pub printed_listing : AreBytes file → r.code ≡ 0 → Wrote (list_text (take r.length out')) xs n ys → Wrote (printed_text mode mask file) xs n ys
     printed_listing b z w =
-        let e = sym h.code-is ∙ z in
+        let e = sym h.code_is ∙ z in
         let s = read_back mode mask file (λ width. iota 0 width) lent_out b e in
         so w (ap₂ (λ (i : ℕ) (out : List ℕ). list_text (take i out)) h.length_is h.out_is ∙ (listed_back s ∙ sym (prints_plan s e))) refl

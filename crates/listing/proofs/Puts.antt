@@ -5,6 +5,7 @@ use Prim.Native.Nat.{ℕ, suc, ◌+◌, ◌-◌, ◌/◌, ◌%◌, ◌^◌, ◌<
 use native.Mathlib.Omega.{arith}
 use lib.ListN.{length, take, drop, set, length-append, take-append-drop}
 use lib.Seq.{take_all, drop-drop, length-take-le, set_split}
+use borrow.Rule.Slice.PartMut.{put_mid}
 use Rattle.writer_parts.specs.Wrote.{over, Wrote, Laid}
 use Rattle.writer_parts.proofs.Over.{kept, laid, over-over, part, so, start, then}
 use Rattle.tree.specs.declared.Node.{Node}
@@ -15,15 +16,16 @@ use Rattle.plan_text.specs.Decimal.{decimal}
 use Rattle.plan_text.proofs.Digits.{small, step}
 use Rattle.listing.proofs.Digits.{short, step-length}
 
--- all of s was copied over the start of xs
-pub copied : {xs out : List ℕ} {a : ℕ} (s : List ℕ) → a ≡ length s → out ≡ take (length s) s ++ drop (length s) xs → Wrote s xs a out
+-- all of s was copied into the part of xs that is as long, from `at` on
+pub copied : {xs out : List ℕ} (at : ℕ) (s : List ℕ) → out ≡ s → Puts at s xs (at + length s) (put_mid at (at + length s - at) xs out)
 unfolding over
-copied {xs} s e d = record { long = e; ends = d ∙ ap (λ (ys : List ℕ). ys ++ drop (length s) xs) (take_all (length s) s (omega arith)) }
-
--- what was put at a place
-pub put : {v out ys : List ℕ} {n r : ℕ} (at : ℕ) → Wrote v (take (length out - at) (drop at out)) n ys → r ≡ at + n
-    → Puts at v out r (take at out ++ (ys ++ drop (length out - at) (drop at out)))
-put {v} at w e = let l = laid at w in record { long = e ∙ ap (at +◌) w.long; size = refl; ends = l.ends }
+copied {xs} {out} at s e =
+    let long : at + length s - at ≡ length s = omega arith in
+    record {
+      long = refl;
+      size = refl;
+      ends = ap (λ (k : ℕ). put_mid at k xs out) long ∙ ap (λ (v : List ℕ). take at xs ++ (v ++ drop (length s) (drop at xs))) e;
+    }
 
 -- the bytes before the place, and then what was put there
 start_kept : (at : ℕ) (xs : List ℕ) → at ≤ length xs → Wrote (take at xs) xs at xs
