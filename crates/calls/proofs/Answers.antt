@@ -83,5 +83,5 @@ module _ {a : rules.Answer} {r : Answer} {out' : List ℕ} (h : AnswerIs a r out
   answer-text =
       ap (text_of r.code r.place) (take-append-le r.length out' rest fits)
       ∙ ap (λ (n : ℕ). numbers_text (r.code ∷ n ∷ r.place ∷ []) ++ take r.length out') (length-take-le r.length out' fits)
-      ∙ ap₂ (λ (c : ℕ) (p : ℕ). answer_text c r.length p out') h.code-is h.place_is
+      ∙ ap₂ (λ (c : ℕ) (p : ℕ). answer_text c r.length p out') h.code_is h.place_is
       ∙ ap₂ (λ (n : ℕ) (ys : List ℕ). answer_text a.code n a.place ys) h.length_is h.out_is
