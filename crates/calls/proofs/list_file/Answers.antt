@@ -3,9 +3,6 @@ use Rattle.calls.proofs.Listings.{file_listed, file_refused}
 use Rattle.calls.proofs.Texts.{named}
 use Rattle.calls.proofs.list_file.Goals as goal
 
--- LOST slice-aggregate-write-answer : tie.Need-slice-aggregate-write-answer
--- LOST slice-aggregate-write-answer c = search rules
-
 pub returns-then-c-gt0 : goal.returns-then-c-gt0
 returns-then-c-gt0 c = record { wrote = named (file_refused _ c.check-c.ensures c.if-c-gt0.true) c.write_answer.ensures.wrote; counts = c.write_answer.ensures.counts }
 

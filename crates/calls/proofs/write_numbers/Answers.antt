@@ -6,9 +6,6 @@ use lib.ListN.{get_or}
 use native.Mathlib.Omega.{arith}
 use Rattle.calls.proofs.write_numbers.Goals as goal
 
--- LOST slice-aggregate-put-text : tie.Need-slice-aggregate-put-text
--- LOST slice-aggregate-put-text c = search rules
-
 pub put_number-a-requires : goal.put_number-a-requires
 put_number-a-requires c =
     omega (arith, c.requires.0, c.requires.1, short (get_or c.args.numbers.now 0 0) (omega (arith, c.shared_slice_known-1.given 0)))

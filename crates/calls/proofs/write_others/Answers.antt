@@ -6,9 +6,6 @@ use mathlib.Core.Path.{refl}
 use native.Mathlib.Omega.{arith}
 use Rattle.calls.proofs.write_others.Goals as goal
 
--- LOST slice-aggregate-put-text : tie.Need-slice-aggregate-put-text invariant-loop decreases-loop
--- LOST slice-aggregate-put-text c = search rules
-
 pub loop-k-init : goal.loop-k-init
 loop-k-init c =
     (omega arith, omega arith, refl, others-none c.args.numbers.now)

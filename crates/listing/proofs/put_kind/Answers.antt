@@ -4,42 +4,6 @@ use Rattle.listing.specs.Lines.{node_text}
 use mathlib.Core.Path.{ap}
 use Rattle.listing.proofs.put_kind.Goals as goal
 
--- LOST slice-aggregate-put-text : tie.Need-slice-aggregate-put-text
--- LOST slice-aggregate-put-text c = search rules
-
--- LOST slice-aggregate-put-text-2 : tie.Need-slice-aggregate-put-text-2
--- LOST slice-aggregate-put-text-2 c = search rules
-
--- LOST slice-aggregate-put-text-3 : tie.Need-slice-aggregate-put-text-3
--- LOST slice-aggregate-put-text-3 c = search rules
-
--- LOST slice-aggregate-put-text-4 : tie.Need-slice-aggregate-put-text-4
--- LOST slice-aggregate-put-text-4 c = search rules
-
--- LOST slice-aggregate-put-text-5 : tie.Need-slice-aggregate-put-text-5
--- LOST slice-aggregate-put-text-5 c = search rules
-
--- LOST slice-aggregate-put-text-6 : tie.Need-slice-aggregate-put-text-6
--- LOST slice-aggregate-put-text-6 c = search rules
-
--- LOST slice-aggregate-put-text-7 : tie.Need-slice-aggregate-put-text-7
--- LOST slice-aggregate-put-text-7 c = search rules
-
--- LOST slice-aggregate-put-text-8 : tie.Need-slice-aggregate-put-text-8
--- LOST slice-aggregate-put-text-8 c = search rules
-
--- LOST slice-aggregate-put-text-9 : tie.Need-slice-aggregate-put-text-9
--- LOST slice-aggregate-put-text-9 c = search rules
-
--- LOST slice-aggregate-put-text-10 : tie.Need-slice-aggregate-put-text-10
--- LOST slice-aggregate-put-text-10 c = search rules
-
--- LOST slice-aggregate-put-text-11 : tie.Need-slice-aggregate-put-text-11
--- LOST slice-aggregate-put-text-11 c = search rules
-
--- LOST slice-aggregate-put-text-12 : tie.Need-slice-aggregate-put-text-12
--- LOST slice-aggregate-put-text-12 c = search rules
-
 pub returns-in-Projection : goal.returns-in-Projection
 unfolding node_text
 returns-in-Projection c =

@@ -5,15 +5,6 @@ use Rattle.tree.proofs.Plans.{node}
 use native.Mathlib.Omega.{arith}
 use Rattle.listing.proofs.write_line.Goals as goal
 
--- LOST slice-aggregate-put-text : tie.Need-slice-aggregate-put-text
--- LOST slice-aggregate-put-text c = search rules
-
--- LOST slice-aggregate-put-text-2 : tie.Need-slice-aggregate-put-text-2
--- LOST slice-aggregate-put-text-2 c = search rules
-
--- LOST slice-aggregate-put-text-3 : tie.Need-slice-aggregate-put-text-3
--- LOST slice-aggregate-put-text-3 c = search rules
-
 pub put_number-a-requires : goal.put_number-a-requires
 put_number-a-requires c =
     omega (arith, c.requires, short c.wide.result (omega (arith, c.wide.ensures)))

@@ -6,12 +6,6 @@ use Rattle.catalogue.proofs.Names.{widths}
 use native.Mathlib.Omega.{arith}
 use Rattle.listing.proofs.write_listing.Goals as goal
 
--- LOST slice-aggregate-put-text : tie.Need-slice-aggregate-put-text
--- LOST slice-aggregate-put-text c = search rules
-
--- LOST slice-aggregate-put-text-2 : tie.Need-slice-aggregate-put-text-2
--- LOST slice-aggregate-put-text-2 c = search rules
-
 pub put_number-b-requires : goal.put_number-b-requires
 put_number-b-requires c =
     omega (arith, c.requires.1, short c.wide.result (omega (arith, c.wide.ensures)), c.put_text-a.ensures.long, c.put_text-a.auto)

@@ -4,15 +4,6 @@ use Rattle.listing.proofs.Puts.{refused-wrote}
 use native.Mathlib.Omega.{arith}
 use Rattle.listing.proofs.write_refused.Goals as goal
 
--- LOST slice-aggregate-put-text : tie.Need-slice-aggregate-put-text
--- LOST slice-aggregate-put-text c = search rules
-
--- LOST slice-aggregate-put-text-2 : tie.Need-slice-aggregate-put-text-2
--- LOST slice-aggregate-put-text-2 c = search rules
-
--- LOST slice-aggregate-put-text-3 : tie.Need-slice-aggregate-put-text-3
--- LOST slice-aggregate-put-text-3 c = search rules
-
 pub put_number-b-requires : goal.put_number-b-requires
 put_number-b-requires c =
     omega (arith, c.requires, short c.wide_byte.result (omega (arith, c.wide_byte.ensures)), c.put_text-a.ensures.long, c.put_text-a.auto)

@@ -4,18 +4,6 @@ use Rattle.text_parts.proofs.Parts.{expr_col, expr_lit, expr_miss, expr_one, exp
 use native.Mathlib.Omega.{arith}
 use Rattle.text_parts.proofs.+put_expr.Goals as goal
 
--- LOST slice-aggregate-put-text : lts.Need-slice-aggregate-put-text (callees t) (given t) put-expr.Post
--- LOST slice-aggregate-put-text c = search rules
-
--- LOST slice-aggregate-put-text-2 : lts.Need-slice-aggregate-put-text-2 (callees t) (given t) put-expr.Post
--- LOST slice-aggregate-put-text-2 c = search rules
-
--- LOST slice-aggregate-put-text-3 : lts.Need-slice-aggregate-put-text-3 (callees t) (given t) put-expr.Post
--- LOST slice-aggregate-put-text-3 c = search rules
-
--- LOST slice-aggregate-put-text-4 : lts.Need-slice-aggregate-put-text-4 (callees t) (given t) put-expr.Post
--- LOST slice-aggregate-put-text-4 c = search rules
-
 pub node_at-v-requires : goal.node_at-v-requires
 node_at-v-requires t c =
     c.requires

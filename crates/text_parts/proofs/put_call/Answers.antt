@@ -3,9 +3,6 @@ use Rattle.text_parts.proofs.Parts.{call_none, call_over_lem}
 use native.Mathlib.Omega.{arith}
 use Rattle.text_parts.proofs.put_call.Goals as goal
 
--- LOST slice-aggregate-put-text : tie.Need-slice-aggregate-put-text
--- LOST slice-aggregate-put-text c = search rules
-
 pub returns-then-f-eq0 : goal.returns-then-f-eq0
 returns-then-f-eq0 c =
     call_none _ _ _ c.if-f-eq0.true c.put_text.ensures

@@ -6,18 +6,6 @@ use mathlib.Core.Path.{◌≡◌}
 use native.Mathlib.Omega.{arith}
 use Rattle.text_parts.proofs.put_fn.Goals as goal
 
--- LOST slice-aggregate-put-text : tie.Need-slice-aggregate-put-text
--- LOST slice-aggregate-put-text c = search rules
-
--- LOST slice-aggregate-put-text-2 : tie.Need-slice-aggregate-put-text-2
--- LOST slice-aggregate-put-text-2 c = search rules
-
--- LOST slice-aggregate-put-text-3 : tie.Need-slice-aggregate-put-text-3
--- LOST slice-aggregate-put-text-3 c = search rules
-
--- LOST slice-aggregate-put-text-4 : tie.Need-slice-aggregate-put-text-4
--- LOST slice-aggregate-put-text-4 c = search rules
-
 pub returns-in-1 : goal.returns-in-1
 unfolding fn_of fn_text
 returns-in-1 c =

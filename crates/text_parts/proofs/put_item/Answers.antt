@@ -3,9 +3,6 @@ use Rattle.arena.proofs.Rows.{read_wf}
 use Rattle.text_parts.proofs.Parts.{item-bare, item-named}
 use Rattle.text_parts.proofs.put_item.Goals as goal
 
--- LOST slice-aggregate-put-text : tie.Need-slice-aggregate-put-text
--- LOST slice-aggregate-put-text c = search rules
-
 pub returns-then-row-eq0 : goal.returns-then-row-eq0
 returns-then-row-eq0 c =
     item-bare _ c.row_at-row.ensures c.if-row-eq0.true c.put_pair.ensures

@@ -3,12 +3,6 @@ use Rattle.text_parts.proofs.Parts.{key_put}
 use Rattle.tree.proofs.Plans.{node}
 use Rattle.text_parts.proofs.put_key.Goals as goal
 
--- LOST slice-aggregate-put-if : tie.Need-slice-aggregate-put-if
--- LOST slice-aggregate-put-if c = search rules
-
--- LOST slice-aggregate-put-if-2 : tie.Need-slice-aggregate-put-if-2
--- LOST slice-aggregate-put-if-2 c = search rules
-
 pub put_expr-a-requires : goal.put_expr-a-requires
 put_expr-a-requires c =
     c.key_at-row.ensures.node _ (c.requires)

@@ -6,9 +6,6 @@ use Rattle.tree.specs.Rows.{one}
 use native.Mathlib.Omega.{arith}
 use Rattle.text_parts.proofs.put_members.Goals as goal
 
--- LOST slice-aggregate-put-text : tie.Need-slice-aggregate-put-text
--- LOST slice-aggregate-put-text c = search rules
-
 pub returns-then-n-eq0 : goal.returns-then-n-eq0
 returns-then-n-eq0 c =
     members-none _ _ _ _ c.if-n-eq0.true c.put_text.ensures

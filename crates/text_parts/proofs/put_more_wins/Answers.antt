@@ -7,12 +7,6 @@ use mathlib.Core.Path.{refl}
 use native.Mathlib.Omega.{arith}
 use Rattle.text_parts.proofs.put_more_wins.Goals as goal
 
--- LOST slice-aggregate-put-text : tie.Need-slice-aggregate-put-text invariant-loop decreases-loop
--- LOST slice-aggregate-put-text c = search rules
-
--- LOST slice-aggregate-put-text-2 : tie.Need-slice-aggregate-put-text-2 invariant-loop decreases-loop
--- LOST slice-aggregate-put-text-2 c = search rules
-
 pub loop-left-init : goal.loop-left-init
 loop-left-init c =
     (refl, c.requires, begin)

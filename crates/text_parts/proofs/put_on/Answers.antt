@@ -2,9 +2,6 @@
 use Rattle.text_parts.proofs.Parts.{on_put}
 use Rattle.text_parts.proofs.put_on.Goals as goal
 
--- LOST slice-aggregate-put-text : tie.Need-slice-aggregate-put-text
--- LOST slice-aggregate-put-text c = search rules
-
 pub put_expr-a-requires : goal.put_expr-a-requires
 put_expr-a-requires c =
     c.on_at-row.ensures.left_node _ (c.requires)

@@ -6,27 +6,6 @@ use mathlib.Core.Path.{◌≡◌}
 use native.Mathlib.Omega.{arith}
 use Rattle.text_parts.proofs.put_two.Goals as goal
 
--- LOST slice-aggregate-put-text : tie.Need-slice-aggregate-put-text
--- LOST slice-aggregate-put-text c = search rules
-
--- LOST slice-aggregate-put-text-2 : tie.Need-slice-aggregate-put-text-2
--- LOST slice-aggregate-put-text-2 c = search rules
-
--- LOST slice-aggregate-put-text-3 : tie.Need-slice-aggregate-put-text-3
--- LOST slice-aggregate-put-text-3 c = search rules
-
--- LOST slice-aggregate-put-text-4 : tie.Need-slice-aggregate-put-text-4
--- LOST slice-aggregate-put-text-4 c = search rules
-
--- LOST slice-aggregate-put-text-5 : tie.Need-slice-aggregate-put-text-5
--- LOST slice-aggregate-put-text-5 c = search rules
-
--- LOST slice-aggregate-put-text-6 : tie.Need-slice-aggregate-put-text-6
--- LOST slice-aggregate-put-text-6 c = search rules
-
--- LOST slice-aggregate-put-text-7 : tie.Need-slice-aggregate-put-text-7
--- LOST slice-aggregate-put-text-7 c = search rules
-
 pub returns-in-5 : goal.returns-in-5
 unfolding op2_of op2_text
 returns-in-5 c =

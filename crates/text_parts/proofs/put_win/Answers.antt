@@ -4,18 +4,6 @@ use Rattle.tree.proofs.Plans.{node}
 use native.Mathlib.Omega.{arith}
 use Rattle.text_parts.proofs.put_win.Goals as goal
 
--- LOST slice-aggregate-put-call : tie.Need-slice-aggregate-put-call
--- LOST slice-aggregate-put-call c = search rules
-
--- LOST slice-aggregate-put-text : tie.Need-slice-aggregate-put-text
--- LOST slice-aggregate-put-text c = search rules
-
--- LOST slice-aggregate-put-text-2 : tie.Need-slice-aggregate-put-text-2
--- LOST slice-aggregate-put-text-2 c = search rules
-
--- LOST slice-aggregate-put-text-3 : tie.Need-slice-aggregate-put-text-3
--- LOST slice-aggregate-put-text-3 c = search rules
-
 pub put_call-a-requires : goal.put_call-a-requires
 put_call-a-requires c =
     (omega (arith, c.win_at-w.ensures.function_is, c.requires.function), c.win_at-w.ensures.node _ (c.requires))

@@ -3,12 +3,6 @@ use Rattle.text_parts.proofs.Parts.{each_all, rows_all}
 use Rattle.text_plan.proofs.Heads.{aggregate_put}
 use Rattle.text_plan.proofs.put_aggregate.Goals as goal
 
--- LOST slice-aggregate-put-list : tie.Need-slice-aggregate-put-list
--- LOST slice-aggregate-put-list c = search rules
-
--- LOST slice-aggregate-put-list-2 : tie.Need-slice-aggregate-put-list-2
--- LOST slice-aggregate-put-list-2 c = search rules
-
 pub put_list-a-requires : goal.put_list-a-requires
 put_list-a-requires c =
     rows_all _ _ _ _ c.requires.0

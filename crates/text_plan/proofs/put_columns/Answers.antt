@@ -4,9 +4,6 @@ use Rattle.text_parts.proofs.Parts.{each_all}
 use Rattle.text_plan.proofs.Heads.{columns-none, columns-some}
 use Rattle.text_plan.proofs.put_columns.Goals as goal
 
--- LOST slice-aggregate-put-text : tie.Need-slice-aggregate-put-text
--- LOST slice-aggregate-put-text c = search rules
-
 pub put_members-requires : goal.put_members-requires
 put_members-requires c =
     each_all _ _ _ _ (c.requires)

@@ -2,9 +2,6 @@
 use Rattle.text_plan.proofs.Heads.{condition_none, condition_some}
 use Rattle.text_plan.proofs.put_condition.Goals as goal
 
--- LOST slice-aggregate-put-text : tie.Need-slice-aggregate-put-text
--- LOST slice-aggregate-put-text c = search rules
-
 pub put_expr-requires : goal.put_expr-requires
 put_expr-requires c =
     c.requires c.if-has.true

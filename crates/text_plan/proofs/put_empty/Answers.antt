@@ -4,15 +4,6 @@ use Rattle.text_parts.proofs.Parts.{each_all}
 use Rattle.text_plan.proofs.Heads.{empty_put}
 use Rattle.text_plan.proofs.put_empty.Goals as goal
 
--- LOST slice-aggregate-put-text : tie.Need-slice-aggregate-put-text
--- LOST slice-aggregate-put-text c = search rules
-
--- LOST slice-aggregate-put-if : tie.Need-slice-aggregate-put-if
--- LOST slice-aggregate-put-if c = search rules
-
--- LOST slice-aggregate-put-list : tie.Need-slice-aggregate-put-list
--- LOST slice-aggregate-put-list c = search rules
-
 pub put_list-requires : goal.put_list-requires
 put_list-requires c =
     each_all _ _ _ _ (c.requires)

@@ -2,9 +2,6 @@
 use Rattle.text_plan.proofs.Heads.{fetch_none, fetch_some}
 use Rattle.text_plan.proofs.put_fetch.Goals as goal
 
--- LOST slice-aggregate-put-text : tie.Need-slice-aggregate-put-text
--- LOST slice-aggregate-put-text c = search rules
-
 pub returns-then-fetch-eq4294967295 : goal.returns-then-fetch-eq4294967295
 returns-then-fetch-eq4294967295 c =
     fetch_none _ c.if-fetch-eq4294967295.true c.put_text.ensures

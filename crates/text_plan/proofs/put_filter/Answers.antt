@@ -3,9 +3,6 @@ use Rattle.plan_text.specs.Write.{unary_text}
 use Rattle.text_put.proofs.Laws.{◌then◌}
 use Rattle.text_plan.proofs.put_filter.Goals as goal
 
--- LOST slice-aggregate-put-text : tie.Need-slice-aggregate-put-text
--- LOST slice-aggregate-put-text c = search rules
-
 pub returns : goal.returns
 unfolding unary_text
 returns c =

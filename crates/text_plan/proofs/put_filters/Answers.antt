@@ -5,9 +5,6 @@ use Rattle.text_plan.proofs.Heads.{filters-none, filters-some}
 use native.Mathlib.Omega.{arith}
 use Rattle.text_plan.proofs.put_filters.Goals as goal
 
--- LOST slice-aggregate-put-text : tie.Need-slice-aggregate-put-text
--- LOST slice-aggregate-put-text c = search rules
-
 pub returns-then-n-eq0 : goal.returns-then-n-eq0
 returns-then-n-eq0 c =
     filters-none c.args.rows.now c.args.cells.now c.args.first c.args.n c.if-n-eq0.true

@@ -8,18 +8,6 @@ use Rattle.tree.specs.Rows.{key_at}
 use mathlib.Core.List.{◌++◌}
 use Rattle.text_plan.proofs.put_head.Goals as goal
 
--- LOST slice-aggregate-put-list : tie.Need-slice-aggregate-put-list
--- LOST slice-aggregate-put-list c = search rules
-
--- LOST slice-aggregate-put-list-2 : tie.Need-slice-aggregate-put-list-2
--- LOST slice-aggregate-put-list-2 c = search rules
-
--- LOST slice-aggregate-put-text : tie.Need-slice-aggregate-put-text
--- LOST slice-aggregate-put-text c = search rules
-
--- LOST slice-aggregate-put-text-2 : tie.Need-slice-aggregate-put-text-2
--- LOST slice-aggregate-put-text-2 c = search rules
-
 pub put_list-requires : goal.put_list-requires
 put_list-requires c =
     rows_all _ _ _ _ (rw c.in-Projection.is at (c.requires))

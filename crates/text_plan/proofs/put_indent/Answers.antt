@@ -5,9 +5,6 @@ use mathlib.Core.Path.{refl}
 use native.Mathlib.Omega.{arith}
 use Rattle.text_plan.proofs.put_indent.Goals as goal
 
--- LOST slice-aggregate-put-text : tie.Need-slice-aggregate-put-text invariant-loop decreases-loop
--- LOST slice-aggregate-put-text c = search rules
-
 pub loop-left-init : goal.loop-left-init
 loop-left-init c = (refl, begin)
 

@@ -3,12 +3,6 @@ use Rattle.text_parts.proofs.Parts.{each_all}
 use Rattle.text_plan.proofs.Heads.{join_put}
 use Rattle.text_plan.proofs.put_join.Goals as goal
 
--- LOST slice-aggregate-put-text : tie.Need-slice-aggregate-put-text
--- LOST slice-aggregate-put-text c = search rules
-
--- LOST slice-aggregate-put-list : tie.Need-slice-aggregate-put-list
--- LOST slice-aggregate-put-list c = search rules
-
 pub put_list-c-requires : goal.put_list-c-requires
 put_list-c-requires c =
     each_all _ _ _ _ c.requires.0

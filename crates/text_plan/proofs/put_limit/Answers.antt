@@ -2,12 +2,6 @@
 use Rattle.text_plan.proofs.Heads.{limit_put}
 use Rattle.text_plan.proofs.put_limit.Goals as goal
 
--- LOST slice-aggregate-put-text : tie.Need-slice-aggregate-put-text
--- LOST slice-aggregate-put-text c = search rules
-
--- LOST slice-aggregate-put-text-2 : tie.Need-slice-aggregate-put-text-2
--- LOST slice-aggregate-put-text-2 c = search rules
-
 pub returns : goal.returns
 returns c =
     limit_put _ _ c.put_text-a.ensures (rw c.wide_half.ensures at c.put_number-b.ensures) c.put_text-c.ensures c.put_fetch.ensures

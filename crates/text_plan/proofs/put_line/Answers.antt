@@ -2,9 +2,6 @@
 use Rattle.text_put.proofs.Laws.{◌then◌}
 use Rattle.text_plan.proofs.put_line.Goals as goal
 
--- LOST slice-aggregate-put-text : tie.Need-slice-aggregate-put-text
--- LOST slice-aggregate-put-text c = search rules
-
 pub returns : goal.returns
 returns c =
     c.put_indent-a.ensures then c.put_head-b.ensures then c.put_text.ensures

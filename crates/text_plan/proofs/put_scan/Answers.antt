@@ -4,12 +4,6 @@ use Rattle.tree.proofs.Few.{room}
 use native.Mathlib.Omega.{arith}
 use Rattle.text_plan.proofs.put_scan.Goals as goal
 
--- LOST slice-aggregate-put-text : tie.Need-slice-aggregate-put-text
--- LOST slice-aggregate-put-text c = search rules
-
--- LOST slice-aggregate-put-text-2 : tie.Need-slice-aggregate-put-text-2
--- LOST slice-aggregate-put-text-2 c = search rules
-
 pub overflow_add-s : goal.overflow_add-s
 overflow_add-s c =
     omega (arith, c.requires.0.room, c.well_formed.1.0.0)

@@ -2,30 +2,6 @@
 use Rattle.plan_text.specs.Write.{join_text}
 use Rattle.text_plan.proofs.put_type.Goals as goal
 
--- LOST slice-aggregate-put-text : tie.Need-slice-aggregate-put-text
--- LOST slice-aggregate-put-text c = search rules
-
--- LOST slice-aggregate-put-text-2 : tie.Need-slice-aggregate-put-text-2
--- LOST slice-aggregate-put-text-2 c = search rules
-
--- LOST slice-aggregate-put-text-3 : tie.Need-slice-aggregate-put-text-3
--- LOST slice-aggregate-put-text-3 c = search rules
-
--- LOST slice-aggregate-put-text-4 : tie.Need-slice-aggregate-put-text-4
--- LOST slice-aggregate-put-text-4 c = search rules
-
--- LOST slice-aggregate-put-text-5 : tie.Need-slice-aggregate-put-text-5
--- LOST slice-aggregate-put-text-5 c = search rules
-
--- LOST slice-aggregate-put-text-6 : tie.Need-slice-aggregate-put-text-6
--- LOST slice-aggregate-put-text-6 c = search rules
-
--- LOST slice-aggregate-put-text-7 : tie.Need-slice-aggregate-put-text-7
--- LOST slice-aggregate-put-text-7 c = search rules
-
--- LOST slice-aggregate-put-text-8 : tie.Need-slice-aggregate-put-text-8
--- LOST slice-aggregate-put-text-8 c = search rules
-
 pub returns-in-Inner : goal.returns-in-Inner
 unfolding join_text
 returns-in-Inner c =

@@ -4,9 +4,6 @@ use Rattle.text_parts.proofs.Parts.{members_put}
 use Rattle.text_put.proofs.Laws.{◌then◌}
 use Rattle.text_plan.proofs.put_window.Goals as goal
 
--- LOST slice-aggregate-put-text : tie.Need-slice-aggregate-put-text
--- LOST slice-aggregate-put-text c = search rules
-
 pub returns : goal.returns
 unfolding unary_text list_text
 returns c =

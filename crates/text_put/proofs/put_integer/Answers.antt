@@ -3,9 +3,6 @@ use Rattle.text_put.proofs.Laws.{integer_neg, integer-pos}
 use native.Mathlib.Omega.{arith}
 use Rattle.text_put.proofs.put_integer.Goals as goal
 
--- LOST slice-aggregate-put-text : tie.Need-slice-aggregate-put-text
--- LOST slice-aggregate-put-text c = search rules
-
 pub returns-then-x-lt9223372036854775808 : goal.returns-then-x-lt9223372036854775808
 returns-then-x-lt9223372036854775808 c =
     integer-pos c.args.x c.if-x-lt9223372036854775808.true c.put_number.ensures

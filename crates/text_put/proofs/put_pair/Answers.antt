@@ -3,15 +3,6 @@ use Rattle.text_put.proofs.Laws.{pair-bare, pair-qualified}
 use native.Mathlib.Omega.{arith}
 use Rattle.text_put.proofs.put_pair.Goals as goal
 
--- LOST slice-aggregate-put-text : tie.Need-slice-aggregate-put-text
--- LOST slice-aggregate-put-text c = search rules
-
--- LOST slice-aggregate-put-text-2 : tie.Need-slice-aggregate-put-text-2
--- LOST slice-aggregate-put-text-2 c = search rules
-
--- LOST slice-aggregate-put-text-3 : tie.Need-slice-aggregate-put-text-3
--- LOST slice-aggregate-put-text-3 c = search rules
-
 pub returns-then-q-eq0 : goal.returns-then-q-eq0
 returns-then-q-eq0 c =
     pair-bare _ _ c.if-q-eq0.true c.put_text-a.ensures (rw c.wide.ensures at c.put_number.ensures)

@@ -5,9 +5,6 @@ use mathlib.Core.Path.{◌∙◌, sym}
 use native.Mathlib.Omega.{arith}
 use Rattle.vector_text.proofs.bytes.Goals as goal
 
--- LOST slice-aggregate-same : tie.Need-slice-aggregate-same invariant-loop decreases-loop
--- LOST slice-aggregate-same c = search rules
-
 pub returns-then-same : goal.returns-then-same
 returns-then-same c =
     bytes-dash _ _ (c.same.ensures.0 c.if-same.true)

@@ -4,9 +4,6 @@ use mathlib.Core.Bool.{true≢false}
 use mathlib.Core.Path.{◌∙◌, sym}
 use Rattle.vector_text.proofs.list.Goals as goal
 
--- LOST slice-aggregate-same : tie.Need-slice-aggregate-same invariant-loop decreases-loop
--- LOST slice-aggregate-same c = search rules
-
 pub returns-then-same : goal.returns-then-same
 returns-then-same c =
     list-dash _ _ (c.same.ensures.0 c.if-same.true)
