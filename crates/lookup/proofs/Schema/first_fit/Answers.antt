@@ -1,20 +1,10 @@
--- `lookup::first_fit` meets its contract: no field that was passed fits. Assumes nothing.
+-- `lookup::Schema::first_fit` meets its contract: no field that was passed fits. Assumes nothing.
 use Rattle.cpl.proofs.Lookup.{fits-is}
 use Rattle.cpl.specs.Exprs.{fits}
 use Rattle.cpl.specs.Plan.{pair}
 use Rattle.lookup.proofs.Fits.{sought_all, sought_found, sought_more, sought_none}
 use mathlib.Core.Path.{◌∙◌, ap, sym}
-use native.Mathlib.Omega.{arith}
-use Rattle.lookup.proofs.first_fit.Goals as goal
-
-pub loop-i-init : goal.loop-i-init
-loop-i-init c = sought_none _ _ _ _
-
-pub overflow_add-first : goal.overflow_add-first
-overflow_add-first c = omega arith
-
-pub field_at-f-requires : goal.field_at-f-requires
-field_at-f-requires c = omega arith
+use Rattle.lookup.proofs.Schema.first_fit.Goals as goal
 
 pub returns-then-name-f : goal.returns-then-name-f
 returns-then-name-f c =
@@ -27,3 +17,6 @@ loop-i-preserved c =
 pub returns : goal.returns
 returns c =
     sought_all _ _ _ _ _ c.loop-i.invariant c.loop-i-test.false
+
+pub loop-i-init : goal.loop-i-init
+loop-i-init c = sought_none _ _ _ _
