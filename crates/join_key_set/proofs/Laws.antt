@@ -57,10 +57,6 @@ module _ (cells : List ℕ) {s : List ℕ} {k l r : ℕ} (e : KeyIs s k l r) whe
   pub read_wf : {f n : ℕ} → KeysOk cells s f n → f ≤ k → k < f + n → Wf cells (l + 1) × Wf cells (r + 1)
   read_wf o a b = rw (e.left_is, e.right_is) (o.left k a b, o.right k a b)
 
--- a place within a set lies in the array
-pub key-inside : {cells s : List ℕ} {f n : ℕ} → KeysOk cells s f n → (i : ℕ) → i < n → (f + i) * 2 + 1 < length s
-key-inside o i h = omega (arith, o.room)
-
 -- ── what is kept ────────────────────────────────────────────────────────────────────────────
 
 -- the numbers of the pairs f, f + 1, ..: n of them
