@@ -1,3 +1,4 @@
 -- The laws of the walk, bottom up.
+pub mod Inputs
 pub mod Inside
 pub mod Plans

@@ -8,6 +8,9 @@ use native.Mathlib.Nat.{mul-add, mul-le-mul_left, mul-one, mul-suc}
 use native.Mathlib.Decide.{dec_lt}
 use native.Mathlib.Omega.{arith}
 use lib.ListN.{length}
+use Rattle.std.specs.Prelude.{Result, Ok, Err}
+use Rattle.refusals.specs.Codes.{code_of}
+use Rattle.refusals.specs.declared.Refusal.{Refusal}
 use Rattle.cpl.specs.Accept.{Fault, ◌then◌, check, clash, fault}
 use Rattle.cpl.specs.Exprs.{plan_nodes}
 use Rattle.cpl.specs.Fields.{fields_of}
@@ -29,8 +32,6 @@ use Rattle.verdicts.specs.Heads.{fields_head, head_fault}
 use Rattle.verdicts.specs.Nodes.{KeptBelow, Named, NodeInside, SidesReady, parts}
 use Rattle.verdicts.specs.Verdicts.{Judged, Placed, fault_of}
 use Rattle.accept.specs.Verdicts.{Checked, Judgeable, Settled, Walking, end_of, span_of}
-use Rattle.verdicts.specs.declared.Verdict.{Verdict}
-use Rattle.verdicts.specs.declared.Verdict.TheVariants.{Fine, Bad}
 use Rattle.accept.proofs.Inside.{FitHead, fit-head, from_on, node-inside, node-named, parts_same}
 use Rattle.verdicts.proofs.Rowed.{below_less, below_row, below_then, clear_none}
 
@@ -148,14 +149,21 @@ clear-row C p at s w j e f = ap clash f ∙ is_false (clash (fields_of C p)) (no
 
 -- ── a plan that is judged ───────────────────────────────────────────────────────────────────
 
+-- a verdict: the next free field, or why the plan is refused
+abbrev pub Verdict : Type 0
+Verdict = Result ℕ Refusal
+
+abbrev pub is_refused : Refusal → Option Fault
+is_refused e = some (fault (code_of e.reason) e.place)
+
 pub judged-is : {C : Catalogue} {h h' : Head} {fl fr : List Pair} {k free : ℕ} {s w s' w' : List ℕ} {r : Verdict} → h ≡ h' → Judged C h fl fr k free s w s' w' r → Judged C h' fl fr k free s w s' w' r
 judged-is {C} {fl = fl} {fr} {k} {free} {s} {w} {s'} {w'} {r} e j = subst (λ h. Judged C h fl fr k free s w s' w' r) e j
 
 -- what is said of an input without a fault
-fine-says : {f : Option Fault} {v : Verdict} {next : ℕ} → v ≡ Fine next → fault_of v ≡ f → none ≡ f
+fine-says : {f : Option Fault} {v : Verdict} {next : ℕ} → v ≡ Ok next → fault_of v ≡ f → none ≡ f
 fine-says e s = sym (ap fault_of e) ∙ s
 
-bad-says : {f : Option Fault} {v : Verdict} {code node : ℕ} → v ≡ Bad code node → fault_of v ≡ f → some (fault code node) ≡ f
+bad-says : {f : Option Fault} {v : Verdict} {e : Refusal} → v ≡ Err e → fault_of v ≡ f → is_refused e ≡ f
 bad-says e s = sym (ap fault_of e) ∙ s
 
 -- the fields of node k, once it has its row
@@ -179,12 +187,12 @@ module _ {C : Catalogue} {a : Arrays} {k : ℕ} {r : Verdict} where
       }
 
   -- a fault of an input
-  refused : {free : ℕ} {s w s' w' : List ℕ} {code node : ℕ} → r ≡ Bad code node → some (fault code node) ≡ check C (plan_at a k) k → Checked C a k free s w s' w' r
+  refused : {free : ℕ} {s w s' w' : List ℕ} {e : Refusal} → r ≡ Err e → is_refused e ≡ check C (plan_at a k) k → Checked C a k free s w s' w' r
   refused bad e = record { says = ap fault_of bad ∙ e; done = λ next z. absurd (let y : ◌≡◌ {A = ℕ} 0 1 = cc in omega arith) }
 
   -- one input
   module _ {count : ℕ} (few : count ≤ max_nodes) {h : Unary} (i : HasInput a count k h) where
-    pub one-checked : {fl fr : List Pair} {free mid : ℕ} {s w s₁ w₁ s₂ w₂ : List ℕ} {v : Verdict} → end_of a k ≤ count → v ≡ Fine mid → Checked C a (k + 1) free s w s₁ w₁ v → fl ≡ fields_of C (plan_at a (k + 1))
+    pub one-checked : {fl fr : List Pair} {free mid : ℕ} {s w s₁ w₁ s₂ w₂ : List ℕ} {v : Verdict} → end_of a k ≤ count → v ≡ Ok mid → Checked C a (k + 1) free s w s₁ w₁ v → fl ≡ fields_of C (plan_at a (k + 1))
         → Judged C (h1 h) fl fr k mid s₁ w₁ s₂ w₂ r → Checked C a k free s w s₂ w₂ r
     unfolding fields_of
     one-checked {fl} {fr} {free} {mid} {s} {w} {s₁} {w₁} {s₂} {w₂} ends fine F e J =
@@ -203,13 +211,13 @@ module _ {C : Catalogue} {a : Arrays} {k : ℕ} {r : Verdict} where
           };
         }
 
-    pub one-refused : {free : ℕ} {s w s₁ w₁ : List ℕ} {code node : ℕ} → r ≡ Bad code node → Checked C a (k + 1) free s w s₁ w₁ r → Checked C a k free s w s₁ w₁ r
-    one-refused bad F = refused bad (one-fault C k h (plan_at a (k + 1)) (bad-says bad F.says) ∙ ap (λ p. check C p k) (sym i.plan))
+    pub one-refused : {free : ℕ} {s w s₁ w₁ : List ℕ} {v : Verdict} {e : Refusal} → r ≡ Err e → v ≡ Err e → Checked C a (k + 1) free s w s₁ w₁ v → Checked C a k free s w s₁ w₁ r
+    one-refused own bad F = refused own (one-fault C k h (plan_at a (k + 1)) (bad-says bad F.says) ∙ ap (λ p. check C p k) (sym i.plan))
 
   -- two inputs
   module _ {count right : ℕ} (few : count ≤ max_nodes) {h : Binary} (i : HasInputs a count k right h) where
-    pub two-checked : {fl fr : List Pair} {free mid on : ℕ} {s w s₁ w₁ s₂ w₂ s₃ w₃ : List ℕ} {v v' : Verdict} → end_of a k ≤ count → v ≡ Fine mid → Checked C a (k + 1) free s w s₁ w₁ v
-        → v' ≡ Fine on → Checked C a right mid s₁ w₁ s₂ w₂ v' → fl ≡ fields_of C (plan_at a (k + 1)) → fr ≡ fields_of C (plan_at a right) → Judged C (h2 h) fl fr k on s₂ w₂ s₃ w₃ r → Checked C a k free s w s₃ w₃ r
+    pub two-checked : {fl fr : List Pair} {free mid on : ℕ} {s w s₁ w₁ s₂ w₂ s₃ w₃ : List ℕ} {v v' : Verdict} → end_of a k ≤ count → v ≡ Ok mid → Checked C a (k + 1) free s w s₁ w₁ v
+        → v' ≡ Ok on → Checked C a right mid s₁ w₁ s₂ w₂ v' → fl ≡ fields_of C (plan_at a (k + 1)) → fr ≡ fields_of C (plan_at a right) → Judged C (h2 h) fl fr k on s₂ w₂ s₃ w₃ r → Checked C a k free s w s₃ w₃ r
     unfolding fields_of
     two-checked {fl} {fr} {free} {mid} {on} {s} {w} {s₁} {w₁} {s₂} {w₂} {s₃} {w₃} ends fine F fine' G e f J =
         let n = nodes-two i in
@@ -230,20 +238,20 @@ module _ {C : Catalogue} {a : Arrays} {k : ℕ} {r : Verdict} where
           };
         }
 
-    pub first-refused : {free : ℕ} {s w s₁ w₁ : List ℕ} {code node : ℕ} → r ≡ Bad code node → Checked C a (k + 1) free s w s₁ w₁ r → Checked C a k free s w s₁ w₁ r
-    first-refused bad F = refused bad (first-fault C k h (plan_at a (k + 1)) (plan_at a right) right i.ends (bad-says bad F.says) ∙ ap (λ p. check C p k) (sym i.plan))
+    pub first-refused : {free : ℕ} {s w s₁ w₁ : List ℕ} {v : Verdict} {e : Refusal} → r ≡ Err e → v ≡ Err e → Checked C a (k + 1) free s w s₁ w₁ v → Checked C a k free s w s₁ w₁ r
+    first-refused own bad F = refused own (first-fault C k h (plan_at a (k + 1)) (plan_at a right) right i.ends (bad-says bad F.says) ∙ ap (λ p. check C p k) (sym i.plan))
 
-    pub second-refused : {free mid : ℕ} {s w s₁ w₁ s₂ w₂ : List ℕ} {v : Verdict} {code node : ℕ} → v ≡ Fine mid → Checked C a (k + 1) free s w s₁ w₁ v → r ≡ Bad code node → Checked C a right mid s₁ w₁ s₂ w₂ r → Checked C a k free s w s₂ w₂ r
-    second-refused fine F bad G =
-        refused bad (second-fault C k h (plan_at a (k + 1)) (plan_at a right) right i.ends (fine-says fine F.says) (bad-says bad G.says) ∙ ap (λ p. check C p k) (sym i.plan))
+    pub second-refused : {free mid : ℕ} {s w s₁ w₁ s₂ w₂ : List ℕ} {v v' : Verdict} {e : Refusal} → v ≡ Ok mid → Checked C a (k + 1) free s w s₁ w₁ v → r ≡ Err e → v' ≡ Err e → Checked C a right mid s₁ w₁ s₂ w₂ v' → Checked C a k free s w s₂ w₂ r
+    second-refused fine F own bad G =
+        refused own (second-fault C k h (plan_at a (k + 1)) (plan_at a right) right i.ends (fine-says fine F.says) (bad-says bad G.says) ∙ ap (λ p. check C p k) (sym i.plan))
 
 -- an input whose plan has no fault
-pub input-fields : {C : Catalogue} {a : Arrays} {j free next : ℕ} {s w s₁ w₁ : List ℕ} {v : Verdict} → v ≡ Fine next → Checked C a j free s w s₁ w₁ v → Settled C a s₁ w₁ next j
+pub input-fields : {C : Catalogue} {a : Arrays} {j free next : ℕ} {s w s₁ w₁ : List ℕ} {v : Verdict} → v ≡ Ok next → Checked C a j free s w s₁ w₁ v → Settled C a s₁ w₁ next j
 input-fields {a = a} {j} {next = next} fine F = (F.done next fine).each j (omega arith) (omega (arith, some-nodes (plan_at a j)))
 
 -- the left input's fields, after the right input is judged too
-pub left-input : {C : Catalogue} {a : Arrays} {count k right free mid on : ℕ} {h : Binary} {s w s₁ w₁ s₂ w₂ : List ℕ} {v v' : Verdict} → HasInputs a count k right h → v ≡ Fine mid → Checked C a (k + 1) free s w s₁ w₁ v
-    → v' ≡ Fine on → Checked C a right mid s₁ w₁ s₂ w₂ v' → Settled C a s₂ w₂ on (k + 1)
+pub left-input : {C : Catalogue} {a : Arrays} {count k right free mid on : ℕ} {h : Binary} {s w s₁ w₁ s₂ w₂ : List ℕ} {v v' : Verdict} → HasInputs a count k right h → v ≡ Ok mid → Checked C a (k + 1) free s w s₁ w₁ v
+    → v' ≡ Ok on → Checked C a right mid s₁ w₁ s₂ w₂ v' → Settled C a s₂ w₂ on (k + 1)
 left-input {k = k} {on = on} b fine F fine' G = let E = G.done on fine' in stays (k + 1) E.rows_kept (E.widths_kept.low (k + 1) b.after) E.from (input-fields fine F)
 
 -- ── what each step needs ────────────────────────────────────────────────────────────────────
@@ -317,7 +325,7 @@ module _ {C : Catalogue} {a : Arrays} {names : List ℕ} {most : ℕ} {s w : Lis
   pub walk-left : {right : ℕ} {h : Binary} → HasInputs a o.count k right h → Walking C a names most s w (k + 1) free
   walk-left i = walk_at (k + 1) free (omega (arith, i.below, i.after)) (omega (arith, o.room, span-two C i)) refl
 
-  pub walk-right : {right mid : ℕ} {h : Binary} {s₁ w₁ : List ℕ} {v : Verdict} → HasInputs a o.count k right h → v ≡ Fine mid → Checked C a (k + 1) free s w s₁ w₁ v → Walking C a names most s₁ w₁ right mid
+  pub walk-right : {right mid : ℕ} {h : Binary} {s₁ w₁ : List ℕ} {v : Verdict} → HasInputs a o.count k right h → v ≡ Ok mid → Checked C a (k + 1) free s w s₁ w₁ v → Walking C a names most s₁ w₁ right mid
   walk-right {right} {mid} i fine F =
       let D = F.done mid fine in
       walk_at right mid i.below (omega (arith, o.room, span-two C i, D.upto, D.rows_kept.long)) D.widths_kept.long
@@ -341,7 +349,7 @@ module _ {C : Catalogue} {a : Arrays} {names : List ℕ} {most : ℕ} {s w : Lis
       no_fields : (j n : ℕ) → n ≡ 0 → clash (row_at s j n) ≡ false
       no_fields j n e = ap (λ n. clash (row_at s j n)) e ∙ clear_none s j
 
-  pub ready-one : {x : Sides} {h : Unary} {on : ℕ} {s₁ w₁ : List ℕ} {v : Verdict} → HasInput a o.count k h → v ≡ Fine on → Checked C a (k + 1) free s w s₁ w₁ v
+  pub ready-one : {x : Sides} {h : Unary} {on : ℕ} {s₁ w₁ : List ℕ} {v : Verdict} → HasInput a o.count k h → v ≡ Ok on → Checked C a (k + 1) free s w s₁ w₁ v
       → (x.left ≡ first_at w₁ (k + 1)) × (x.lwidth ≡ width_at w₁ (k + 1)) × (x.right ≡ 0) × (x.rwidth ≡ 0) → SidesReady s₁ on most x
   ready-one {x} {on = on} {s₁} {w₁} b fine F e =
       let D = F.done on fine in
@@ -356,7 +364,7 @@ module _ {C : Catalogue} {a : Arrays} {names : List ℕ} {most : ℕ} {s w : Lis
         room = omega (arith, o.room, span-one C b, o.most_is, D.upto, D.rows_kept.long);
       }
 
-  pub ready-two : {x : Sides} {right mid on : ℕ} {s₁ w₁ s₂ w₂ : List ℕ} {v v' : Verdict} {h : Binary} → HasInputs a o.count k right h → v ≡ Fine mid → Checked C a (k + 1) free s w s₁ w₁ v → v' ≡ Fine on → Checked C a right mid s₁ w₁ s₂ w₂ v'
+  pub ready-two : {x : Sides} {right mid on : ℕ} {s₁ w₁ s₂ w₂ : List ℕ} {v v' : Verdict} {h : Binary} → HasInputs a o.count k right h → v ≡ Ok mid → Checked C a (k + 1) free s w s₁ w₁ v → v' ≡ Ok on → Checked C a right mid s₁ w₁ s₂ w₂ v'
       → (x.left ≡ first_at w₂ (k + 1)) × (x.lwidth ≡ width_at w₂ (k + 1)) × (x.right ≡ first_at w₂ right) × (x.rwidth ≡ width_at w₂ right) → SidesReady s₂ on most x
   ready-two {right = right} {mid} {on} {s₁} {w₁} {s₂} {w₂} b fine F fine' G e =
       let D = F.done mid fine in

@@ -1,3 +1,2 @@
--- The inputs of a node, and what the answers of this crate stand for.
-pub mod Inputs
+-- What the answers of this crate stand for.
 pub mod Verdicts

@@ -1,11 +1,12 @@
 -- What is asked of a plan so that it can be judged, and what a judged plan leaves in the arrays.
-use Rattle.std.specs.Prelude.{◌≡◌, List, ℕ, ◌+◌, ◌*◌, ◌<◌, ◌≤◌, length}
+use Rattle.std.specs.Prelude.{◌≡◌, List, ℕ, ◌+◌, ◌*◌, ◌<◌, ◌≤◌, length, Result, Ok}
 use Rattle.cpl.specs.Accept.{check}
 use Rattle.cpl.specs.Exprs.{plan_nodes}
 use Rattle.cpl.specs.Fields.{fields_of}
 use Rattle.cpl.specs.Limits.{max_nodes}
 use Rattle.cpl.specs.Plan.{Catalogue}
 use Rattle.cpl.specs.Writable.{FitCatalogue}
+use Rattle.refusals.specs.declared.Refusal.{Refusal}
 use Rattle.versions.specs.Versions.{version_of}
 use Rattle.versions.specs.declared.Version.{Version}
 use Rattle.tree.specs.Tree.{Arrays, WfTree, plan_at}
@@ -13,8 +14,6 @@ use Rattle.lookup.specs.Fields.{RowIn, WidthsKept, fields_at, first_at, width_at
 use Rattle.parts.specs.Catalogue.{NamesOk, catalogue_at}
 use Rattle.verdicts.specs.Nodes.{KeptBelow}
 use Rattle.verdicts.specs.Verdicts.{fault_of}
-use Rattle.verdicts.specs.declared.Verdict.{Verdict}
-use Rattle.verdicts.specs.declared.Verdict.TheVariants.{Fine}
 
 -- the fields of the plan at node j stand in the arrays
 pub record FieldsStand (C : Catalogue) (a : Arrays) (s w : List ℕ) (j : ℕ) : Type 0 where
@@ -45,9 +44,9 @@ pub record Done (C : Catalogue) (a : Arrays) (k free next : ℕ) (s w s' w' : Li
   pub widths_kept : WidthsKept k (end_of a k) w w'
 
 -- the plan at node k is judged: the answer is `check`'s; where there is no fault, the fields of each of its nodes stand in the arrays
-pub record Checked (C : Catalogue) (a : Arrays) (k free : ℕ) (s w s' w' : List ℕ) (r : Verdict) : Type 0 where
+pub record Checked (C : Catalogue) (a : Arrays) (k free : ℕ) (s w s' w' : List ℕ) (r : Result ℕ Refusal) : Type 0 where
   pub says : fault_of r ≡ check C (plan_at a k) k
-  pub done : (next : ℕ) → r ≡ Fine next → Done C a k free next s w s' w'
+  pub done : (next : ℕ) → r ≡ Ok next → Done C a k free next s w s' w'
 
 -- what is asked so that the plan at node k can be judged
 pub record Walking (C : Catalogue) (a : Arrays) (names : List ℕ) (most : ℕ) (s w : List ℕ) (k free : ℕ) : Type 0 where

@@ -5,52 +5,15 @@
 #![tactic(auto)]
 
 ghost use Rattle.std.specs.Prelude.{◌≡◌};
-ghost use Rattle.accept.specs.Inputs.{KidsAre};
 ghost use Rattle.accept.specs.Verdicts.{Checked, Judgeable, Walking};
 ghost use Rattle.cpl.specs.Plan.{Catalogue};
 ghost use Rattle.lookup.specs.Fields.{first_at, width_at};
 ghost use Rattle.tree.specs.Tree.{lent};
 
 use lookup::Sides;
-use tree::Node;
-use verdicts::Verdict;
+use refusals::Refusal;
+use tree::Inputs;
 use versions::Version;
-
-/// A node's inputs: the first is the next node.
-#[derive(Clone, Copy)]
-pub enum Kids {
-    Nothing,
-    One,
-    Two(usize),
-}
-
-/// The inputs of a node.
-fn kids_of(node: Node) -> Kids
-    ensures { KidsAre node result }
-{
-    match node {
-        Node::Projection { first: _, n: _ } => Kids::One,
-        Node::Filter { root: _ } => Kids::One,
-        Node::Sort { first: _, n: _ } => Kids::One,
-        Node::Limit { skip: _, fetch: _ } => Kids::One,
-        Node::Aggregate {
-            first: _,
-            groups: _,
-            aggregates: _,
-        } => Kids::One,
-        Node::Window { first: _, n: _ } => Kids::One,
-        Node::SubqueryAlias { qualifier: _ } => Kids::One,
-        Node::Union { right } => Kids::Two(right),
-        Node::Distinct => Kids::One,
-        Node::Join(j) => Kids::Two(j.right),
-        Node::Scan(_) => Kids::Nothing,
-        Node::Empty {
-            one_row: _,
-            first: _,
-            n: _,
-        } => Kids::Nothing,
-    }
-}
 
 /// The sides of a node without inputs.
 fn no_sides() -> Sides
@@ -72,9 +35,7 @@ fn one_side(widths: &[u64], left: usize) -> Sides
     Sides {
         left: lookup::first_at(widths, left),
         lwidth: lookup::width_at(widths, left),
-        right: 0,
-        rwidth: 0,
-        clear: true,
+        ..no_sides()
     }
 }
 
@@ -83,11 +44,9 @@ fn two_sides(widths: &[u64], left: usize, right: usize) -> Sides
     ensures { (result.left ≡ first_at widths.now left) × (result.lwidth ≡ width_at widths.now left) × (result.right ≡ first_at widths.now right) × (result.rwidth ≡ width_at widths.now right) }
 {
     Sides {
-        left: lookup::first_at(widths, left),
-        lwidth: lookup::width_at(widths, left),
         right: lookup::first_at(widths, right),
         rwidth: lookup::width_at(widths, right),
-        clear: true,
+        ..one_side(widths, left)
     }
 }
 
@@ -103,35 +62,25 @@ fn accept_at(
     widths: &mut [u64],
     k: usize,
     to: usize,
-) -> Verdict
+) -> Result<usize, Refusal>
     requires { (C : Catalogue) × Walking C (lent cells.now rows.now nodes.now) names.now most fields.old widths.old k to }
     ensures { (C : Catalogue) → Walking C (lent cells.now rows.now nodes.now) names.now most fields.old widths.old k to → Checked C (lent cells.now rows.now nodes.now) k to fields.old widths.old fields.new widths.new result }
 {
     let node = tree::node_at(nodes, k);
-    let kids = kids_of(node);
     let left = k + 1;
-    match kids {
-        Kids::Nothing => {
+    match tree::inputs_of(node) {
+        Inputs::Nothing => {
             let sides = no_sides();
             verdicts::own_verdict(cells, rows, names, most, node, sides, fields, widths, k, to)
         }
-        Kids::One => {
-            let below = accept_at(cells, rows, nodes, names, most, fields, widths, left, to);
-            let Verdict::Fine(on) = below else {
-                return below;
-            };
+        Inputs::One => {
+            let on = accept_at(cells, rows, nodes, names, most, fields, widths, left, to)?;
             let sides = one_side(widths, left);
             verdicts::own_verdict(cells, rows, names, most, node, sides, fields, widths, k, on)
         }
-        Kids::Two(right) => {
-            let first = accept_at(cells, rows, nodes, names, most, fields, widths, left, to);
-            let Verdict::Fine(mid) = first else {
-                return first;
-            };
-            let second = accept_at(cells, rows, nodes, names, most, fields, widths, right, mid);
-            let Verdict::Fine(on) = second else {
-                return second;
-            };
+        Inputs::Two(right) => {
+            let mid = accept_at(cells, rows, nodes, names, most, fields, widths, left, to)?;
+            let on = accept_at(cells, rows, nodes, names, most, fields, widths, right, mid)?;
             let sides = two_sides(widths, left, right);
             verdicts::own_verdict(cells, rows, names, most, node, sides, fields, widths, k, on)
         }
@@ -153,7 +102,7 @@ pub fn accept_node(
     widths: &mut [u64],
     k: usize,
     free: usize,
-) -> Verdict
+) -> Result<usize, Refusal>
     requires { (C : Catalogue) × Judgeable C (lent cells.now rows.now nodes.now) n names.now tables version fields.old widths.old k free }
     ensures { (C : Catalogue) → Judgeable C (lent cells.now rows.now nodes.now) n names.now tables version fields.old widths.old k free → Checked C (lent cells.now rows.now nodes.now) k free fields.old widths.old fields.new widths.new result }
 {

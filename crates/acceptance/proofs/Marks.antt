@@ -1,18 +1,21 @@
 -- Versions in turn: the mark of one, or of none. Assumes nothing.
-use mathlib.Core.Path.{◌≡◌, refl, sym, ap, subst, ◌∙◌}
+use mathlib.Core.Path.{◌≡◌, refl, sym, ap, ap₂, subst, ◌∙◌}
 use mathlib.Core.Bool.{Bool, true, false}
 use mathlib.Core.List.{List, []}
-use Prim.Native.Nat.{ℕ, ◌+◌, ◌<◌, ◌≤◌}
+use Prim.Native.Nat.{ℕ, ◌+◌, ◌<◌}
 use native.Mathlib.Decide.{ℕ_discrete}
 use native.Mathlib.Omega.{arith}
 use Rattle.cpl.specs.Limits.{Version, version1}
-use Rattle.cpl.specs.Read.{ok}
+use Rattle.std.specs.Prelude.{Err}
+use Rattle.cpl.specs.Read.{ok, bad}
 use Rattle.cpl.specs.ReadPlan.{mark_bytes, read_mark, starts}
 use Rattle.rules.specs.Check.{check_file}
 use Rattle.reader.proofs.Files.{file_mark, marked-none}
-use Rattle.acceptance.specs.Readings.{CheckedIs, Marked, Narrow, NoneBelow, marked_as}
-use Rattle.acceptance.specs.declared.Reading.{Reading}
-use Rattle.acceptance.proofs.Ways.{Refuses, refuse_read}
+use Rattle.acceptance.specs.Readings.{checked_of, CheckedIs, Narrow, NoneBelow, marked_as}
+use Rattle.refusals.specs.Codes.{code_of}
+use Rattle.refusals.specs.declared.Reason.TheVariants as reason
+use Rattle.refusals.specs.declared.Refusal.{Refusal}
+use Rattle.acceptance.proofs.Ways.{refuse_read}
 
 module _ (file : List ℕ) where
   pub none_first : NoneBelow file 1
@@ -33,7 +36,7 @@ module _ (file : List ℕ) where
   first_narrow e f h = λ v m. omega (arith, ap (λ u. u.max_fields) (one-version (sym (first_is e (f ∙ ap (λ k. marked_as k file) h)) ∙ m)))
 
   -- no version's mark
-  pub unmarked : (n : ℕ) → NoneBelow file n → 2 < n → (r : Reading) → Refuses r.checked 2 0 → CheckedIs (check_file file) r.checked
-  unmarked n o h r e =
+  pub unmarked : (n : ℕ) → NoneBelow file n → 2 < n → (e : Refusal) → e.reason ≡ reason.Mark → e.place ≡ 0 → CheckedIs (check_file file) (checked_of (Err e))
+  unmarked n o h e k z =
       let no = marked-none file {a = false} refl (sym (o 1 (omega arith) (omega arith))) {b = false} refl (sym (o 2 (omega arith) (omega arith))) in
-      (refuse_read file [] [] [] [] [] [] r 2 0 e (file_mark file no)).says
+      (refuse_read file [] [] [] [] [] [] e (file_mark file no ∙ ap₂ bad (ap code_of (sym k)) (sym z))).says

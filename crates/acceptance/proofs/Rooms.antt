@@ -10,7 +10,7 @@ use Rattle.cpl.specs.Limits.{Version, IsVersion, is_1, is_2, version1, version2}
 use Rattle.cpl.specs.Read.{Res, ok, bad, pick}
 use Rattle.cpl.specs.ReadPlan.{mark_bytes, read_mark, starts}
 use Rattle.versions.specs.Versions.{fields_room, rows_room}
-use Rattle.acceptance.specs.Readings.{Marked, Narrow, Room}
+use Rattle.acceptance.specs.Readings.{Fits, Marked, Narrow, Room}
 
 -- ── a mark is that of a version ─────────────────────────────────────────────────────────────
 
@@ -49,28 +49,32 @@ narrow_fields : {v : Version} → IsVersion v → v.max_fields ≤ 128 → field
 narrow_fields is_1 l = omega arith
 narrow_fields is_2 l = absurd (omega (arith, l))
 
+module _ (file : List ℕ) where
+  -- for every file
+  pub wide_fits : Fits file 1065088 262144
+  wide_fits v k = (wide_rows (mark_known file v k), wide-fields (mark_known file v k))
+
+  -- for a narrow one
+  pub narrow_fits : Narrow file → Fits file 278656 65536
+  narrow_fits h v k = (narrow_rows (mark_known file v k) (h v k), narrow_fields (mark_known file v k) (h v k))
+
 module _ (file : List ℕ) {cells rows nodes names fields widths keys : List ℕ} (c : length cells ≡ 12288) (n : length nodes ≡ 1792) (m : length names ≡ 8208)
     (w : length widths ≡ 512) (y : length keys ≡ 2448) where
-  -- for every file
-  pub wide_room : length rows ≡ 1065088 → length fields ≡ 262144 → Room file cells rows nodes names fields widths keys
-  wide_room r f = record {
+  pub fitted_room : {of_rows of_fields : ℕ} → Fits file of_rows of_fields → length rows ≡ of_rows → length fields ≡ of_fields → Room file cells rows nodes names fields widths keys
+  fitted_room h r f = record {
     cells_long = omega arith;
-    rows_long = λ v k. omega (arith, wide_rows (mark_known file v k), r);
+    rows_long = λ v k. omega (arith, h v k, r);
     nodes_long = omega arith;
     names_long = omega arith;
-    fields_long = λ v k. omega (arith, wide-fields (mark_known file v k), f);
+    fields_long = λ v k. omega (arith, h v k, f);
     widths_long = omega arith;
     keys_long = omega arith;
   }
 
+  -- for every file
+  pub wide_room : length rows ≡ 1065088 → length fields ≡ 262144 → Room file cells rows nodes names fields widths keys
+  wide_room = fitted_room (wide_fits file)
+
   -- for a narrow one
   pub narrow_room : Narrow file → length rows ≡ 278656 → length fields ≡ 65536 → Room file cells rows nodes names fields widths keys
-  narrow_room h r f = record {
-    cells_long = omega arith;
-    rows_long = λ v k. omega (arith, narrow_rows (mark_known file v k) (h v k), r);
-    nodes_long = omega arith;
-    names_long = omega arith;
-    fields_long = λ v k. omega (arith, narrow_fields (mark_known file v k) (h v k), f);
-    widths_long = omega arith;
-    keys_long = omega arith;
-  }
+  narrow_room h = fitted_room (narrow_fits file h)

@@ -1,12 +1,12 @@
 -- The ways that a reading can end: refused by the reader or at a node, or accepted. Assumes nothing.
 use mathlib.Core.Path.{◌≡◌, refl, sym, ◌∙◌, ap, subst, subst⁻¹}
-use mathlib.Core.Logic.{⊎_elim}
 use mathlib.Core.List.{List, [], ◌∷◌}
 use mathlib.Core.Option.{none, some}
 use Prim.Native.Nat.{ℕ, suc, ◌*◌, ◌≤◌, ◌<◌}
 use native.Mathlib.Nat.{mul-le-mul_left}
 use native.Mathlib.Omega.{arith}
 use lib.ListN.{length, get_or}
+use Rattle.std.specs.Prelude.{Ok, Err}
 use Rattle.cpl.specs.Lists.{a[], ◌a∷◌}
 use Rattle.cpl.specs.AreBytes.{AreBytes}
 use Rattle.cpl.specs.Limits as cpl-limits
@@ -32,37 +32,33 @@ use Rattle.reader.specs.Plans.{TookFile}
 use Rattle.key_sets.specs.Slots.{TableKeys}
 use Rattle.parts.specs.Catalogue.{catalogue_at, NamesOk}
 use Rattle.accept.specs.Verdicts.{Checked, FieldsStand, Judgeable}
-use Rattle.verdicts.specs.declared.Verdict.TheVariants.{Fine}
+use Rattle.refusals.specs.Codes.{code_of}
+use Rattle.refusals.specs.declared.Refusal.{Refusal}
 use Rattle.lookup.specs.Fields.{fields_at, first_at, width_at}
 use Rattle.tree.specs.Rows.{one}
 use Rattle.tree.proofs.Lists.{list_length}
-use Rattle.acceptance.specs.Readings.{CheckedIs, Marked, root_plan, PlanIn, ReadingIs}
-use Rattle.acceptance.specs.declared.Checked as declared
+use Rattle.acceptance.specs.Readings.{checked_of, CheckedIs, Marked, root_plan, PlanIn, ReadingIs}
 use Rattle.acceptance.specs.declared.Reading.{Reading}
-use Rattle.acceptance.proofs.Findings.{Sound, file_sound}
 use Rattle.acceptance.proofs.Tables.{catalogue-same, names_ok}
 
 -- ── refusals ────────────────────────────────────────────────────────────────────────────────
 
-abbrev pub Refuses : declared.Checked → (code place : ℕ) → Type 0
-Refuses r code place = (r.code ≡ code) × (r.place ≡ place) × (r.nodes ≡ 0) × (r.fields ≡ 0)
-
-module _ (file cells rows nodes fields widths keys : List ℕ) (r : Reading) where
-  refused : (code place : ℕ) → Refuses r.checked code place → finding (read_file file) ≡ faulty code place → ReadingIs file cells rows nodes fields widths keys r
+module _ (file cells rows nodes fields widths keys : List ℕ) (e : Refusal) where
+  refused : finding (read_file file) ≡ faulty (code_of e.reason) e.place → ReadingIs file cells rows nodes fields widths keys (Err e)
   unfolding check_file numbers_of
-  refused code place e h = record {
-    says = subst⁻¹ (λ f. CheckedIs (numbers_of f) r.checked) h (record { code_is = e.0; place_is = e.1; nodes_is = e.2; fields_is = e.3 });
-    plan = λ z. absurd (let s : Sound (faulty code place) = subst Sound h (file_sound file) in ⊎_elim (λ w. omega (arith, w.0, e.0)) (λ w. omega (arith, w, e.0)) s);
+  refused h = record {
+    says = subst⁻¹ (λ f. CheckedIs (numbers_of f) (checked_of (Err e))) h (record { code_is = refl; place_is = refl; nodes_is = refl; fields_is = refl });
+    plan = tt;
   }
 
-  pub refuse_read : (code place : ℕ) → Refuses r.checked code place → read_file file ≡ bad code place → ReadingIs file cells rows nodes fields widths keys r
+  pub refuse_read : read_file file ≡ bad (code_of e.reason) e.place → ReadingIs file cells rows nodes fields widths keys (Err e)
   unfolding finding
-  refuse_read code place e h = refused code place e (ap finding h)
+  refuse_read h = refused (ap finding h)
 
-  pub refuse-node : (C : Catalogue) (p : Plan) (next tags count code node : ℕ) → Refuses r.checked code node → read_file file ≡ ok (source_of C p) next tags count
-      → check C p 0 ≡ some (fault code node) → ReadingIs file cells rows nodes fields widths keys r
+  pub refuse-node : (C : Catalogue) (p : Plan) (next tags count : ℕ) → read_file file ≡ ok (source_of C p) next tags count
+      → check C p 0 ≡ some (fault (code_of e.reason) e.place) → ReadingIs file cells rows nodes fields widths keys (Err e)
   unfolding finding
-  refuse-node C p next tags count code node e h f = refused code node e (ap finding h ∙ ap (finding_of C p) f)
+  refuse-node C p next tags count h f = refused (ap finding h ∙ ap (finding_of C p) f)
 
 -- ── a file that was read ────────────────────────────────────────────────────────────────────
 
@@ -131,7 +127,7 @@ pub are_bytes : (file : List ℕ) → ((i : ℕ) → get_or file i 0 < 256) → 
 are_bytes [] h = a[]
 are_bytes (b ∷ bs) h = h 0 a∷ are_bytes bs (λ i. h (suc i))
 
-module _ {C : Catalogue} {a : Arrays} {s w s' w' : List ℕ} {next : ℕ} (k : Checked C a 0 0 s w s' w' (Fine next)) where
+module _ {C : Catalogue} {a : Arrays} {s w s' w' : List ℕ} {next : ℕ} (k : Checked C a 0 0 s w s' w' (Ok next)) where
   pub no_faults : check C (plan_at a 0) 0 ≡ none
   no_faults = sym k.says
 
@@ -176,14 +172,14 @@ renumbered {file} {cells} {rows} {nodes} p v s n = record {
   stand = λ j h. p.stand j (subst (λ k. j < k) n h);
 }
 
-pub accept_ends : (file cells rows nodes names fields widths keys : List ℕ) (version : Version) (tables start count : ℕ) (r : Reading) (g : Got file cells rows nodes names keys version tables start count)
+pub accept_ends : (file cells rows nodes names fields widths keys : List ℕ) (tables : ℕ) (r : Reading) (g : Got file cells rows nodes names keys r.version tables r.start r.nodes)
     → check g.C (root_plan cells rows nodes) 0 ≡ none
-    → ((j : ℕ) → j < count → FieldsStand g.C (lent cells rows nodes) fields widths j)
-    → (r.checked.code ≡ 0) × (r.checked.place ≡ 0) × (r.checked.nodes ≡ count) × (r.checked.fields ≡ width_at widths 0) × (r.start ≡ start) × (r.version ≡ version)
-    → ReadingIs file cells rows nodes fields widths keys r
+    → ((j : ℕ) → j < r.nodes → FieldsStand g.C (lent cells rows nodes) fields widths j)
+    → r.fields ≡ width_at widths 0
+    → ReadingIs file cells rows nodes fields widths keys (Ok r)
 unfolding check_file numbers_of
-accept_ends file cells rows nodes names fields widths keys version tables start count r g fine stand e =
-    let p : PlanIn file cells rows nodes fields widths keys version start count = record {
+accept_ends file cells rows nodes names fields widths keys tables r g fine stand e =
+    let p : PlanIn file cells rows nodes fields widths keys r.version r.start r.nodes = record {
       C = g.C;
       version_is = g.version_is;
       tables = g.tables_fit;
@@ -196,19 +192,16 @@ accept_ends file cells rows nodes names fields widths keys version tables start 
       stand = stand;
     } in
     record {
-      says = subst⁻¹ (λ f. CheckedIs (numbers_of f) r.checked) (is-accepted p)
-          (record { code_is = e.0; place_is = e.1; nodes_is = e.2 ∙ g.whole; fields_is = e.3 ∙ root-fields p });
-      plan = λ z. renumbered p e.5 e.4 e.2;
+      says = subst⁻¹ (λ f. CheckedIs (numbers_of f) (checked_of (Ok r))) (is-accepted p)
+          (record { code_is = refl; place_is = refl; nodes_is = g.whole; fields_is = e ∙ root-fields p });
+      plan = p;
     }
 
 -- where nothing is refused
-module _ {file cells rows nodes fields widths keys : List ℕ} {r : Reading} (x : ReadingIs file cells rows nodes fields widths keys r) (z : r.checked.code ≤ 0) where
-  pub plan_in : PlanIn file cells rows nodes fields widths keys r.version r.start r.checked.nodes
-  plan_in = x.plan (omega arith)
-
-  pub width_is : r.checked.fields ≡ length (fields_of plan_in.C (root_plan cells rows nodes))
+module _ {file cells rows nodes fields widths keys : List ℕ} {r : Reading} (x : ReadingIs file cells rows nodes fields widths keys (Ok r)) where
+  pub width_is : r.fields ≡ length (fields_of x.plan.C (root_plan cells rows nodes))
   unfolding check_file numbers_of
-  width_is = x.says.fields_is ∙ ap (λ f. (numbers_of f).fields) (is-accepted plan_in)
+  width_is = x.says.fields_is ∙ ap (λ f. (numbers_of f).fields) (is-accepted x.plan)
 
-  pub few-asked : r.checked.fields ≤ 512
-  few-asked = omega (arith, width_is, few-fields plan_in, (small plan_in.tables.version_is).fields-small)
+  pub few-asked : r.fields ≤ 512
+  few-asked = omega (arith, width_is, few-fields x.plan, (small x.plan.tables.version_is).fields-small)

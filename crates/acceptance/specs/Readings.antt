@@ -1,5 +1,5 @@
 -- What is said of a file, and the plan of an accepted one as it stands in the arrays.
-use Rattle.std.specs.Prelude.{◌≡◌, Bool, false, List, [], ◌∷◌, ℕ, ◌<◌, ◌≤◌, length}
+use Rattle.std.specs.Prelude.{◌≡◌, Bool, false, List, [], ◌∷◌, ℕ, ◌<◌, ◌≤◌, length, Result, Ok, Err}
 use Rattle.std.proofs.Math.Option.{none}
 use Rattle.cpl.specs.Limits as cpl-limits
 use Rattle.cpl.specs.Plan.{Catalogue, Plan}
@@ -10,6 +10,8 @@ use Rattle.cpl.specs.Accept as cpl
 use Rattle.cpl.specs.Writable.{FitCatalogue}
 use Rattle.rules.specs.Check as rules
 use Rattle.rules.specs.Success.{source_of}
+use Rattle.refusals.specs.Codes.{code_of}
+use Rattle.refusals.specs.declared.Refusal.{Refusal}
 use Rattle.versions.specs.Versions.{fields_room, rows_room, version_of}
 use Rattle.versions.specs.declared.Version.{Version}
 use Rattle.tree.specs.Tree.{lent, plan_at, WfTree}
@@ -17,6 +19,11 @@ use Rattle.key_sets.specs.Slots.{TableKeys}
 use Rattle.accept.specs.Verdicts.{FieldsStand}
 use Rattle.acceptance.specs.declared.Checked.{Checked}
 use Rattle.acceptance.specs.declared.Reading.{Reading}
+
+-- an accepted plan's numbers, or a refusal's
+abbrev pub checked_of : Result Reading Refusal → Checked
+checked_of (Ok r) = record { code = 0; place = 0; nodes = r.nodes; fields = r.fields }
+checked_of (Err e) = record { code = code_of e.reason; place = e.place; nodes = 0; fields = 0 }
 
 -- the four numbers are those of the definition
 pub record CheckedIs (c : rules.Checked) (r : Checked) : Type 0 where
@@ -45,6 +52,10 @@ NoneBelow file number = (k : ℕ) → 1 ≤ k → k < number → marked_as k fil
 abbrev pub Narrow : (file : List ℕ) → Type 0
 Narrow file = (v : cpl-limits.Version) → Marked file v → v.max_fields ≤ 128
 
+-- so many numbers of rows and of fields are enough for the file's version
+abbrev pub Fits : (file : List ℕ) → (rows fields : ℕ) → Type 0
+Fits file rows fields = (v : cpl-limits.Version) → Marked file v → (rows_room v ≤ rows) × (fields_room v ≤ fields)
+
 -- the lent arrays are long enough for every plan file of the file's version
 pub record Room (file cells rows nodes names fields widths keys : List ℕ) : Type 0 where
   pub cells_long : 12288 ≤ length cells
@@ -69,7 +80,12 @@ pub record PlanIn (file cells rows nodes fields widths keys : List ℕ) (version
   pub keyed : TableKeys C keys
   pub stand : (j : ℕ) → j < count → FieldsStand C (lent cells rows nodes) fields widths j
 
+-- where the file is accepted, its plan
+abbrev pub Accepted : (file cells rows nodes fields widths keys : List ℕ) → Result Reading Refusal → Type 0
+Accepted file cells rows nodes fields widths keys (Ok r) = PlanIn file cells rows nodes fields widths keys r.version r.start r.nodes
+Accepted file cells rows nodes fields widths keys (Err e) = Unit {0}
+
 -- what is said of a file; and where it is accepted, its plan
-pub record ReadingIs (file cells rows nodes fields widths keys : List ℕ) (r : Reading) : Type 0 where
-  pub says : CheckedIs (rules.check_file file) r.checked
-  pub plan : r.checked.code ≡ 0 → PlanIn file cells rows nodes fields widths keys r.version r.start r.checked.nodes
+pub record ReadingIs (file cells rows nodes fields widths keys : List ℕ) (r : Result Reading Refusal) : Type 0 where
+  pub says : CheckedIs (rules.check_file file) (checked_of r)
+  pub plan : Accepted file cells rows nodes fields widths keys r

@@ -4,15 +4,15 @@
 //! accepted plan in them, for what goes on with it.
 #![tactic(auto)]
 
-ghost use Rattle.std.specs.Prelude.{true, ◌≡◌};
+ghost use Rattle.std.specs.Prelude.{true, ◌≡◌, ◌≤◌};
 ghost use Rattle.rules.specs.Check.{check_file};
-ghost use Rattle.acceptance.specs.Readings.{CheckedIs, Narrow, NoneBelow, ReadingIs, Room};
+ghost use Rattle.acceptance.specs.Readings.{checked_of, CheckedIs, Fits, Narrow, NoneBelow, ReadingIs, Room};
 
-use reader::Read;
-use verdicts::Verdict;
+use refusals::{Reason, Refusal};
 use versions::Version;
 
-/// Code 0, place 0, the number of nodes and of the root's fields; or a refusal's code and place, and 0 for both numbers.
+/// Code 0, place 0, the number of nodes and of the root's fields; or a refusal's code and place, and 0 for both numbers. These are the four numbers
+/// that the C interface gives: within the library what is said of a file is a `Result` of a `Reading`.
 #[derive(Clone, Copy)]
 pub struct Checked {
     pub code: u8,
@@ -21,28 +21,33 @@ pub struct Checked {
     pub fields: usize,
 }
 
-/// What was checked, the offset of its plan and its version.
+/// An accepted plan: its number of nodes and of the root's fields, the offset where it starts and its version.
 #[derive(Clone, Copy)]
 pub struct Reading {
-    pub checked: Checked,
+    pub nodes: usize,
+    pub fields: usize,
     pub start: usize,
     pub version: Version,
 }
 
-// A refusal.
-fn refuse(code: u8, place: usize) -> Reading
-    ensures { (result.checked.code ≡ code) × (result.checked.place ≡ place) × (result.checked.nodes ≡ 0) × (result.checked.fields ≡ 0) }
-{
-    let checked = Checked {
-        code,
-        place,
-        nodes: 0,
-        fields: 0,
-    };
-    Reading {
-        checked,
-        start: 0,
-        version: versions::version1(),
+impl From<Result<Reading, Refusal>> for Checked {
+    ghost from_gives = { λ read checked. checked ≡ checked_of read };
+
+    fn from(read: Result<Reading, Refusal>) -> Checked {
+        match read {
+            Ok(reading) => Checked {
+                code: 0,
+                place: 0,
+                nodes: reading.nodes,
+                fields: reading.fields,
+            },
+            Err(refusal) => Checked {
+                code: refusal.code(),
+                place: refusal.place,
+                nodes: 0,
+                fields: 0,
+            },
+        }
     }
 }
 
@@ -57,42 +62,30 @@ pub fn read_and_check(
     fields: &mut [u16],
     widths: &mut [u64],
     keys: &mut [u64],
-) -> Reading
+) -> Result<Reading, Refusal>
     requires { Room file.now cells.old rows.old nodes.old names.old fields.old widths.old keys.old }
     ensures { ReadingIs file.now cells.new rows.new nodes.new fields.new widths.new keys.new result }
 {
-    let read = reader::read_file(file, cells, rows, nodes, names, keys);
-    match read {
-        Read::Bad(code, place) => refuse(code, place),
-        Read::Done {
-            version,
-            tables,
-            start,
-            nodes: count,
-            tags: _,
-            made: _,
-        } => {
-            let v = accept::accept_node(
-                cells, rows, nodes, count, names, tables, version, fields, widths, 0, 0,
-            );
-            match v {
-                Verdict::Bad(code, node) => refuse(code, node),
-                Verdict::Fine(_) => {
-                    let checked = Checked {
-                        code: 0,
-                        place: 0,
-                        nodes: count,
-                        fields: widths[0] as usize,
-                    };
-                    Reading {
-                        checked,
-                        start,
-                        version,
-                    }
-                }
-            }
-        }
-    }
+    let read = reader::read_file(file, cells, rows, nodes, names, keys)?;
+    accept::accept_node(
+        cells,
+        rows,
+        nodes,
+        read.nodes,
+        names,
+        read.tables,
+        read.version,
+        fields,
+        widths,
+        0,
+        0,
+    )?;
+    Ok(Reading {
+        nodes: read.nodes,
+        fields: widths[0] as usize,
+        start: read.start,
+        version: read.version,
+    })
 }
 
 /// What is said of a file, worked out in lent arrays.
@@ -108,22 +101,23 @@ pub fn check_in(
 ) -> Checked
     ensures { CheckedIs (check_file file.now) result }
 {
-    let read = read_and_check(file, cells, rows, nodes, names, fields, widths, keys);
-    read.checked
+    Checked::from(read_and_check(file, cells, rows, nodes, names, fields, widths, keys))
 }
 
-// The same in arrays of its own, for every file.
-fn check_wide(file: &[u8]) -> Checked
+// The same in arrays of its own, of so many numbers of rows and of fields.
+fn check_with<const ROWS: usize, const FIELDS: usize>(file: &[u8]) -> Checked
+    requires fits { Fits file.now ROWS FIELDS }
+    requires few { (ROWS ≤ 1065088) × (FIELDS ≤ 262144) }
     ensures { CheckedIs (check_file file.now) result }
 {
     let mut cells = [0u64; 12288];
-    let mut rows = [0u16; 1065088];
+    let mut rows = [0u16; ROWS];
     let mut nodes = [0u64; 1792];
     let mut names = [0u16; 8208];
-    let mut fields = [0u16; 262144];
+    let mut fields = [0u16; FIELDS];
     let mut widths = [0u64; 512];
     let mut keys = [0u64; 2448];
-    check_in(
+    Checked::from(read_and_check(
         file,
         &mut cells,
         &mut rows,
@@ -132,32 +126,7 @@ fn check_wide(file: &[u8]) -> Checked
         &mut fields,
         &mut widths,
         &mut keys,
-    )
-}
-
-// The same in arrays for a file whose nodes have at most 128 fields.
-fn check_narrow(file: &[u8]) -> Checked
-    requires { Narrow file.now }
-    ensures { CheckedIs (check_file file.now) result }
-{
-    let mut cells = [0u64; 12288];
-    let mut rows = [0u16; 278656];
-    let mut nodes = [0u64; 1792];
-    let mut names = [0u16; 8208];
-    let mut fields = [0u16; 65536];
-    let mut widths = [0u64; 512];
-    let mut keys = [0u64; 2448];
-    let read = read_and_check(
-        file,
-        &mut cells,
-        &mut rows,
-        &mut nodes,
-        &mut names,
-        &mut fields,
-        &mut widths,
-        &mut keys,
-    );
-    read.checked
+    ))
 }
 
 /// Are 128 fields a node enough for the file, by its version? So smaller arrays are, too.
@@ -175,14 +144,13 @@ fn check_from(file: &[u8], number: u64) -> Checked
     ensures { CheckedIs (check_file file.now) result }
 {
     if number > 2 {
-        let refused = refuse(2, 0);
-        return refused.checked;
+        return Checked::from(Err(Refusal::new(Reason::Mark, 0)));
     }
     if reader::has_mark(file, number) {
         if number == 1 {
-            return check_narrow(file);
+            return check_with::<278656, 65536>(file);
         }
-        return check_wide(file);
+        return check_with::<1065088, 262144>(file);
     }
     check_from(file, number + 1)
 }

@@ -2,11 +2,15 @@
 use mathlib.Core.Path.{◌≡◌, refl, sym, ap, ap₂, ◌∙◌}
 use mathlib.Core.Bool.{Bool, true, false, true≢false, ◌&&◌}
 use mathlib.Core.List.{List, [], ◌∷◌}
-use Prim.Native.Nat.{ℕ, suc, ◌+◌, ◌-◌, ◌<◌, ◌≤◌}
+use Prim.Native.Nat.{ℕ, zero, suc, ◌+◌, ◌-◌, ◌<◌, ◌≤◌}
 use native.Mathlib.Omega.{arith}
+use native.Mathlib.Decide.{ℕ_discrete}
 use borrow.Author.Tests.{eq-eqb, eqb-true, ne_eqb}
 use lib.Dec.{eqb}
 use lib.ListN.{length}
+use Rattle.std.specs.List.{list_all, range_with_len, sum_by}
+use Rattle.std.proofs.Common.{add-one}
+use Rattle.std.proofs.lemmas.List.Sums.{sum_by-cons}
 use Rattle.cpl.specs.Exprs.{expr_tags, item_tags}
 use Rattle.cpl.specs.Plan.{Expr, Item, Pair, bare, col, item_expr, named, pair}
 use Rattle.cpl.specs.Tests.{all_b, sum_of}
@@ -74,23 +78,6 @@ module _ (s cells : List ℕ) (f n : ℕ) where
   pub row_ok : RowsOk s cells f n → (i : ℕ) → i < n → RowOk s cells (f + i)
   row_ok o i h = o.each (f + i) (omega arith) (omega arith)
 
-  -- what is summed or asked over a list
-  pub sum_next : (g : Item → ℕ) (i : ℕ) → i < n → sum_of g (rest s cells f n i) ≡ g (item_at s cells (f + i)) + sum_of g (rest s cells f n (i + 1))
-  unfolding sum_of
-  sum_next g i h = ap (sum_of g) (rest-next i h)
-
-  pub sum_end : (g : Item → ℕ) (i : ℕ) → n ≤ i → sum_of g (rest s cells f n i) ≡ 0
-  unfolding sum_of
-  sum_end g i h = ap (sum_of g) (rest-none i h)
-
-  pub all-next : (g : Item → Bool) (i : ℕ) → i < n → all_b g (rest s cells f n i) ≡ g (item_at s cells (f + i)) && all_b g (rest s cells f n (i + 1))
-  unfolding all_b
-  all-next g i h = ap (all_b g) (rest-next i h)
-
-  pub all_end : (g : Item → Bool) (i : ℕ) → n ≤ i → all_b g (rest s cells f n i) ≡ true
-  unfolding all_b
-  all_end g i h = ap (all_b g) (rest-none i h)
-
 -- a row once its four numbers are read
 module _ {s : List ℕ} {i q n m k : ℕ} (cells : List ℕ) (e : RowIs s i q n m k) where
   pub read_row : item_at s cells i ≡ row_item m (pair q n) (expr_at cells k)
@@ -112,56 +99,29 @@ module _ {s : List ℕ} {i q n m k : ℕ} (cells : List ℕ) (e : RowIs s i q n 
   pub read_col : RowOk s cells i → m ≡ 0 → expr_at cells k ≡ col (pair q n)
   read_col o h = ap (expr_at cells) e.root_is ∙ o.bare (sym e.mark_is ∙ h) ∙ ap col (sym e.pair_is)
 
-  pub read_small : RowOk s cells i → (z : ℕ) → item_tags (item_at s cells i) < z → expr_tags (expr_at cells k) < z
-  read_small o z h = omega (arith, ap expr_tags (read_expr_lem o), tags_le (item_at s cells i))
-
   pub read_tags : (m ≡ 0 → ⊥) → item_tags (item_at s cells i) ≡ suc (expr_tags (expr_at cells k))
   unfolding item_tags
   read_tags h = ap item_tags (read_named h)
 
--- a sum over a list that has been taken up to row i
-pub record Summed (g : Item → ℕ) (s cells : List ℕ) (f n i sum : ℕ) : Type 0 where
-  pub upto : i ≤ n
-  pub sums : sum + sum_of g (rest s cells f n i) ≡ sum_of g (items_at s cells f n)
-  pub tags : sum_of item_tags (rest s cells f n i) ≤ sum_of item_tags (items_at s cells f n)
+-- a list by its rows' numbers: what is summed or asked over it, and that no row has more tags than the list
+module _ (s cells : List ℕ) where
+  pub sum_rows : (g : Item → ℕ) (h : ℕ → ℕ) (f n : ℕ) → ((i : ℕ) → f ≤ i → i < f + n → h i ≡ g (item_at s cells i)) → sum_by h (range_with_len f n) ≡ sum_of g (items_at s cells f n)
+  unfolding items_at sum_of
+  sum_rows g h f zero e = refl
+  sum_rows g h f (suc n) e = sum_by-cons h f (range_with_len (f + 1) n) ∙ rw add-one (ap₂ ◌+◌ (e f (omega arith) (omega arith)) (sum_rows g h (suc f) n (λ i l u. e i (omega arith) (omega arith))))
 
-module _ (g : Item → ℕ) (s cells : List ℕ) (f n : ℕ) where
-  pub summed_none : Summed g s cells f n 0 0
-  summed_none =
-      let e = rest_all s cells f n in
-      record { upto = omega arith; sums = omega (arith, ap (sum_of g) e); tags = omega (arith, ap (sum_of item_tags) e) }
+  pub all_rows : (g : Item → Bool) (h : ℕ → Bool) (f n : ℕ) → ((i : ℕ) → f ≤ i → i < f + n → h i ≡ g (item_at s cells i)) → list_all h (range_with_len f n) ≡ all_b g (items_at s cells f n)
+  unfolding items_at all_b
+  all_rows g h f zero e = refl
+  all_rows g h f (suc n) e = rw add-one (ap₂ ◌&&◌ (e f (omega arith) (omega arith)) (all_rows g h (suc f) n (λ i l u. e i (omega arith) (omega arith))))
 
-  pub summed_more : (i sum a : ℕ) → Summed g s cells f n i sum → i < n → a ≡ g (item_at s cells (f + i)) → Summed g s cells f n (i + 1) (sum + a)
-  summed_more i sum a p h e = record {
-    upto = omega arith;
-    sums = omega (arith, p.sums, sum_next s cells f n g i h);
-    tags = omega (arith, p.tags, sum_next s cells f n item_tags i h);
-  }
-
-  pub summed_all : (i sum : ℕ) → Summed g s cells f n i sum → n ≤ i → sum ≡ sum_of g (items_at s cells f n)
-  summed_all i sum p h = omega (arith, p.sums, sum_end s cells f n g i h)
-
-  -- a row's own tags are within the list's
-  pub summed_tags : (i sum : ℕ) → Summed g s cells f n i sum → i < n → item_tags (item_at s cells (f + i)) ≤ sum_of item_tags (items_at s cells f n)
-  summed_tags i sum p h = omega (arith, p.tags, sum_next s cells f n item_tags i h)
-
--- a question to each item of a list that has been answered by yes up to row i
-pub record Asked (g : Item → Bool) (s cells : List ℕ) (f n i : ℕ) : Type 0 where
-  pub upto : i ≤ n
-  pub same : all_b g (rest s cells f n i) ≡ all_b g (items_at s cells f n)
-
-module _ (g : Item → Bool) (s cells : List ℕ) (f n : ℕ) where
-  pub asked-none : Asked g s cells f n 0
-  asked-none = record { upto = omega arith; same = ap (all_b g) (rest_all s cells f n) }
-
-  pub asked-more : (i : ℕ) → Asked g s cells f n i → i < n → g (item_at s cells (f + i)) ≡ true → Asked g s cells f n (i + 1)
-  asked-more i p h e = record { upto = omega arith; same = sym (all-next s cells f n g i h ∙ rw e) ∙ p.same }
-
-  pub asked_no : (i : ℕ) → Asked g s cells f n i → i < n → g (item_at s cells (f + i)) ≡ false → false ≡ all_b g (items_at s cells f n)
-  asked_no i p h e = sym (all-next s cells f n g i h ∙ rw e) ∙ p.same
-
-  pub asked-all : (i : ℕ) → Asked g s cells f n i → n ≤ i → true ≡ all_b g (items_at s cells f n)
-  asked-all i p h = sym (all_end s cells f n g i h) ∙ p.same
+  pub row_tags : (f n i : ℕ) → f ≤ i → i < f + n → item_tags (item_at s cells i) ≤ sum_of item_tags (items_at s cells f n)
+  unfolding items_at sum_of
+  row_tags f zero i l u = absurd (omega arith)
+  row_tags f (suc n) i l u = elim (ℕ_discrete i f) [
+    | yes e ↦ omega (arith, ap (λ k. item_tags (item_at s cells k)) e)
+    | no d ↦ omega (arith, row_tags (suc f) n i (omega arith) (omega arith))
+  ]
 
 -- the room that a list has for its rows
 pub row_fits : {s cells : List ℕ} {f n : ℕ} → RowsOk s cells f n → (i : ℕ) → i < n → f + i < length s

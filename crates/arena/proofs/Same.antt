@@ -4,10 +4,12 @@ use mathlib.Core.Bool.{Bool, true, false, cond, decide, true≢false, ◌&&◌}
 use mathlib.Core.List.{List, [], ◌∷◌}
 use Prim.Native.Nat.{ℕ, zero, suc, ◌+◌, ◌^◌, ◌<◌, ◌≤◌}
 use native.Mathlib.Omega.{arith}
-use borrow.Author.Tests.{eqb-true, eq-eqb}
+use borrow.Author.Tests.{eqb-true, eq-eqb, ne_eqb}
 use lib.Dec.{eqb}
 use lib.IntN.{ℤ}
 use lib.ListN.{length}
+use Rattle.std.specs.List.{list_all, range_with_len}
+use Rattle.std.proofs.Common.{add-one, add-suc, add-zero}
 use Rattle.cpl.specs.Codes.{op1_of, op2_of, signed, tag_of, unsigned}
 use Rattle.cpl.specs.Plan.{Expr, Item, Op1, Op2, Pair, bare, bin, col, lit, miss, named, pair, un}
 use Rattle.rules.specs.Merge.{eq_items, expr_d, item_d}
@@ -16,7 +18,6 @@ use Rattle.arena.specs.Rows.{item_at, items_at, row_item}
 use Rattle.arena.specs.View.{Shows}
 use Rattle.arena.specs.declared.View.TheVariants.{One, Two}
 use Rattle.arena.proofs.Laws.{at_col, at_lit, at_miss, at_one, at_two, bits, op1-tag, op2-tag, tag}
-use Rattle.arena.proofs.Rows.{rest, rest_all, rest-next, rest-none}
 
 -- what is decided, by what it is equivalent to
 module _ {A : Type 0} (d : Dec A) where
@@ -44,6 +45,14 @@ and-true false b e = absurd (true≢false (sym e))
 
 pub both_true : {a b : Bool} → a ≡ true → b ≡ true → a && b ≡ true
 both_true e f = ap₂ ◌&&◌ e f
+
+-- `eqb x z && t`, once x and z are compared
+module _ {x z : ℕ} (t : Bool) {r : Bool} (h : eqb x z && t ≡ r) where
+  pub and-then : x ≡ z → t ≡ r
+  and-then e = rw (eq-eqb x z e) at h
+
+  pub and-else : (x ≡ z → ⊥) → eqb x z ≡ r
+  and-else n = ne_eqb x z n ∙ (rw (ne_eqb x z n) at h)
 
 -- two expressions of one kind
 module _ {e f : Expr} where
@@ -138,30 +147,17 @@ eq_length (i ∷ is) (j ∷ js) h = go (decide (item_d i j)) (eq_length is js (�
     go true e = e
     go false e = refl
 
--- two lists that are the same up to row i
-pub record Agree (s cells : List ℕ) (f n : ℕ) (s₂ cells₂ : List ℕ) (f₂ n₂ i : ℕ) : Type 0 where
-  pub upto : i ≤ n
-  pub same : eq_items (rest s cells f n i) (rest s₂ cells₂ f₂ n₂ i) ≡ eq_items (items_at s cells f n) (items_at s₂ cells₂ f₂ n₂)
-
 module _ (s cells : List ℕ) (f n : ℕ) (s₂ cells₂ : List ℕ) (f₂ n₂ : ℕ) where
   pub unlike : (n ≡ n₂ → ⊥) → false ≡ eq_items (items_at s cells f n) (items_at s₂ cells₂ f₂ n₂)
   unlike h = eq_length _ _ (λ e. h (sym (items-length s cells f n) ∙ e ∙ items-length s₂ cells₂ f₂ n₂))
 
-  pub agree_none : Agree s cells f n s₂ cells₂ f₂ n₂ 0
-  agree_none = record { upto = omega arith; same = ap₂ eq_items (rest_all s cells f n) (rest_all s₂ cells₂ f₂ n₂) }
+-- two lists of n rows, by their rows' numbers
+same_on : (s cells : List ℕ) (f : ℕ) (s₂ cells₂ : List ℕ) (f₂ i n : ℕ) → list_all (λ k. decide (item_d (item_at s cells (f + k)) (item_at s₂ cells₂ (f₂ + k)))) (range_with_len i n) ≡ eq_items (items_at s cells (f + i) n) (items_at s₂ cells₂ (f₂ + i) n)
+unfolding items_at eq_items
+same_on s cells f s₂ cells₂ f₂ i zero = refl
+same_on s cells f s₂ cells₂ f₂ i (suc n) =
+    let e = same_on s cells f s₂ cells₂ f₂ (suc i) n in
+    rw add-one (ap (λ b. decide (item_d (item_at s cells (f + i)) (item_at s₂ cells₂ (f₂ + i))) && b) (simp add-suc at e))
 
-  agree_next : (i : ℕ) → i < n → i < n₂ → eq_items (rest s cells f n i) (rest s₂ cells₂ f₂ n₂ i)
-      ≡ decide (item_d (item_at s cells (f + i)) (item_at s₂ cells₂ (f₂ + i))) && eq_items (rest s cells f n (i + 1)) (rest s₂ cells₂ f₂ n₂ (i + 1))
-  unfolding eq_items
-  agree_next i h k = ap₂ eq_items (rest-next s cells f n i h) (rest-next s₂ cells₂ f₂ n₂ i k)
-
-  module _ (i : ℕ) (p : Agree s cells f n s₂ cells₂ f₂ n₂ i) (h : i < n) (k : n ≡ n₂) where
-    pub agree_more : decide (item_d (item_at s cells (f + i)) (item_at s₂ cells₂ (f₂ + i))) ≡ true → Agree s cells f n s₂ cells₂ f₂ n₂ (i + 1)
-    agree_more e = record { upto = omega arith; same = sym (agree_next i h (omega arith) ∙ rw e) ∙ p.same }
-
-    pub agree_no : decide (item_d (item_at s cells (f + i)) (item_at s₂ cells₂ (f₂ + i))) ≡ false → false ≡ eq_items (items_at s cells f n) (items_at s₂ cells₂ f₂ n₂)
-    agree_no e = sym (agree_next i h (omega arith) ∙ rw e) ∙ p.same
-
-  pub agree_all : (i : ℕ) → Agree s cells f n s₂ cells₂ f₂ n₂ i → n ≤ i → n ≡ n₂ → true ≡ eq_items (items_at s cells f n) (items_at s₂ cells₂ f₂ n₂)
-  unfolding eq_items
-  agree_all i p h k = sym (ap₂ eq_items (rest-none s cells f n i h) (rest-none s₂ cells₂ f₂ n₂ i (omega arith))) ∙ p.same
+pub same_rows : (s cells : List ℕ) (f : ℕ) (s₂ cells₂ : List ℕ) (f₂ n : ℕ) → list_all (λ k. decide (item_d (item_at s cells (f + k)) (item_at s₂ cells₂ (f₂ + k)))) (range_with_len 0 n) ≡ eq_items (items_at s cells f n) (items_at s₂ cells₂ f₂ n)
+same_rows s cells f s₂ cells₂ f₂ n = same_on s cells f s₂ cells₂ f₂ 0 n ∙ ap₂ (λ a b. eq_items (items_at s cells a n) (items_at s₂ cells₂ b n)) (add-zero f) (add-zero f₂)

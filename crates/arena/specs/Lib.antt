@@ -1,4 +1,5 @@
 pub mod Cells
 pub mod Kept
+pub mod Lists
 pub mod Rows
 pub mod View

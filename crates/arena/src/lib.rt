@@ -12,8 +12,13 @@ ghost use Rattle.cpl.specs.Plan.{col, pair};
 ghost use Rattle.cpl.specs.Tests.{all_b, sum_of};
 ghost use Rattle.rules.specs.Merge.{eq_items, expr_d, item_d, occurs, occurs_in, plain, uses_none};
 ghost use Rattle.arena.specs.Cells.{expr_at, NodeIs, Wf};
-ghost use Rattle.arena.specs.Rows.{item_at, items_at, RowIs, RowOk, RowsOk};
+ghost use Rattle.arena.specs.Lists.{listed, ListOk};
+ghost use Rattle.arena.specs.Rows.{item_at, RowIs, RowOk};
 ghost use Rattle.arena.specs.View.{Shows};
+
+/// A lent array has no room left.
+#[derive(Clone, Copy)]
+pub struct Full;
 
 /// The three numbers of a node.
 #[derive(Clone, Copy)]
@@ -37,6 +42,7 @@ pub fn words_at(cells: &[u64], i: usize) -> Node
 }
 
 /// A node taken apart: a column's pair, a literal's bits, missing, an operator's tag with its operands.
+// An operator stays a number: it is copied from word to word of the lent arrays (document 01: no heap, fixed memory).
 #[derive(Clone, Copy)]
 pub enum View {
     Col(u16, u16),
@@ -52,20 +58,13 @@ pub fn node_at(cells: &[u64], i: usize) -> View
     ensures { Shows cells.now i result }
 {
     let w = words_at(cells, i);
-    let t = w.tag;
-    if t == 0 {
-        return View::Col(w.x as u16, w.y as u16);
+    match w.tag {
+        0 => View::Col(w.x as u16, w.y as u16),
+        1 => View::Lit(w.x),
+        2 => View::Miss,
+        3 | 4 => View::One(w.tag, w.x as usize),
+        _ => View::Two(w.tag, w.x as usize, w.y as usize),
     }
-    if t == 1 {
-        return View::Lit(w.x);
-    }
-    if t == 2 {
-        return View::Miss;
-    }
-    if t < 5 {
-        return View::One(t, w.x as usize);
-    }
-    View::Two(t, w.x as usize, w.y as usize)
 }
 
 /// The outermost tag of node `i`'s expression. The nodes up to it are well formed.
@@ -73,8 +72,7 @@ pub fn tag_at(cells: &[u64], i: usize) -> u64
     requires { Wf cells.now (i + 1) }
     ensures { result ≡ tag_of (expr_at cells.now i) }
 {
-    let w = words_at(cells, i);
-    w.tag
+    words_at(cells, i).tag
 }
 
 /// Is node `i`'s expression the column (q, n)? The nodes up to it are well formed.
@@ -82,13 +80,9 @@ pub fn is_column(cells: &[u64], i: usize, q: u16, n: u16) -> bool
     requires { Wf cells.now (i + 1) }
     ensures { result ≡ decide (expr_d (expr_at cells.now i) (col (pair q n))) }
 {
-    let v = node_at(cells, i);
-    match v {
-        View::Col(a, b) => (a == q) & (b == n),
-        View::Lit(_) => false,
-        View::Miss => false,
-        View::One(_, _) => false,
-        View::Two(_, _, _) => false,
+    match node_at(cells, i) {
+        View::Col(a, b) => a == q && b == n,
+        View::Lit(_) | View::Miss | View::One(..) | View::Two(..) => false,
     }
 }
 
@@ -121,40 +115,12 @@ pub fn count_uses(cells: &[u64], i: usize, q: u16, n: u16) -> usize
     requires i_bound { expr_tags (expr_at cells.now i) < 2 ^ 32 }
     ensures { result ≡ occurs (pair q n) (expr_at cells.now i) }
 {
-    let v = node_at(cells, i);
-    match v {
-        View::Col(a, b) => {
-            if (a == q) & (b == n) {
-                return 1;
-            }
-            0
-        }
-        View::Lit(_) => 0,
-        View::Miss => 0,
+    match node_at(cells, i) {
+        View::Col(a, b) => usize::from(a == q && b == n),
+        View::Lit(_) | View::Miss => 0,
         View::One(_, x) => count_uses(cells, x, q, n),
-        View::Two(_, x, y) => {
-            let a = count_uses(cells, x, q, n);
-            let b = count_uses(cells, y, q, n);
-            a + b
-        }
+        View::Two(_, x, y) => count_uses(cells, x, q, n) + count_uses(cells, y, q, n),
     }
-}
-
-/// How often the column (q, n) occurs over the whole list. Its rows are well formed, and it has fewer than 2^32 tags.
-pub fn list_uses(items: &[u16], first: usize, count: usize, cells: &[u64], q: u16, n: u16) -> usize
-    requires rows_ok { RowsOk items.now cells.now first count }
-    requires count_bound { sum_of item_tags (items_at items.now cells.now first count) < 2 ^ 32 }
-    ensures { result ≡ occurs_in (pair q n) (items_at items.now cells.now first count) }
-{
-    let mut sum = 0;
-    let mut i = 0;
-    while i < count {
-        let row = row_at(items, first + i);
-        let uses = count_uses(cells, row.root, q, n);
-        sum += uses;
-        i += 1;
-    }
-    sum
 }
 
 /// The number of tags of node `i`'s expression. The nodes up to it are well formed, and there are fewer than 2^32.
@@ -163,20 +129,10 @@ pub fn count_tags(cells: &[u64], i: usize) -> usize
     requires i_bound { expr_tags (expr_at cells.now i) < 2 ^ 32 }
     ensures { result ≡ expr_tags (expr_at cells.now i) }
 {
-    let v = node_at(cells, i);
-    match v {
-        View::Col(_, _) => 1,
-        View::Lit(_) => 1,
-        View::Miss => 1,
-        View::One(_, x) => {
-            let a = count_tags(cells, x);
-            a + 1
-        }
-        View::Two(_, x, y) => {
-            let a = count_tags(cells, x);
-            let b = count_tags(cells, y);
-            a + b + 1
-        }
+    match node_at(cells, i) {
+        View::Col(_, _) | View::Lit(_) | View::Miss => 1,
+        View::One(_, x) => count_tags(cells, x) + 1,
+        View::Two(_, x, y) => count_tags(cells, x) + count_tags(cells, y) + 1,
     }
 }
 
@@ -190,24 +146,7 @@ pub fn item_tags(items: &[u16], i: usize, cells: &[u64]) -> usize
     if row.mark == 0 {
         return 1;
     }
-    let tags = count_tags(cells, row.root);
-    tags + 1
-}
-
-/// The number of tags of a list. Its rows are well formed, and there are fewer than 2^32.
-pub fn list_tags(items: &[u16], first: usize, count: usize, cells: &[u64]) -> usize
-    requires rows_ok { RowsOk items.now cells.now first count }
-    requires count_bound { sum_of item_tags (items_at items.now cells.now first count) < 2 ^ 32 }
-    ensures { result ≡ sum_of item_tags (items_at items.now cells.now first count) }
-{
-    let mut sum = 0;
-    let mut i = 0;
-    while i < count {
-        let tags = item_tags(items, first + i, cells);
-        sum += tags;
-        i += 1;
-    }
-    sum
+    count_tags(cells, row.root) + 1
 }
 
 /// Are the expressions of node `i` of `a` and node `j` of `b` the same? The nodes up to them are well formed.
@@ -221,18 +160,12 @@ pub fn same_expr(a: &[u64], i: usize, b: &[u64], j: usize) -> bool
     if v.tag != w.tag {
         return false;
     }
-    let n = node_at(a, i);
-    match n {
-        View::Col(_, _) => (v.x == w.x) & (v.y == w.y),
+    match node_at(a, i) {
+        View::Col(_, _) => v.x == w.x && v.y == w.y,
         View::Lit(_) => v.x == w.x,
         View::Miss => true,
         View::One(_, x) => same_expr(a, x, b, w.x as usize),
-        View::Two(_, x, y) => {
-            if same_expr(a, x, b, w.x as usize) {
-                return same_expr(a, y, b, w.y as usize);
-            }
-            false
-        }
+        View::Two(_, x, y) => same_expr(a, x, b, w.x as usize) && same_expr(a, y, b, w.y as usize),
     }
 }
 
@@ -251,6 +184,7 @@ pub fn same_item(
 {
     let v = row_at(items, i);
     let w = row_at(items2, j);
+    // `&`, since both tests are one value here; `&&` is no plainer.
     let pairs = (v.qualifier == w.qualifier) & (v.name == w.name);
     if v.mark == 0 {
         return (w.mark == 0) & pairs;
@@ -258,39 +192,7 @@ pub fn same_item(
     if w.mark == 0 {
         return false;
     }
-    if pairs {
-        return same_expr(cells, v.root, cells2, w.root);
-    }
-    false
-}
-
-/// Are two lists the same, item by item? The rows of both are well formed.
-pub fn same_list(
-    items: &[u16],
-    first: usize,
-    count: usize,
-    cells: &[u64],
-    items2: &[u16],
-    first2: usize,
-    count2: usize,
-    cells2: &[u64],
-) -> bool
-    requires rows_ok { RowsOk items.now cells.now first count }
-    requires rows_ok_2 { RowsOk items2.now cells2.now first2 count2 }
-    ensures { result ≡ eq_items (items_at items.now cells.now first count) (items_at items2.now cells2.now first2 count2) }
-{
-    if count != count2 {
-        return false;
-    }
-    let mut i = 0;
-    while i < count {
-        let same = same_item(items, first + i, cells, items2, first2 + i, cells2);
-        if !same {
-            return false;
-        }
-        i += 1;
-    }
-    true
+    pairs && same_expr(cells, v.root, cells2, w.root)
 }
 
 /// Does node `i`'s expression use a column? The nodes up to it are well formed.
@@ -298,36 +200,12 @@ pub fn has_column(cells: &[u64], i: usize) -> bool
     requires { Wf cells.now (i + 1) }
     ensures { result ≡ columns? (expr_at cells.now i) }
 {
-    let v = node_at(cells, i);
-    match v {
+    match node_at(cells, i) {
         View::Col(_, _) => true,
-        View::Lit(_) => false,
-        View::Miss => false,
+        View::Lit(_) | View::Miss => false,
         View::One(_, x) => has_column(cells, x),
-        View::Two(_, x, y) => {
-            if has_column(cells, x) {
-                return true;
-            }
-            has_column(cells, y)
-        }
+        View::Two(_, x, y) => has_column(cells, x) || has_column(cells, y),
     }
-}
-
-/// Does a list use no column? Its rows are well formed.
-pub fn uses_no_column(items: &[u16], first: usize, count: usize, cells: &[u64]) -> bool
-    requires { RowsOk items.now cells.now first count }
-    ensures { result ≡ uses_none (items_at items.now cells.now first count) }
-{
-    let mut i = 0;
-    while i < count {
-        let row = row_at(items, first + i);
-        let found = has_column(cells, row.root);
-        if found {
-            return false;
-        }
-        i += 1;
-    }
-    true
 }
 
 /// Is the item of row `i` a bare column or without columns? The row is well formed.
@@ -336,25 +214,76 @@ pub fn is_plain(items: &[u16], i: usize, cells: &[u64]) -> bool
     ensures { result ≡ plain (item_at items.now cells.now i) }
 {
     let row = row_at(items, i);
-    if row.mark == 0 {
-        return true;
-    }
-    let found = has_column(cells, row.root);
-    !found
+    row.mark == 0 || !has_column(cells, row.root)
 }
 
-/// Is each item of a list a bare column or without columns? Its rows are well formed.
-pub fn all_plain(items: &[u16], first: usize, count: usize, cells: &[u64]) -> bool
-    requires { RowsOk items.now cells.now first count }
-    ensures { result ≡ all_b plain (items_at items.now cells.now first count) }
-{
-    let mut i = 0;
-    while i < count {
-        let yes = is_plain(items, first + i, cells);
-        if !yes {
-            return false;
-        }
-        i += 1;
+/// A list of items: `count` rows from row `first` on, whose expressions stand in `cells`.
+#[derive(Clone, Copy)]
+pub struct Items<'a> {
+    pub rows: &'a [u16],
+    pub cells: &'a [u64],
+    pub first: usize,
+    pub count: usize,
+}
+
+impl Items<'_> {
+    /// How often the column (q, n) occurs over the whole list. Its rows are well formed, and it has fewer than 2^32 tags.
+    pub fn uses(&self, q: u16, n: u16) -> usize
+        requires rows_ok { ListOk self.now }
+        requires count_bound { sum_of item_tags (listed self.now) < 2 ^ 32 }
+        ensures { result ≡ occurs_in (pair q n) (listed self.now) }
+    {
+        (self.first..self.first + self.count)
+            .map(|i| count_uses(self.cells, row_at(self.rows, i).root, q, n))
+            .sum()
     }
-    true
+
+    /// The number of tags of the list. Its rows are well formed, and there are fewer than 2^32.
+    pub fn tags(&self) -> usize
+        requires rows_ok { ListOk self.now }
+        requires count_bound { sum_of item_tags (listed self.now) < 2 ^ 32 }
+        ensures { result ≡ sum_of item_tags (listed self.now) }
+    {
+        (self.first..self.first + self.count)
+            .map(|i| item_tags(self.rows, i, self.cells))
+            .sum()
+    }
+
+    /// Is the list the same as another, item by item? The rows of both are well formed.
+    pub fn same(&self, other: &Items) -> bool
+        requires rows_ok { ListOk self.now }
+        requires rows_ok_2 { ListOk other.now }
+        ensures { result ≡ eq_items (listed self.now) (listed other.now) }
+    {
+        self.count == other.count
+            && (0..self.count).all(|i| {
+                same_item(
+                    self.rows,
+                    self.first + i,
+                    self.cells,
+                    other.rows,
+                    other.first + i,
+                    other.cells,
+                )
+            })
+    }
+
+    /// Does the list use no column? Its rows are well formed.
+    pub fn uses_no_column(&self) -> bool
+        requires { ListOk self.now }
+        ensures { result ≡ uses_none (listed self.now) }
+    {
+        (self.first..self.first + self.count).all(|i| !has_column(
+            self.cells,
+            row_at(self.rows, i).root,
+        ))
+    }
+
+    /// Is each item of the list a bare column or without columns? Its rows are well formed.
+    pub fn all_plain(&self) -> bool
+        requires { ListOk self.now }
+        ensures { result ≡ all_b plain (listed self.now) }
+    {
+        (self.first..self.first + self.count).all(|i| is_plain(self.rows, i, self.cells))
+    }
 }

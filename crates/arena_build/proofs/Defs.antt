@@ -13,40 +13,39 @@ use Rattle.arena.specs.Cells.{Wf, expr_at}
 use Rattle.arena.specs.Rows.{RowIs, RowOk, RowsOk, item_at, items_at, mark_at, pair_at, root_at, row_item}
 use Rattle.arena.proofs.Rows.{item_expr_lem}
 use Rattle.arena_build.specs.Build.{find_in, put_for}
-use Rattle.arena_build.specs.declared.Found.TheVariants.{At, Nothing}
+use Rattle.arena_build.specs.declared.Level.{Level}
+use Rattle.arena_build.specs.declared.Level.TheVariants.{Copy, Replace}
+use Rattle.std.proofs.Common.{Some, None}
 
 -- ── what a column finds ─────────────────────────────────────────────────────────────────────
 
 -- a search that has passed the rows before row i
 pub record Passed (s : List ℕ) (f n : ℕ) (c : Pair) (i : ℕ) : Type 0 where
-  pub upto : i ≤ n
-  pub same : find_in s (f + i) (n - i) c ≡ find_in s f n c
+  pub upto : i ≤ f + n
+  pub same : find_in s i (f + n - i) c ≡ find_in s f n c
 
 module _ (s : List ℕ) (f n : ℕ) (c : Pair) where
-  pub passed_none : Passed s f n c 0
-  passed_none = record { upto = omega arith; same = ap₂ (λ a b. find_in s a b c) (omega arith) (omega arith) }
-
-  find-next : (i : ℕ) → i < n → find_in s (f + i) (n - i) c ≡ cond (fits c (pair_at s (f + i))) (At (root_at s (f + i))) (find_in s (f + (i + 1)) (n - (i + 1)) c)
+  find-next : (i : ℕ) → i < f + n → find_in s i (f + n - i) c ≡ cond (fits c (pair_at s i)) (Some (root_at s i)) (find_in s (i + 1) (f + n - (i + 1)) c)
   unfolding find_in
   find-next i h =
-      let e : n - i ≡ suc (n - (i + 1)) = omega arith in
-      let g : suc (f + i) ≡ f + (i + 1) = omega arith in
-      ap (λ k. find_in s (f + i) k c) e ∙ ap (λ k. cond (fits c (pair_at s (f + i))) (At (root_at s (f + i))) (find_in s k (n - (i + 1)) c)) g
+      let e : f + n - i ≡ suc (f + n - (i + 1)) = omega arith in
+      let g : suc i ≡ i + 1 = omega arith in
+      ap (λ k. find_in s i k c) e ∙ ap (λ k. cond (fits c (pair_at s i)) (Some (root_at s i)) (find_in s k (f + n - (i + 1)) c)) g
 
-  pub passed_all : (i : ℕ) → Passed s f n c i → n ≤ i → Nothing ≡ find_in s f n c
+  pub passed_all : (i : ℕ) → Passed s f n c i → f + n ≤ i → None ≡ find_in s f n c
   unfolding find_in
-  passed_all i p h = let e : n - i ≡ 0 = omega arith in sym (ap (λ k. find_in s (f + i) k c) e) ∙ p.same
+  passed_all i p h = let e : f + n - i ≡ 0 = omega arith in sym (ap (λ k. find_in s i k c) e) ∙ p.same
 
 -- the code's test of a row's pair
 fits_test : {s : List ℕ} {i a b t k : ℕ} {z : Bool} (q m : ℕ) → RowIs s i a b t k → eqb m b && (eqb q 0 || eqb q a) ≡ z → fits (pair q m) (pair_at s i) ≡ z
 fits_test {a = a} {b} q m r e = sym (ap (fits (pair q m)) r.pair_is) ∙ fits-is q m a b ∙ e
 
 module _ (s : List ℕ) (f n q m : ℕ) where
-  pub passed_more : (i a b t k : ℕ) → Passed s f n (pair q m) i → i < n → RowIs s (f + i) a b t k → eqb m b && (eqb q 0 || eqb q a) ≡ false → Passed s f n (pair q m) (i + 1)
+  pub passed_more : (i a b t k : ℕ) → Passed s f n (pair q m) i → i < f + n → RowIs s i a b t k → eqb m b && (eqb q 0 || eqb q a) ≡ false → Passed s f n (pair q m) (i + 1)
   passed_more i a b t k p h r e = record { upto = omega arith; same = sym (find-next s f n (pair q m) i h ∙ rw (fits_test q m r e)) ∙ p.same }
 
-  pub passed_found : (i a b t k : ℕ) → Passed s f n (pair q m) i → i < n → RowIs s (f + i) a b t k → eqb m b && (eqb q 0 || eqb q a) ≡ true → At k ≡ find_in s f n (pair q m)
-  passed_found i a b t k p h r e = ap At r.root_is ∙ sym (find-next s f n (pair q m) i h ∙ rw (fits_test q m r e)) ∙ p.same
+  pub passed_found : (i a b t k : ℕ) → Passed s f n (pair q m) i → i < f + n → RowIs s i a b t k → eqb m b && (eqb q 0 || eqb q a) ≡ true → Some k ≡ find_in s f n (pair q m)
+  passed_found i a b t k p h r e = ap Some r.root_is ∙ sym (find-next s f n (pair q m) i h ∙ rw (fits_test q m r e)) ∙ p.same
 
 -- ── the definition of a column ──────────────────────────────────────────────────────────────
 
@@ -66,33 +65,33 @@ module _ (s cells : List ℕ) (c : Pair) where
   unfolding def_of items_at
   def_next f n o = rw (item-pair s cells f, item_expr_lem s cells f o)
 
-  pub def_found : (f n j : ℕ) → RowsOk s cells f n → find_in s f n c ≡ At j → (def_of c (items_at s cells f n) ≡ expr_at cells j) × Wf cells (j + 1)
+  pub def_found : (f n j : ℕ) → RowsOk s cells f n → find_in s f n c ≡ Some j → (def_of c (items_at s cells f n) ≡ expr_at cells j) × Wf cells (j + 1)
   unfolding find_in
   def_found f zero j o e = let z : ◌≡◌ {A = ℕ} 0 1 = cc in absurd (omega arith)
   def_found f (suc n) j o e =
       let r = o.each f (omega arith) (omega arith) in
       go (def_found (suc f) n j (less o)) r.node (fits c (pair_at s f)) e (def_next f n r)
     where
-      go : (find_in s (suc f) n c ≡ At j → (def_of c (items_at s cells (suc f) n) ≡ expr_at cells j) × Wf cells (j + 1)) → Wf cells (root_at s f + 1) → (b : Bool)
-          → cond b (At (root_at s f)) (find_in s (suc f) n c) ≡ At j → def_of c (items_at s cells f (suc n)) ≡ cond b (expr_at cells (root_at s f)) (def_of c (items_at s cells (suc f) n))
+      go : (find_in s (suc f) n c ≡ Some j → (def_of c (items_at s cells (suc f) n) ≡ expr_at cells j) × Wf cells (j + 1)) → Wf cells (root_at s f + 1) → (b : Bool)
+          → cond b (Some (root_at s f)) (find_in s (suc f) n c) ≡ Some j → def_of c (items_at s cells f (suc n)) ≡ cond b (expr_at cells (root_at s f)) (def_of c (items_at s cells (suc f) n))
           → (def_of c (items_at s cells f (suc n)) ≡ expr_at cells j) × Wf cells (j + 1)
       go rest w true h d = let k : root_at s f ≡ j = cc in (d ∙ ap (expr_at cells) k, rw k at w)
       go rest w false h d = let p = rest h in (d ∙ p.0, p.1)
 
-  pub def_none : (f n : ℕ) → RowsOk s cells f n → find_in s f n c ≡ Nothing → def_of c (items_at s cells f n) ≡ miss
+  pub def_none : (f n : ℕ) → RowsOk s cells f n → find_in s f n c ≡ None → def_of c (items_at s cells f n) ≡ miss
   unfolding find_in def_of items_at
   def_none f zero o e = refl
   def_none f (suc n) o e = go (def_none (suc f) n (less o)) (fits c (pair_at s f)) e (def_next f n (o.each f (omega arith) (omega arith)))
     where
-      go : (find_in s (suc f) n c ≡ Nothing → def_of c (items_at s cells (suc f) n) ≡ miss) → (b : Bool) → cond b (At (root_at s f)) (find_in s (suc f) n c) ≡ Nothing
+      go : (find_in s (suc f) n c ≡ None → def_of c (items_at s cells (suc f) n) ≡ miss) → (b : Bool) → cond b (Some (root_at s f)) (find_in s (suc f) n c) ≡ None
           → def_of c (items_at s cells f (suc n)) ≡ cond b (expr_at cells (root_at s f)) (def_of c (items_at s cells (suc f) n)) → def_of c (items_at s cells f (suc n)) ≡ miss
       go rest true h d = let z : ◌≡◌ {A = ℕ} 0 1 = cc in absurd (omega arith)
       go rest false h d = d ∙ rest h
 
 -- ── replacing ───────────────────────────────────────────────────────────────────────────────
 
--- at level 0 nothing is replaced
-pub copy_same : (is : List Item) (e : Expr) → replace (put_for 0 is) e ≡ e
+-- at level Copy nothing is replaced
+pub copy_same : (is : List Item) (e : Expr) → replace (put_for Copy is) e ≡ e
 unfolding replace put_for
 copy_same is (col c) = refl
 copy_same is (lit z) = refl
@@ -100,11 +99,10 @@ copy_same is miss = refl
 copy_same is (un o a) = ap (un o) (copy_same is a)
 copy_same is (bin o a b) = ap₂ (bin o) (copy_same is a) (copy_same is b)
 
-pub put_zero : (n : ℕ) (is : List Item) (c : Pair) → n ≡ 0 → put_for n is c ≡ col c
+pub put_copy : (v : Level) (is : List Item) (c : Pair) → v ≡ Copy → put_for v is c ≡ col c
 unfolding put_for
-put_zero n is c h = rw h
+put_copy v is c h = rw h
 
-pub put_more : (n : ℕ) (is : List Item) (c : Pair) → (n ≡ 0 → ⊥) → put_for n is c ≡ def_of c is
+pub put_replaced : (v : Level) (is : List Item) (c : Pair) → v ≡ Replace → put_for v is c ≡ def_of c is
 unfolding put_for
-put_more zero is c h = absurd (h refl)
-put_more (suc n) is c h = refl
+put_replaced v is c h = rw h

@@ -15,7 +15,8 @@ use Rattle.arena.proofs.Kept.{kept_expr, kept_refl, kept_trans, kept-wf}
 use Rattle.arena.proofs.Laws.{at_col, at_lit, at_miss, at_one, at_two}
 use Rattle.arena_build.specs.Build.{Answer, Made, Pushed, Refused, put_node}
 use Rattle.arena_build.specs.declared.Built.{Built}
-use Rattle.arena_build.specs.declared.Built.TheVariants.{Done, Full}
+use Rattle.arena.specs.declared.Full.{Full}
+use Rattle.std.proofs.Common.{Result, Ok, Err}
 
 -- the numbers that a node may be put with, behind u nodes
 pub record Fit (u t x y : ℕ) : Type 0 where
@@ -66,11 +67,11 @@ module _ (s : List ℕ) (u t x y : ℕ) (h : u * 3 + 2 < length s) where
   put_wf w f = below_more (NodeOk (put_node s u t x y)) u (kept-wf u put_kept u (omega arith) w) (put_ok f)
 
 -- what a push behind kept nodes answers for e
-built : (e : Expr) (s : List ℕ) (used : ℕ) (s₁ : List ℕ) (u t x y : ℕ) (r : Built) (s₂ : List ℕ)
+built : (e : Expr) (s : List ℕ) (used : ℕ) (s₁ : List ℕ) (u t x y : ℕ) (r : Result Built Full) (s₂ : List ℕ)
     → Kept (used * 3) s s₁ → used ≤ u → Wf s₁ u → Fit u t x y → u + 1 ≡ used + expr_tags e
     → ((s' : List ℕ) → Kept (u * 3) s₁ s' → tag_at s' u ≡ t → x_at s' u ≡ x → y_at s' u ≡ y → expr_at s' u ≡ e)
     → Pushed s₁ u t x y r s₂ → Answer e s used r s₂
-built e s used s₁ u t x y (Done node more) s₂ k l w f g m p =
+built e s used s₁ u t x y (Ok b) s₂ k l w f g m p =
     let h = p.room in
     rw (p.node_is, p.more_is, p.stored)
     (record {
@@ -80,9 +81,9 @@ built e s used s₁ u t x y (Done node more) s₂ k l w f g m p =
       grown = g;
       wf = put_wf s₁ u t x y h w f;
     })
-built e s used s₁ u t x y Full s₂ k l w f g m p = rw p.same (record { kept = k; tight = omega (arith, p.full, k.long, g) })
+built e s used s₁ u t x y (Err full) s₂ k l w f g m p = rw p.same (record { kept = k; tight = omega (arith, p.full, k.long, g) })
 
-leaf : (e : Expr) (s : List ℕ) (used t x y : ℕ) (r : Built) (s₂ : List ℕ) → t < 3 → (t ≡ 0 → (x < 65536) × (y < 65536)) → expr_tags e ≡ 1 → Wf s used
+leaf : (e : Expr) (s : List ℕ) (used t x y : ℕ) (r : Result Built Full) (s₂ : List ℕ) → t < 3 → (t ≡ 0 → (x < 65536) × (y < 65536)) → expr_tags e ≡ 1 → Wf s used
     → ((s' : List ℕ) → tag_at s' used ≡ t → x_at s' used ≡ x → y_at s' used ≡ y → expr_at s' used ≡ e)
     → Pushed s used t x y r s₂ → Answer e s used r s₂
 leaf e s used t x y r s₂ h c z w m p =
@@ -91,7 +92,7 @@ leaf e s used t x y r s₂ h c z w m p =
     (omega arith) (λ s' k. m s') p
 
 -- each leaf
-module _ (s : List ℕ) (used : ℕ) (r : Built) (s₂ : List ℕ) (w : Wf s used) where
+module _ (s : List ℕ) (used : ℕ) (r : Result Built Full) (s₂ : List ℕ) (w : Wf s used) where
   pub put_lit : (a : ℕ) → Pushed s used 1 a 0 r s₂ → Answer (lit (signed a)) s used r s₂
   unfolding expr_tags
   put_lit a p = leaf _ s used 1 a 0 r s₂ (omega arith) (λ l. absurd (omega arith)) refl w (λ s' t x y. at_lit s' used t ∙ ap (λ n. lit (signed n)) x) p
@@ -108,7 +109,7 @@ pub within : {e : Expr} {s : List ℕ} {used node more : ℕ} {s' : List ℕ} �
 within d = omega (arith, d.last)
 
 -- an operator behind its operands
-pub put_one : (k : ℕ) (e : Expr) (s : List ℕ) (used node more : ℕ) (s₁ : List ℕ) (r : Built) (s₂ : List ℕ) → 3 ≤ k → k < 5
+pub put_one : (k : ℕ) (e : Expr) (s : List ℕ) (used node more : ℕ) (s₁ : List ℕ) (r : Result Built Full) (s₂ : List ℕ) → 3 ≤ k → k < 5
     → Made e s used node more s₁ → Pushed s₁ more k node 0 r s₂ → Answer (un (op1_of k) e) s used r s₂
 unfolding expr_tags
 put_one k e s used node more s₁ r s₂ h l d p =
@@ -118,7 +119,7 @@ put_one k e s used node more s₁ r s₂ h l d p =
     (λ s' q a b c. at_one s' more (omega (arith, a)) (omega (arith, a)) (omega (arith, b, within d)) ∙ cc (a, ap (expr_at s') b, kept_expr more q node (within d), d.means))
     p
 
-pub put_two : (k : ℕ) (e f : Expr) (s : List ℕ) (used node more : ℕ) (s₁ : List ℕ) (node₂ most : ℕ) (s₂ : List ℕ) (r : Built) (s₃ : List ℕ) → 5 ≤ k → k < 12
+pub put_two : (k : ℕ) (e f : Expr) (s : List ℕ) (used node more : ℕ) (s₁ : List ℕ) (node₂ most : ℕ) (s₂ : List ℕ) (r : Result Built Full) (s₃ : List ℕ) → 5 ≤ k → k < 12
     → Made e s used node more s₁ → Made f s₁ more node₂ most s₂ → Pushed s₂ most k node node₂ r s₃ → Answer (bin (op2_of k) e f) s used r s₃
 unfolding expr_tags
 put_two k e f s used node more s₁ node₂ most s₂ r s₃ h l d g p =

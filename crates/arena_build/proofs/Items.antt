@@ -7,6 +7,7 @@ use native.Mathlib.Decide.{ℕ_discrete}
 use native.Mathlib.Omega.{arith}
 use borrow.Author.Tests.{ne_eqb}
 use lib.Dec.{eqb}
+use mir.Val.{bool_byte}
 use lib.ListN.{length, length-set, set}
 use lib.Seq.{get_or-set_other, get_or-set_same}
 use Rattle.cpl.specs.Exprs.{expr_tags, item_tags}
@@ -21,6 +22,7 @@ use Rattle.arena.proofs.Laws.{here, wf_less}
 use Rattle.arena.proofs.Rows.{read_col, read_expr_lem, read_row, row-bare, row_named}
 use Rattle.arena.proofs.Same.{dec_true, is_no, items-length, same_cols}
 use Rattle.arena_build.specs.Build.{Made, Refused, put_for}
+use Rattle.arena_build.specs.declared.Level.TheVariants.{Copy, Replace}
 use Rattle.arena_build.proofs.Defs.{copy_same}
 use Rattle.arena_build.specs.Lists.{ItemRefused, Listing, Marked, ListRefused, Placed, again, nodes_of, put_row}
 
@@ -50,14 +52,14 @@ again-has (named (pair zero n) f) e = item-has (pair zero n) e
 again-has (named (pair (suc q) n) f) e = refl
 
 -- an item replaced is the item again, with its expression replaced
-pub replace-again : (is : List Item) (i : Item) → replace_item is i ≡ again i (replace (put_for 1 is) (item_expr i))
+pub replace-again : (is : List Item) (i : Item) → replace_item is i ≡ again i (replace (put_for Replace is) (item_expr i))
 unfolding again replace_item item_expr replace put_for define
 replace-again is (bare c) = refl
 replace-again is (named (pair zero n) e) = refl
 replace-again is (named (pair (suc q) n) e) = refl
 
-replace-row : {s : List ℕ} {i q n m r : ℕ} (c : List ℕ) (is : List Item) (v : RowIs s i q n m r) (o : RowOk s c i) → replace_item is (item_at s c i) ≡ again (item_at s c i) (replace (put_for 1 is) (expr_at c r))
-replace-row {s} {i} c is v o = replace-again is (item_at s c i) ∙ ap (λ e. again (item_at s c i) (replace (put_for 1 is) e)) (read_expr_lem c v o)
+replace-row : {s : List ℕ} {i q n m r : ℕ} (c : List ℕ) (is : List Item) (v : RowIs s i q n m r) (o : RowOk s c i) → replace_item is (item_at s c i) ≡ again (item_at s c i) (replace (put_for Replace is) (expr_at c r))
+replace-row {s} {i} c is v o = replace-again is (item_at s c i) ∙ ap (λ e. again (item_at s c i) (replace (put_for Replace is) e)) (read_expr_lem c v o)
 
 -- only the mark and the pair matter to what an item becomes
 again-row : (m : ℕ) (c : Pair) (e f g : Expr) → again (row_item m c e) g ≡ again (row_item m c f) g
@@ -97,6 +99,11 @@ module _ (m q n : ℕ) (e : Expr) where
 
   pub mark_named : not (eqb m 0) && not (eqb q 0) ≡ false → decide (expr_d e (col (pair q n))) ≡ false → Marked m (pair q n) e 1
   mark_named h d = record { item_is = row_named 1 _ _ (λ z. absurd (omega arith)) ∙ sym (judged h ∙ item_test _ e ∙ rw d); bare_is = λ z. absurd (omega arith); small = omega arith }
+
+  -- the mark that the code writes: 1 unless the test for the column says yes
+  pub marked_by : not (eqb m 0) && not (eqb q 0) ≡ false → (b : Bool) → b ≡ decide (expr_d e (col (pair q n))) → Marked m (pair q n) e (bool_byte (not b))
+  marked_by h true d = mark_bare h (sym d)
+  marked_by h false d = mark_named h (sym d)
 
 -- ── a row ───────────────────────────────────────────────────────────────────────────────────
 
@@ -154,21 +161,21 @@ place it rows k q n m e cells used node more cells' h d x r b =
 -- the ways through `copy_item` and `replace_item`: row i of s was read, and its expression built
 module _ {s : List ℕ} {i q n m r : ℕ} (c : List ℕ) (is : List Item) (v : RowIs s i q n m r) (o : RowOk s c i) {cells : List ℕ} {used : ℕ} {cells' : List ℕ} where
   module _ (rows : List ℕ) (k : ℕ) {node more : ℕ} (rows' : List ℕ) (h : k * 4 + 3 < length rows) where
-    pub copy_placed : Made (replace (put_for 0 is) (expr_at c r)) cells used node more cells' → rows' ≡ put_row rows k q n m node → Placed (item_at s c i) k rows cells used node more rows' cells'
+    pub copy_placed : Made (replace (put_for Copy is) (expr_at c r)) cells used node more cells' → rows' ≡ put_row rows k q n m node → Placed (item_at s c i) k rows cells used node more rows' cells'
     copy_placed d e = rw e (place _ rows k q n m (expr_at c r) cells used node more cells' h (rw (copy_same is (expr_at c r)) at d) (read_expr_lem c v o) (sym (read_row c v)) (read_col c v o))
 
-    pub replace_placed : {z : ℕ} → Made (replace (put_for 1 is) (expr_at c r)) cells used node more cells' → Marked m (pair q n) (expr_at cells' node) z → rows' ≡ put_row rows k q n z node
+    pub replace_placed : {z : ℕ} → Made (replace (put_for Replace is) (expr_at c r)) cells used node more cells' → Marked m (pair q n) (expr_at cells' node) z → rows' ≡ put_row rows k q n z node
         → Placed (replace_item is (item_at s c i)) k rows cells used node more rows' cells'
     replace_placed {z} d w e =
         let y = rw d.means at w in
         let x = replace-row c is v o in
-        rw e (place _ rows k q n z (replace (put_for 1 is) (expr_at c r)) cells used node more cells' h d (ap item_expr x ∙ again-has _ _)
-        (y.item_is ∙ again-row m (pair q n) _ (expr_at c r) _ ∙ sym (x ∙ ap (λ j. again j (replace (put_for 1 is) (expr_at c r))) (read_row c v))) y.bare_is)
+        rw e (place _ rows k q n z (replace (put_for Replace is) (expr_at c r)) cells used node more cells' h d (ap item_expr x ∙ again-has _ _)
+        (y.item_is ∙ again-row m (pair q n) _ (expr_at c r) _ ∙ sym (x ∙ ap (λ j. again j (replace (put_for Replace is) (expr_at c r))) (read_row c v))) y.bare_is)
 
-  pub copy_left : (rows : List ℕ) → Refused (replace (put_for 0 is) (expr_at c r)) cells used cells' → ItemRefused (item_at s c i) rows cells used rows cells'
+  pub copy_left : (rows : List ℕ) → Refused (replace (put_for Copy is) (expr_at c r)) cells used cells' → ItemRefused (item_at s c i) rows cells used rows cells'
   copy_left rows d = record { refused = rw (read_expr_lem c v o) (rw (copy_same is (expr_at c r)) at d); same = refl }
 
-  pub replace-left : (rows : List ℕ) → Refused (replace (put_for 1 is) (expr_at c r)) cells used cells' → ItemRefused (replace_item is (item_at s c i)) rows cells used rows cells'
+  pub replace-left : (rows : List ℕ) → Refused (replace (put_for Replace is) (expr_at c r)) cells used cells' → ItemRefused (replace_item is (item_at s c i)) rows cells used rows cells'
   replace-left rows d = record { refused = rw (ap item_expr (replace-row c is v o) ∙ again-has _ _) d; same = refl }
 
 -- ── a list ──────────────────────────────────────────────────────────────────────────────────

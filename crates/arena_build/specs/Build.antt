@@ -1,15 +1,15 @@
 -- What is written into cells, and what building an expression answers.
-use Rattle.std.specs.Prelude.{◌≡◌, cond, List, ℕ, zero, suc, ◌+◌, ◌*◌, ◌/◌, ◌<◌, ◌≤◌, length, set}
+use Rattle.std.specs.Prelude.{◌≡◌, cond, List, Option, Some, None, Result, Ok, Err, ℕ, zero, suc, ◌+◌, ◌*◌, ◌/◌, ◌<◌, ◌≤◌, length, set}
 use Rattle.cpl.specs.Exprs.{expr_tags, fits}
 use Rattle.cpl.specs.Plan.{Expr, Item, Pair, col}
 use Rattle.rules.specs.Merge.{def_of}
 use Rattle.arena.specs.Cells.{Wf, expr_at}
+use Rattle.arena.specs.declared.Full.{Full}
 use Rattle.arena.specs.Kept.{Kept}
 use Rattle.arena.specs.Rows.{pair_at, root_at}
 use Rattle.arena_build.specs.declared.Built.{Built}
-use Rattle.arena_build.specs.declared.Built.TheVariants.{Done, Full}
-use Rattle.arena_build.specs.declared.Found.{Found}
-use Rattle.arena_build.specs.declared.Found.TheVariants.{At, Nothing}
+use Rattle.arena_build.specs.declared.Level.{Level}
+use Rattle.arena_build.specs.declared.Level.TheVariants.{Copy, Replace}
 
 -- the numbers of node i
 unfoldable pub put_node : List ℕ → (i tag x y : ℕ) → List ℕ
@@ -27,9 +27,9 @@ pub record Filled (s : List ℕ) (used : ℕ) (s' : List ℕ) : Type 0 where
   pub full : length s / 3 ≤ used
   pub same : s' ≡ s
 
-abbrev pub Pushed : List ℕ → ℕ → ℕ → ℕ → ℕ → Built → List ℕ → Type 0
-Pushed s used t x y (Done node more) s' = Stored s used t x y node more s'
-Pushed s used t x y Full s' = Filled s used s'
+abbrev pub Pushed : List ℕ → ℕ → ℕ → ℕ → ℕ → Result Built Full → List ℕ → Type 0
+Pushed s used t x y (Ok b) s' = Stored s used t x y b.node b.used s'
+Pushed s used t x y (Err full) s' = Filled s used s'
 
 -- e was built behind the nodes in use: `node`, the last of the `more` nodes now in use, stands for it
 pub record Made (e : Expr) (s : List ℕ) (used node more : ℕ) (s' : List ℕ) : Type 0 where
@@ -44,16 +44,16 @@ pub record Refused (e : Expr) (s : List ℕ) (used : ℕ) (s' : List ℕ) : Type
   pub kept : Kept (used * 3) s s'
   pub tight : length s / 3 < used + expr_tags e
 
-abbrev pub Answer : Expr → List ℕ → ℕ → Built → List ℕ → Type 0
-Answer e s used (Done node more) s' = Made e s used node more s'
-Answer e s used Full s' = Refused e s used s'
+abbrev pub Answer : Expr → List ℕ → ℕ → Result Built Full → List ℕ → Type 0
+Answer e s used (Ok b) s' = Made e s used b.node b.used s'
+Answer e s used (Err full) s' = Refused e s used s'
 
 -- the node of the row that a column finds
-unfoldable pub find_in : (items : List ℕ) (first count : ℕ) → Pair → Found
-find_in s i zero c = Nothing
-find_in s i (suc n) c = let r = find_in s (suc i) n c in cond (fits c (pair_at s i)) (At (root_at s i)) r
+unfoldable pub find_in : (items : List ℕ) (first count : ℕ) → Pair → Option ℕ
+find_in s i zero c = None
+find_in s i (suc n) c = let r = find_in s (suc i) n c in cond (fits c (pair_at s i)) (Some (root_at s i)) r
 
--- what stands for a column: at level 0 the column itself, at any other level its definition
-unfoldable pub put_for : (level : ℕ) → List Item → Pair → Expr
-put_for zero is c = col c
-put_for (suc k) is c = def_of c is
+-- what stands for a column: at level Copy the column itself, at level Replace its definition
+unfoldable pub put_for : Level → List Item → Pair → Expr
+put_for Copy is c = col c
+put_for Replace is c = def_of c is

@@ -1,17 +1,15 @@
 -- What is written into items, and what building items answers.
-use Rattle.std.specs.Prelude.{◌≡◌, List, ℕ, zero, suc, ◌+◌, ◌*◌, ◌/◌, ◌<◌, ◌≤◌, length, set}
+use Rattle.std.specs.Prelude.{◌≡◌, List, Result, Ok, Err, ℕ, zero, suc, ◌+◌, ◌*◌, ◌/◌, ◌<◌, ◌≤◌, length, set}
 use Rattle.cpl.specs.Exprs.{expr_tags}
 use Rattle.cpl.specs.Plan.{Expr, Item, Pair, bare, col, item_expr, named, pair}
 use Rattle.cpl.specs.Tests.{sum_of}
 use Rattle.rules.specs.Merge.{item}
 use Rattle.arena.specs.Cells.{Wf}
+use Rattle.arena.specs.declared.Full.{Full}
 use Rattle.arena.specs.Kept.{Kept}
 use Rattle.arena.specs.Rows.{RowOk, RowsOk, item_at, items_at, root_at, row_item}
 use Rattle.arena_build.specs.Build.{Made, Refused}
 use Rattle.arena_build.specs.declared.Built.{Built}
-use Rattle.arena_build.specs.declared.Built.TheVariants.{Done, Full}
-use Rattle.arena_build.specs.declared.Listed.{Listed}
-use Rattle.arena_build.specs.declared.Listed.TheVariants as listed
 
 -- the numbers of row i
 unfoldable pub put_row : List ℕ → (i qualifier name mark root : ℕ) → List ℕ
@@ -42,9 +40,9 @@ pub record ItemRefused (it : Item) (rows cells : List ℕ) (used : ℕ) (rows' c
   pub refused : Refused (item_expr it) cells used cells'
   pub same : rows' ≡ rows
 
-abbrev pub ItemAnswer : Item → ℕ → List ℕ → List ℕ → ℕ → Built → List ℕ → List ℕ → Type 0
-ItemAnswer it k rows cells used (Done node more) rows' cells' = Placed it k rows cells used node more rows' cells'
-ItemAnswer it k rows cells used Full rows' cells' = ItemRefused it rows cells used rows' cells'
+abbrev pub ItemAnswer : Item → ℕ → List ℕ → List ℕ → ℕ → Result Built Full → List ℕ → List ℕ → Type 0
+ItemAnswer it k rows cells used (Ok b) rows' cells' = Placed it k rows cells used b.node b.used rows' cells'
+ItemAnswer it k rows cells used (Err full) rows' cells' = ItemRefused it rows cells used rows' cells'
 
 -- the nodes that a list's expressions take
 unfoldable pub nodes_of : List Item → ℕ
@@ -66,6 +64,6 @@ pub record ListRefused (is : List Item) (to : ℕ) (rows cells : List ℕ) (used
   pub rows_kept : Kept (to * 4) rows rows'
   pub tight : length cells / 3 < used + nodes_of is
 
-abbrev pub ListAnswer : List Item → ℕ → ℕ → List ℕ → List ℕ → ℕ → Listed → List ℕ → List ℕ → Type 0
-ListAnswer is to n rows cells used (listed.Done more) rows' cells' = Listing is to n rows cells used more rows' cells'
-ListAnswer is to n rows cells used listed.Full rows' cells' = ListRefused is to rows cells used rows' cells'
+abbrev pub ListAnswer : List Item → ℕ → ℕ → List ℕ → List ℕ → ℕ → Result ℕ Full → List ℕ → List ℕ → Type 0
+ListAnswer is to n rows cells used (Ok more) rows' cells' = Listing is to n rows cells used more rows' cells'
+ListAnswer is to n rows cells used (Err full) rows' cells' = ListRefused is to rows cells used rows' cells'

@@ -3,68 +3,35 @@
 
 ghost use Rattle.std.specs.Prelude.{◌+◌, ◌*◌, ◌≤◌, length};
 ghost use Rattle.arena.specs.Cells.{Wf};
+ghost use Rattle.arena.specs.Lists.{ListOk};
 ghost use Rattle.arena.specs.Rows.{RowsOk};
 
-use arena::View;
-use arena_build::{Built, Found, Listed};
+use arena::{Items, View};
 use std::io;
 
-fn number(rt: &impl Print, x: u64) -> io::Result<()> {
-    rt.print(x)?;
-    rt.write_all(b" ")
-}
-
-fn answer(rt: &impl Print, b: bool) -> io::Result<()> {
-    if b {
-        rt.write_all(b"yes ")
-    } else {
-        rt.write_all(b"no ")
-    }
-}
-
-fn line(rt: &impl Print) -> io::Result<()> {
-    rt.write_all(b"\n")
+fn said(b: bool) -> &'static str {
+    if b { "yes" } else { "no" }
 }
 
 /// Node `i`, by its view. The nodes up to it are well formed.
 fn show_node(rt: &impl Print, cells: &[u64], i: usize) -> io::Result<()>
     requires { Wf cells.now (i + 1) }
 {
-    let v = arena::node_at(cells, i);
-    match v {
-        View::Col(q, n) => {
-            rt.write_all(b"col ")?;
-            number(rt, q as u64)?;
-            number(rt, n as u64)?;
-        }
-        View::Lit(x) => {
-            rt.write_all(b"lit ")?;
-            number(rt, x)?;
-        }
-        View::Miss => {
-            rt.write_all(b"miss ")?;
-        }
-        View::One(t, x) => {
-            number(rt, t)?;
-            number(rt, x as u64)?;
-        }
-        View::Two(t, x, y) => {
-            number(rt, t)?;
-            number(rt, x as u64)?;
-            number(rt, y as u64)?;
-        }
+    match arena::node_at(cells, i) {
+        View::Col(q, n) => println!(rt; "col {q} {n} "),
+        View::Lit(x) => println!(rt; "lit {x} "),
+        View::Miss => println!(rt; "miss "),
+        View::One(t, x) => println!(rt; "{t} {x} "),
+        View::Two(t, x, y) => println!(rt; "{t} {x} {y} "),
     }
-    line(rt)
 }
 
 /// The first `n` nodes, which are well formed.
 fn show_nodes(rt: &impl Print, cells: &[u64], n: usize) -> io::Result<()>
     requires { Wf cells.now n }
 {
-    let mut i = 0;
-    while i < n {
+    for i in 0..n {
         show_node(rt, cells, i)?;
-        i += 1;
     }
     Ok(())
 }
@@ -73,15 +40,9 @@ fn show_nodes(rt: &impl Print, cells: &[u64], n: usize) -> io::Result<()>
 fn show_rows(rt: &impl Print, rows: &[u16], n: usize) -> io::Result<()>
     requires { n * 4 ≤ length rows.now }
 {
-    let mut i = 0;
-    while i < n {
+    for i in 0..n {
         let row = arena::row_at(rows, i);
-        number(rt, row.qualifier as u64)?;
-        number(rt, row.name as u64)?;
-        number(rt, row.mark as u64)?;
-        number(rt, row.root as u64)?;
-        line(rt)?;
-        i += 1;
+        println!(rt; "{} {} {} {} ", row.qualifier, row.name, row.mark, row.root)?;
     }
     Ok(())
 }
@@ -106,26 +67,32 @@ const UPPER: [u16; 36] = [
 fn read_exprs(rt: &impl Print) -> io::Result<()> {
     let cells = CELLS;
     show_nodes(rt, &cells, 8)?;
-    number(rt, arena::tag_at(&cells, 6))?;
-    number(rt, arena::count_uses(&cells, 6, 1, 1) as u64)?;
-    number(rt, arena::count_tags(&cells, 6) as u64)?;
-    answer(rt, arena::has_column(&cells, 6))?;
-    answer(rt, arena::has_column(&cells, 5))?;
-    answer(rt, arena::is_column(&cells, 4, 0, 7))?;
-    answer(rt, arena::is_column(&cells, 4, 1, 7))?;
-    line(rt)
+    print!(rt; "{} ", arena::tag_at(&cells, 6))?;
+    print!(rt; "{} ", arena::count_uses(&cells, 6, 1, 1))?;
+    print!(rt; "{} ", arena::count_tags(&cells, 6))?;
+    print!(rt; "{} ", said(arena::has_column(&cells, 6)))?;
+    print!(rt; "{} ", said(arena::has_column(&cells, 5)))?;
+    print!(rt; "{} ", said(arena::is_column(&cells, 4, 0, 7)))?;
+    println!(rt; "{} ", said(arena::is_column(&cells, 4, 1, 7)))
 }
 
 fn read_lists(rt: &impl Print) -> io::Result<()> {
-    let cells = CELLS;
-    let items = ITEMS;
-    number(rt, arena::list_uses(&items, 0, 5, &cells, 1, 1) as u64)?;
-    number(rt, arena::list_tags(&items, 0, 5, &cells) as u64)?;
-    answer(rt, arena::uses_no_column(&items, 0, 5, &cells))?;
-    answer(rt, arena::uses_no_column(&items, 2, 1, &cells))?;
-    answer(rt, arena::all_plain(&items, 0, 5, &cells))?;
-    answer(rt, arena::all_plain(&items, 2, 1, &cells))?;
-    line(rt)
+    let list = Items {
+        rows: &ITEMS,
+        cells: &CELLS,
+        first: 0,
+        count: 5,
+    };
+    let missing = Items {
+        first: 2,
+        count: 1,
+        ..list
+    };
+    print!(rt; "{} {} ", list.uses(1, 1), list.tags())?;
+    print!(rt; "{} ", said(list.uses_no_column()))?;
+    print!(rt; "{} ", said(missing.uses_no_column()))?;
+    print!(rt; "{} ", said(list.all_plain()))?;
+    println!(rt; "{} ", said(missing.all_plain()))
 }
 
 fn compare(rt: &impl Print) -> io::Result<()> {
@@ -133,24 +100,28 @@ fn compare(rt: &impl Print) -> io::Result<()> {
     let items = ITEMS;
     let above = ABOVE;
     let upper = UPPER;
-    answer(rt, arena::same_expr(&cells, 6, &cells, 6))?;
-    answer(rt, arena::same_expr(&cells, 6, &above, 2))?;
-    answer(rt, arena::same_expr(&cells, 0, &above, 1))?;
-    answer(rt, arena::same_item(&items, 0, &cells, &upper, 2, &above))?;
-    answer(rt, arena::same_item(&items, 0, &cells, &upper, 4, &above))?;
-    answer(
-        rt,
-        arena::same_list(&items, 0, 5, &cells, &items, 0, 5, &cells),
-    )?;
-    answer(
-        rt,
-        arena::same_list(&items, 0, 5, &cells, &items, 0, 3, &cells),
-    )?;
-    answer(
-        rt,
-        arena::same_list(&items, 0, 1, &cells, &upper, 2, 1, &above),
-    )?;
-    line(rt)
+    print!(rt; "{} ", said(arena::same_expr(&cells, 6, &cells, 6)))?;
+    print!(rt; "{} ", said(arena::same_expr(&cells, 6, &above, 2)))?;
+    print!(rt; "{} ", said(arena::same_expr(&cells, 0, &above, 1)))?;
+    let first = arena::same_item(&items, 0, &cells, &upper, 2, &above);
+    let second = arena::same_item(&items, 0, &cells, &upper, 4, &above);
+    print!(rt; "{} {} ", said(first), said(second))?;
+    let list = Items {
+        rows: &items,
+        cells: &cells,
+        first: 0,
+        count: 5,
+    };
+    let other = Items {
+        rows: &upper,
+        cells: &above,
+        first: 2,
+        count: 1,
+    };
+    print!(rt; "{} ", said(list.same(&list)))?;
+    print!(rt; "{} ", said(list.same(&Items { count: 3, ..list })))?;
+    let one = Items { count: 1, ..list };
+    println!(rt; "{} ", said(one.same(&other)))
 }
 
 // What a name alone finds in the lower list; and the upper list over the lower one.
@@ -161,24 +132,30 @@ fn build(rt: &impl Print) -> io::Result<()> {
     let upper = UPPER;
     let mut rows = [0u16; 36];
     let mut dst = [0u64; 54];
-    let f = arena_build::find_def(&items, 0, 5, 0, 8);
-    match f {
-        Found::At(j) => number(rt, j as u64)?,
-        Found::Nothing => line(rt)?,
+    let list = Items {
+        rows: &items,
+        cells: &cells,
+        first: 0,
+        count: 5,
+    };
+    match arena_build::find_def(&list, 0, 8) {
+        Some(j) => print!(rt; "{j} ")?,
+        None => println!(rt;)?,
     }
-    let l = arena_build::replace_items(
-        &upper, 0, 9, &above, &items, 0, 5, &cells, &mut rows, 0, &mut dst, 0,
-    );
-    match l {
-        Listed::Done(u) => {
-            number(rt, u as u64)?;
-            line(rt)?;
-            show_nodes(rt, &dst, u)?;
-            show_rows(rt, &rows, 9)?;
+    let over = Items {
+        rows: &upper,
+        cells: &above,
+        first: 0,
+        count: 9,
+    };
+    match arena_build::replace_items(&over, &list, &mut rows, 0, &mut dst, 0) {
+        Ok(used) => {
+            println!(rt; "{used} ")?;
+            show_nodes(rt, &dst, used)?;
+            show_rows(rt, &rows, 9)
         }
-        Listed::Full => line(rt)?,
+        Err(_) => println!(rt;),
     }
-    Ok(())
 }
 
 /// Copies the item (0,1) as (0,2) into row after row, to 128, until the cells are full: how many rows there are then.
@@ -186,19 +163,20 @@ fn copies(upper: &mut [u16], above: &mut [u64]) -> usize
     requires { (512 ≤ length upper.old) × (length above.old ≤ 196608) }
     ensures { (result ≤ 128) × RowsOk upper.new above.new 0 result }
 {
-    let items = [0u16, 2, 1, 0];
-    let cells = [0u64, 0, 1];
+    let list = Items {
+        rows: &[0u16, 2, 1, 0],
+        cells: &[0u64, 0, 1],
+        first: 0,
+        count: 1,
+    };
     let mut used = 0;
-    let mut i = 0;
-    while i < 128 {
-        let b = arena_build::copy_item(&items, 0, &cells, upper, i, above, used);
-        let Built::Done(_, more) = b else {
+    for i in 0..128 {
+        let Ok(b) = arena_build::copy_item(&list, 0, upper, i, above, used) else {
             return i;
         };
-        used = more;
-        i += 1;
+        used = b.used;
     }
-    i
+    128
 }
 
 // not not .. (0,3), 31 tags, as (0,1)
@@ -212,42 +190,40 @@ const CHAIN: [u64; 93] = [
 const LOWER: [u16; 4] = [0, 1, 1, 30];
 
 /// Merges the list over the chain, and says how many nodes and tags it then has, or that there is no room.
-fn merge(rt: &impl Print, upper: &[u16], n: usize, above: &[u64], dst: &mut [u64]) -> io::Result<()>
-    requires n_bound { (n ≤ 128) × RowsOk upper.now above.now 0 n }
+fn merge(rt: &impl Print, list: &Items, dst: &mut [u64]) -> io::Result<()>
+    requires list_ok { (list.now.count ≤ 128) × ListOk list.now }
     requires dst_len_bound { length dst.old ≤ 196608 }
 {
     let chain = CHAIN;
     let lower = LOWER;
     let mut rows = [0u16; 512];
-    let l = arena_build::replace_items(
-        upper, 0, n, above, &lower, 0, 1, &chain, &mut rows, 0, dst, 0,
-    );
-    match l {
-        Listed::Done(u) => {
-            number(rt, u as u64)?;
-            number(rt, arena::list_tags(&rows, 0, n, dst) as u64)?;
+    let defined = Items {
+        rows: &lower,
+        cells: &chain,
+        first: 0,
+        count: 1,
+    };
+    match arena_build::replace_items(list, &defined, &mut rows, 0, dst, 0) {
+        Ok(used) => {
+            let made = Items {
+                rows: &rows,
+                cells: dst,
+                first: 0,
+                count: list.count,
+            };
+            println!(rt; "{used} {} ", made.tags())
         }
-        Listed::Full => {
-            rt.write_all(b"full")?;
-        }
+        Err(_) => println!(rt; "full"),
     }
-    line(rt)
 }
 
 /// The same in room for so many nodes only, which the array has.
-fn merge_within(
-    rt: &impl Print,
-    upper: &[u16],
-    n: usize,
-    above: &[u64],
-    dst: &mut [u64],
-    room: usize,
-) -> io::Result<()>
-    requires n_bound { (n ≤ 128) × RowsOk upper.now above.now 0 n }
+fn merge_within(rt: &impl Print, list: &Items, dst: &mut [u64], room: usize) -> io::Result<()>
+    requires list_ok { (list.now.count ≤ 128) × ListOk list.now }
     requires dst_len_bound { (length dst.old ≤ 196608) × (room * 3 ≤ length dst.old) }
 {
     let end = room * 3;
-    merge(rt, upper, n, above, &mut dst[..end])
+    merge(rt, list, &mut dst[..end])
 }
 
 /// 128 items over a definition of 31 tags make 4,096 tags in 3,968 nodes: in room for so many nodes, and for one fewer.
@@ -256,8 +232,14 @@ fn large(rt: &impl Print) -> io::Result<()> {
     let mut above = [0u64; 384];
     let mut dst = [0u64; 11904];
     let n = copies(&mut upper, &mut above);
-    merge_within(rt, &upper, n, &above, &mut dst, 3968)?;
-    merge_within(rt, &upper, n, &above, &mut dst, 3967)
+    let list = Items {
+        rows: &upper,
+        cells: &above,
+        first: 0,
+        count: n,
+    };
+    merge_within(rt, &list, &mut dst, 3968)?;
+    merge_within(rt, &list, &mut dst, 3967)
 }
 
 fn main(rt: HostRuntime) -> io::Result<()> {

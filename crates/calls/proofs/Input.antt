@@ -1,17 +1,16 @@
 -- The arguments of a call, as they are taken from the input. Assumes nothing.
 use mathlib.Core.Path.{◌≡◌, refl, sym, ap, ap₂, ◌∙◌}
 use mathlib.Core.List.{List, [], ◌∷◌, ◌++◌, map}
-use Prim.Native.Nat.{ℕ, zero, suc, ◌+◌, ◌*◌, ◌-◌, ◌<◌, ◌≤◌, min}
+use Prim.Native.Nat.{ℕ, zero, suc, ◌+◌, ◌*◌, ◌<◌, ◌≤◌, min}
 use native.Mathlib.Nat.{zero-min, min-zero, suc-min-suc}
 use native.Mathlib.Numerals.{add-one}
 use native.Mathlib.Omega.{arith}
 use lib.ListN.{length-replicate, length, get_or, take, drop, set, replicate}
-use lib.Seq.{length-take-le, take-nil, drop-nil, take-suc-set}
+use lib.Seq.{length-take-le, take-nil, take-suc-set}
 use Rattle.cpl.specs.Read.{little}
 use Rattle.cpl.specs.Tests.{iota}
-use Rattle.listing.specs.Text.{most_read}
 use Rattle.listing.specs.Lines.{Counts}
-use Rattle.calls.specs.Calls.{count_in, file_in, most_asked, most_lent, out_in, request_in}
+use Rattle.calls.specs.Calls.{count_in, most_asked, most_lent, out_in, request_in}
 
 -- ── numbers ─────────────────────────────────────────────────────────────────────────────────
 
@@ -22,36 +21,6 @@ word-is input at e f =
     let a : get_or input (at + 1 + 1) 0 ≡ get_or input (at + 2) 0 = ap (λ i. get_or input i 0) p in
     let b : get_or input (at + 1 + 1 + 1) 0 ≡ get_or input (at + 2 + 1) 0 = ap (λ i. get_or input (i + 1) 0) p in
     omega (arith, e, f, a, b)
-
--- ── files ───────────────────────────────────────────────────────────────────────────────────
-
-take_min : (n : ℕ) (ys : List ℕ) → take (min n (length ys)) ys ≡ take n ys
-take_min zero ys = ap (λ i. take i ys) (zero-min (length ys))
-take_min (suc n) [] = take-nil (min (suc n) 0)
-take_min (suc n) (y ∷ ys) = ap (λ i. take i (y ∷ ys)) (suc-min-suc n (length ys)) ∙ ap (λ (zs : List ℕ). y ∷ zs) (take_min n ys)
-
-nothing : (i j : ℕ) → take {A = ℕ} i (drop j []) ≡ []
-nothing i j = ap (take i) (drop-nil j) ∙ take-nil i
-
--- n elements from a on, as far as there are any
-part : (a n : ℕ) (xs : List ℕ) → take (min (a + n) (length xs) - min a (length xs)) (drop (min a (length xs)) xs) ≡ take n (drop a xs)
-part a n [] = nothing (min (a + n) 0 - min a 0) (min a 0) ∙ sym (nothing n a)
-part zero n (x ∷ xs) =
-    let e : min (zero + n) (suc (length xs)) - min zero (suc (length xs)) ≡ min n (suc (length xs)) = omega arith in
-    ap₂ (λ i j. take i (drop j (x ∷ xs))) e (zero-min (suc (length xs))) ∙ take_min n (x ∷ xs)
-part (suc a) n (x ∷ xs) =
-    let e : min (suc a + n) (suc (length xs)) - min (suc a) (suc (length xs)) ≡ min (a + n) (length xs) - min a (length xs) = omega arith in
-    ap₂ (λ i j. take i (drop j (x ∷ xs))) e (suc-min-suc a (length xs)) ∙ part a n xs
-
-pub file_lies : (input : List ℕ) (at : ℕ) {w size from to : ℕ} → w ≡ little 4 input at → size ≡ min w 65536 → from ≡ min (at + 4) (length input)
-    → to ≡ min (at + 4 + size) (length input)
-    → (from ≤ to) × (to ≤ length input) × (take (to - from) (drop from input) ≡ file_in input at)
-unfolding file_in
-file_lies input at {w} {size} {from} {to} d e f g = (
-  omega arith,
-  omega arith,
-  ap₂ (λ i j. take (i - j) (drop j input)) g f ∙ part (at + 4) size input ∙ ap (λ i. take i (drop (at + 4) input)) (e ∙ ap (λ i. min i most_read) d),
-)
 
 -- ── requests ────────────────────────────────────────────────────────────────────────────────
 

@@ -78,10 +78,10 @@ module _ (input : List ℕ) {file out out' : List ℕ} (rest : List ℕ) {r : An
 
 -- what is said of the file that the input has, and its listing
 module _ (input : List ℕ) {file : List ℕ} (e : file ≡ file_in input 1) where
-  pub check-text : {c : Checked} → CheckedIs (check_file file) c → numbers_text (c.code ∷ c.place ∷ c.nodes ∷ c.fields ∷ []) ≡ check_text input
+  pub check-text : {c : Checked} {code : ℕ} → code ≡ c.code → CheckedIs (check_file file) c → numbers_text (code ∷ c.place ∷ c.nodes ∷ c.fields ∷ []) ≡ check_text input
   unfolding checked_text check_text
-  check-text {c} h =
-      ap₂ (λ (i : ℕ) (j : ℕ). numbers_text (i ∷ j ∷ c.nodes ∷ c.fields ∷ [])) h.code_is h.place_is
+  check-text {c} d h =
+      ap₂ (λ (i : ℕ) (j : ℕ). numbers_text (i ∷ j ∷ c.nodes ∷ c.fields ∷ [])) (d ∙ h.code_is) h.place_is
       ∙ ap₂ (λ (i : ℕ) (j : ℕ). numbers_text ((check_file file).code ∷ (check_file file).place ∷ i ∷ j ∷ [])) h.nodes_is h.fields_is
       ∙ ap (λ (xs : List ℕ). checked_text (check_file xs)) e
 

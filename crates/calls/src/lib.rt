@@ -10,7 +10,7 @@
 //! An entry is a function here and a definition in specs/Calls.antt, and a case of `run` and a member of `entries`.
 #![tactic(auto)]
 
-ghost use Rattle.std.specs.Prelude.{◌≡◌, ◌+◌, ◌*◌, ◌-◌, ◌^◌, ◌<◌, ◌≤◌, min, drop, length, take};
+ghost use Rattle.std.specs.Prelude.{◌≡◌, ◌+◌, ◌*◌, ◌^◌, ◌<◌, ◌≤◌, min, length, take};
 ghost use Rattle.cpl.specs.Read.{little};
 ghost use Rattle.cpl.specs.ReadPlan.{read_file};
 ghost use Rattle.rules.specs.Check.{finding};
@@ -18,32 +18,14 @@ ghost use Rattle.writer_parts.specs.Wrote.{Wrote};
 ghost use Rattle.listing.specs.Lines.{Counts};
 ghost use Rattle.calls.specs.Calls.{call_text, check_text, count_in, file_in, join_keys_text, list_call_text, list_plan_text, listed, most_asked, most_lent, numbers_text, prune_all_text, prune_text, request_in, said, spaced, text_of, without_keys_text};
 
-// The bytes of the input from an offset up to another.
-#[derive(Clone, Copy)]
-struct Span {
-    from: usize,
-    to: usize,
-}
-
-fn least(a: usize, b: usize) -> usize
-    ensures { result ≡ min a b }
-{
-    if a < b { a } else { b }
-}
-
-fn wide(x: u8) -> u16
-    ensures { (result ≡ x) × (result < 256) }
-{
-    x as u16
-}
-
 // The number in two bytes of the input.
+#[tactic(auto, unfolding(cpl::specs::Read::little))]
 fn half_at(input: &[u8], at: usize) -> u16
     requires { at < 2 ^ 40 }
     ensures { (result ≡ little 2 input.now at) × (result < 65536) }
 {
-    let low = wide(listing::byte(input, at));
-    let high = wide(listing::byte(input, at + 1));
+    let low = u16::from(listing::byte(input, at));
+    let high = u16::from(listing::byte(input, at + 1));
     low + 256 * high
 }
 
@@ -52,20 +34,19 @@ fn word_at(input: &[u8], at: usize) -> usize
     requires { at < 2 ^ 36 }
     ensures { (result ≡ little 4 input.now at) × (result < 2 ^ 32) }
 {
-    let low = half_at(input, at) as usize;
-    let high = half_at(input, at + 2) as usize;
+    let low = usize::from(half_at(input, at));
+    let high = usize::from(half_at(input, at + 2));
     low + 65536 * high
 }
 
-// Where a file lies whose length stands at an offset.
-fn file_at(input: &[u8], at: usize) -> Span
+// A file whose length stands at an offset.
+fn file_at(input: &[u8], at: usize) -> &[u8]
     requires { at < 2 ^ 36 }
-    ensures { (result.from ≤ result.to) × (result.to ≤ length input.now) × (take (result.to - result.from) (drop result.from input.now) ≡ file_in input.now at) }
+    ensures { result.now ≡ file_in input.now at }
 {
-    let size = least(word_at(input, at), 65536);
-    let from = least(at + 4, input.len());
-    let to = least(at + 4 + size, input.len());
-    Span { from, to }
+    let size = word_at(input, at).min(65536);
+    let file = &input[input.len().min(at + 4)..];
+    &file[..file.len().min(size)]
 }
 
 // How long an output is whose length stands at an offset.
@@ -73,31 +54,29 @@ fn room_at(input: &[u8], at: usize) -> usize
     requires { at < 2 ^ 36 }
     ensures { (result ≡ min (little 4 input.now at) most_lent) × (result ≤ 65536) }
 {
-    least(word_at(input, at), 65536)
+    word_at(input, at).min(65536)
 }
 
 // How many indices a request has whose length stands at an offset: as many as it says, if they are there whole.
+#[tactic(auto, unfolding(crate::specs::Calls::count_in))]
 fn count_at(input: &[u8], at: usize) -> usize
     requires { at < 2 ^ 36 }
     ensures { result ≡ count_in input.now at }
 {
-    let behind = input.len() - least(at + 4, input.len());
-    least(word_at(input, at), behind / 2)
+    let behind = input.len().saturating_sub(at + 4);
+    word_at(input, at).min(behind / 2)
 }
 
-// The first 513 indices of a request; how many they are. A root has at most 512 fields, so that a longer request has a fault among them.
-fn read_request(input: &[u8], at: usize, request: &mut [u16]) -> usize
+// The first 513 indices of a request, in a lent array. A root has at most 512 fields, so that a longer request has a fault among them.
+fn read_request<'a>(input: &[u8], at: usize, request: &'a mut [u16]) -> &'a [u16]
     requires { (at < 2 ^ 36) × (513 ≤ length request.old) }
-    ensures request_after { take result request.new ≡ take most_asked (request_in input.now at) }
-    ensures counts { Counts result request.new }
+    ensures { result.now ≡ take most_asked (request_in input.now at) }
 {
-    let count = least(count_at(input, at), 513);
-    let mut k = 0;
-    while k < count {
+    let count = count_at(input, at).min(513);
+    for k in 0..count {
         request[k] = half_at(input, at + 4 + 2 * k);
-        k += 1;
     }
-    count
+    &request[..count]
 }
 
 // A space and a number, for each of them.
@@ -107,11 +86,9 @@ fn write_others(out: &mut [u8], numbers: &[u64]) -> usize
     ensures upper_bound { result ≤ 21 * length numbers.now }
 {
     let mut at = 0;
-    let mut k = 0;
-    while k < numbers.len() {
+    for &n in numbers {
         let next = listing::put_text(out, at, b" ");
-        at = listing::put_number(out, next, numbers[k]);
-        k += 1;
+        at = listing::put_number(out, next, n);
     }
     at
 }
@@ -133,18 +110,9 @@ fn write_answer(text: &mut [u8], code: u8, place: usize, bytes: &[u8]) -> usize
     ensures wrote { Wrote (text_of code place bytes.now) text.old result text.new }
     ensures counts { Counts result text.new }
 {
-    let numbers = [code as u64, bytes.len() as u64, place as u64];
+    let numbers = [u64::from(code), bytes.len() as u64, place as u64];
     let at = write_numbers(text, &numbers);
     listing::put_text(text, at, bytes)
-}
-
-// An answer of code 0, whose bytes are the first n of an output.
-fn write_success(text: &mut [u8], out: &[u8], n: usize) -> usize
-    requires { (65600 ≤ length text.old) × (n ≤ length out.now) × (length out.now ≤ 65536) }
-    ensures wrote { Wrote (text_of 0 0 (take n out.now)) text.old result text.new }
-    ensures counts { Counts result text.new }
-{
-    write_answer(text, 0, 0, &out[..n])
 }
 
 // 0: mode, mask, file, request, length of the output.
@@ -155,22 +123,13 @@ fn prune(input: &[u8], text: &mut [u8; 65600]) -> usize
     let mode = listing::byte(input, 1);
     let mask = half_at(input, 2);
     let file = file_at(input, 4);
-    let from = file.from;
-    let to = file.to;
     let at = 8 + word_at(input, 4);
-    let mut request = [0u16; 513];
-    let n = read_request(input, at, &mut request);
+    let mut indices = [0u16; 513];
+    let request = read_request(input, at, &mut indices);
     let room = room_at(input, at + 4 + 2 * word_at(input, at));
     let mut out = [0u8; 65536];
-    let a = pruner::prune(
-        mode,
-        mask,
-        &input[from..to],
-        &request[..n],
-        &mut out[..room],
-    );
-    let length = a.length;
-    write_answer(text, a.code, a.place, &out[..length])
+    let a = pruner::prune(mode, mask, file, request, &mut out[..room]);
+    write_answer(text, a.code, a.place, &out[..a.length])
 }
 
 // 1: mode, mask, file, length of the output.
@@ -181,13 +140,10 @@ fn prune_all(input: &[u8], text: &mut [u8; 65600]) -> usize
     let mode = listing::byte(input, 1);
     let mask = half_at(input, 2);
     let file = file_at(input, 4);
-    let from = file.from;
-    let to = file.to;
     let room = room_at(input, 8 + word_at(input, 4));
     let mut out = [0u8; 65536];
-    let a = pruner::prune_all(mode, mask, &input[from..to], &mut out[..room]);
-    let length = a.length;
-    write_answer(text, a.code, a.place, &out[..length])
+    let a = pruner::prune_all(mode, mask, file, &mut out[..room]);
+    write_answer(text, a.code, a.place, &out[..a.length])
 }
 
 // 2: file.
@@ -196,11 +152,9 @@ fn check(input: &[u8], text: &mut [u8; 65600]) -> usize
     ensures counts { Counts result text.new }
 {
     let file = file_at(input, 1);
-    let from = file.from;
-    let to = file.to;
-    let c = acceptance::check(&input[from..to]);
+    let c = acceptance::check(file);
     let numbers = [
-        c.code as u64,
+        u64::from(c.code),
         c.place as u64,
         c.nodes as u64,
         c.fields as u64,
@@ -214,13 +168,10 @@ fn join_keys(input: &[u8], text: &mut [u8; 65600]) -> usize
     ensures counts { Counts result text.new }
 {
     let predicate = file_at(input, 1);
-    let from = predicate.from;
-    let to = predicate.to;
     let room = room_at(input, 5 + word_at(input, 1));
     let mut out = [0u8; 65536];
-    let a = predicate_keys::join_keys(&input[from..to], &mut out[..room]);
-    let length = a.length;
-    write_answer(text, a.code, a.place, &out[..length])
+    let a = predicate_keys::join_keys(predicate, &mut out[..room]);
+    write_answer(text, a.code, a.place, &out[..a.length])
 }
 
 // 4: predicate, keys, length of the output.
@@ -229,17 +180,12 @@ fn without_keys(input: &[u8], text: &mut [u8; 65600]) -> usize
     ensures counts { Counts result text.new }
 {
     let predicate = file_at(input, 1);
-    let from = predicate.from;
-    let to = predicate.to;
     let at = 5 + word_at(input, 1);
     let keys = file_at(input, at);
-    let start = keys.from;
-    let end = keys.to;
     let room = room_at(input, at + 4 + word_at(input, at));
     let mut out = [0u8; 65536];
-    let a = predicate_keys::without_keys(&input[from..to], &input[start..end], &mut out[..room]);
-    let length = a.length;
-    write_answer(text, a.code, a.place, &out[..length])
+    let a = predicate_keys::without_keys(predicate, keys, &mut out[..room]);
+    write_answer(text, a.code, a.place, &out[..a.length])
 }
 
 // The listing of an accepted file, or the refusal.
@@ -252,7 +198,7 @@ fn list_file(file: &[u8], lines: &mut [u8; 16384], text: &mut [u8; 65600]) -> us
         return write_answer(text, c.code, c.place, b"");
     }
     let n = listing::list(file, lines);
-    write_success(text, lines, n)
+    write_answer(text, 0, 0, &lines[..n])
 }
 
 // 5: file.
@@ -261,10 +207,8 @@ fn list(input: &[u8], text: &mut [u8; 65600]) -> usize
     ensures counts { Counts result text.new }
 {
     let file = file_at(input, 1);
-    let from = file.from;
-    let to = file.to;
     let mut lines = [0u8; 16384];
-    list_file(&input[from..to], &mut lines, text)
+    list_file(file, &mut lines, text)
 }
 
 // 6: file, length of the output.
@@ -273,13 +217,10 @@ fn list_plan(input: &[u8], text: &mut [u8; 65600]) -> usize
     ensures counts { Counts result text.new }
 {
     let file = file_at(input, 1);
-    let from = file.from;
-    let to = file.to;
     let room = room_at(input, 5 + word_at(input, 1));
     let mut out = [0u8; 65536];
-    let a = list_plan::list_plan(&input[from..to], &mut out[..room]);
-    let length = a.length;
-    write_answer(text, a.code, a.place, &out[..length])
+    let a = list_plan::list_plan(file, &mut out[..room]);
+    write_answer(text, a.code, a.place, &out[..a.length])
 }
 
 /// The answer to a call, at the front of `text`; how many bytes it takes. The bytes of `text` behind them stay.

@@ -1,30 +1,31 @@
 -- The keys of tables: what their readers answer is right. Assumes nothing.
-use Prim.Native.Nat.{ℕ, zero, suc, ◌+◌, ◌*◌, ◌-◌, ◌^◌, ◌≤◌, ◌<◌}
+use Prim.Native.Nat.{ℕ, zero, suc, ◌+◌, ◌-◌, ◌^◌, ◌≤◌, ◌<◌}
 use mathlib.Core.Path.{◌≡◌, refl, sym, ap, ap₂, ◌∙◌}
-use mathlib.Core.Bool.{Bool, true, false, cond, not, ◌&&◌, ◌||◌, true≢false}
+use mathlib.Core.Bool.{Bool, true, false, cond, ◌||◌, true≢false}
 use mathlib.Core.List.{List, [], ◌∷◌}
 use native.Mathlib.Omega.{arith}
 use native.Mathlib.Decide.{ℕ_discrete}
 use native.Mathlib.Numerals.{sub-one}
 use lib.Bits.{bit_or}
-use lib.Dec.{eqb, ltb}
+use lib.Dec.{eqb}
 use lib.ListN.{length, get_or}
 use borrow.Author.Tests.{lt-ltb, le-ltb, eq-eqb, eqb-true, ne_eqb}
+use Rattle.std.specs.Prelude.{Result, Ok, Err}
 use Rattle.cpl.specs.Limits.{Version}
 use Rattle.cpl.specs.Tests.{any_b}
-use Rattle.cpl.specs.Plan.{TableKey, Catalogue, names_of, keyed_tables}
-use Rattle.cpl.specs.Read.{Res, ok, bad, Reader, and_then, value, fresh, is_not, any, count, times_after, counted_after}
+use Rattle.cpl.specs.Plan.{TableKey, keyed_tables}
+use Rattle.cpl.specs.Read.{ok, bad, Reader, and_then, value, fresh, is_not, count, times_after, counted_after}
 use Rattle.cpl.specs.ReadPlan.{read_table_key}
 use Rattle.required_indices.specs.Set.{has}
 use Rattle.required_indices.specs.Request.{set_of, Holds}
 use Rattle.required_indices.specs.declared.RequiredIndices.{RequiredIndices}
 use Rattle.required_indices.proofs.Members.{has-none, has_or, has_single}
-use Rattle.reader_heads.specs.Heads.{Widths}
 use Rattle.rules.specs.Keys.{declared}
 use Rattle.key_sets.specs.Slots.{KeySet, PutKey, SlotIn, slot_at}
 use Rattle.catalogue.specs.Keys.{Stands, Found, KeyIs, KeyPut, KeysPut, TablesPut}
-use Rattle.catalogue.specs.declared.Next.{Next}
-use Rattle.catalogue.specs.declared.Next.TheVariants.{At, Bad}
+use Rattle.refusals.specs.Codes.{code_of}
+use Rattle.refusals.specs.declared.Refusal.{Refusal}
+use Rattle.reader_fields.specs.declared.Field.{Field}
 
 -- ── sets of what is taken ───────────────────────────────────────────────────────────────────
 
@@ -66,7 +67,7 @@ module _ (n : ℕ) (xs : List ℕ) (x : ℕ) where
 -- ── lists whose elements are refused for those before them ──────────────────────────────────
 
 module _ {A : Type 0} (p : List A → Reader A) (xs : List A) (file : List ℕ) (at k : ℕ) where
-  pub after_none : (Q : List A → Type 0) → k ≡ 0 → Q [] → Found (times_after k p xs file at) Q (At at)
+  pub after_none : (Q : List A → Type 0) → k ≡ 0 → Q [] → Found (times_after k p xs file at) Q (Ok at)
   unfolding times_after
   after_none Q e q = ([], λ tags n. rw e, q)
 
@@ -84,21 +85,21 @@ module _ {A : Type 0} (p : List A → Reader A) (xs : List A) (file : List ℕ) 
     pub after-bad : {code place : ℕ} → ((tags n : ℕ) → p xs file at tags n ≡ bad code place) → (tags n : ℕ) → times_after k p xs file at tags n ≡ bad code place
     after-bad e tags n = rw (after_more some tags n, e tags n)
 
-    pub after-right : (Q Q' : List A → Type 0) {x : A} {next : ℕ} → ((tags n : ℕ) → p xs file at tags n ≡ ok x next tags n) → ((ys : List A) → Q' ys → Q (x ∷ ys)) → (r : Next) →
+    pub after-right : (Q Q' : List A → Type 0) {x : A} {next : ℕ} → ((tags n : ℕ) → p xs file at tags n ≡ ok x next tags n) → ((ys : List A) → Q' ys → Q (x ∷ ys)) → (r : Result ℕ Refusal) →
         Found (times_after (k - 1) p (x ∷ xs) file next) Q' r → Found (times_after k p xs file at) Q r
-    after-right Q Q' {x} e q (At end) h = (x ∷ h.0, λ tags n. rw (after_more some tags n, e tags n, h.1 tags n), q h.0 h.2)
-    after-right Q Q' e q (Bad code place) h = λ tags n. rw (after_more some tags n, e tags n, h tags n)
+    after-right Q Q' {x} e q (Ok end) h = (x ∷ h.0, λ tags n. rw (after_more some tags n, e tags n, h.1 tags n), q h.0 h.2)
+    after-right Q Q' e q (Err e₁) h = λ tags n. rw (after_more some tags n, e tags n, h tags n)
 
 module _ {A : Type 0} (wide : ℕ) (allowed : ℕ → Bool) (limit : ℕ) (p : List A → Reader A) (file : List ℕ) (at : ℕ) where
   pub counted-after-bad : {code place : ℕ} → ((tags n : ℕ) → count wide allowed limit file at tags n ≡ bad code place) → (tags n : ℕ) → counted_after wide allowed limit p file at tags n ≡ bad code place
   unfolding counted_after
   counted-after-bad e tags n = rw (e tags n)
 
-  pub counted-after-right : (Q Q' : List A → Type 0) {k next : ℕ} → ((tags n : ℕ) → count wide allowed limit file at tags n ≡ ok k next tags n) → ((xs : List A) → Q' xs → Q xs) → (r : Next) →
+  pub counted-after-right : (Q Q' : List A → Type 0) {k next : ℕ} → ((tags n : ℕ) → count wide allowed limit file at tags n ≡ ok k next tags n) → ((xs : List A) → Q' xs → Q xs) → (r : Result ℕ Refusal) →
       Found (times_after k p [] file next) Q' r → Found (counted_after wide allowed limit p file at) Q r
   unfolding counted_after
-  counted-after-right Q Q' e q (At end) h = (h.0, λ tags n. rw (e tags n) (h.1 tags n), q h.0 h.2)
-  counted-after-right Q Q' e q (Bad code place) h = λ tags n. rw (e tags n) (h tags n)
+  counted-after-right Q Q' e q (Ok end) h = (h.0, λ tags n. rw (e tags n) (h.1 tags n), q h.0 h.2)
+  counted-after-right Q Q' e q (Err e₁) h = λ tags n. rw (e tags n) (h tags n)
 
 -- ── a key ───────────────────────────────────────────────────────────────────────────────────
 
@@ -141,6 +142,33 @@ pub columns-more : {keys keys' : List ℕ} {table : ℕ} (x : ℕ) (xs is : List
 unfolding any_b
 columns-more x xs is h = record { columns_are = λ i. h.columns_are i ∙ or_shift (any_b (eqb i) is) (eqb i x) (any_b (eqb i) xs); others = h.others }
 
+-- some columns were read, of which the set is, and so many are left
+pub record ColumnsLeft (k columns : ℕ) (file : List ℕ) (n at table : ℕ) (keys : List ℕ) (left next : ℕ) (set : RequiredIndices) : Type 0 where
+  pub read : List ℕ
+  pub stands : Stands set read
+  pub ends : (keys' : List ℕ) (r : Result ℕ Refusal) → Found (times_after left (λ ys. value k (fresh columns ys)) read file next) (KeyPut keys keys' table read) r
+      → Found (times_after n (λ ys. value k (fresh columns ys)) [] file at) (KeyPut keys keys' table []) r
+
+pub all_columns : (k columns : ℕ) (file : List ℕ) (n at table : ℕ) (keys : List ℕ) (set : RequiredIndices) {left : ℕ} {b : Bool} → left ≡ n → Holds set 0 b → ColumnsLeft k columns file n at table keys left at set
+all_columns k columns file n at table keys set e h = record { read = []; stands = stands_none set h; ends = λ keys' r f. rw e at f }
+
+module _ {k columns : ℕ} {file : List ℕ} {n at table : ℕ} {keys : List ℕ} {left next : ℕ} {set : RequiredIndices} (w : ColumnsLeft k columns file n at table keys left next set) where
+  pub one_column : (left ≡ 0 → ⊥) → (set' : RequiredIndices) {x after left' : ℕ} {b : Bool} → ((tags m : ℕ) → value k (fresh columns w.read) file next tags m ≡ ok x after tags m) → Holds set' (bit_or (set_of set) (2 ^ x)) b
+      → left' ≡ left - 1 → ColumnsLeft k columns file n at table keys left' after set'
+  one_column some set' {x} e h f = record {
+    read = x ∷ w.read;
+    stands = stands_more set set' x w.read w.stands h;
+    ends = λ keys' r g.
+        w.ends keys' r (after-right (λ (ys : List ℕ). value k (fresh columns ys)) w.read _ _ _ some (KeyPut keys keys' table w.read) (KeyPut keys keys' table (x ∷ w.read)) e (columns-more x w.read) r (rw f at g));
+  }
+
+  pub column_refused : (left ≡ 0 → ⊥) → (e : Refusal) → ((tags m : ℕ) → value k (fresh columns w.read) file next tags m ≡ bad (code_of e.reason) e.place)
+      → Found (times_after n (λ ys. value k (fresh columns ys)) [] file at) (KeyPut keys keys table []) (Err e)
+  column_refused some e h = w.ends keys (Err e) (after-bad (λ (ys : List ℕ). value k (fresh columns ys)) w.read _ _ _ some h)
+
+  pub no_column : left ≡ 0 → {keys' : List ℕ} → PutKey keys keys' table (set_of set) → Found (times_after n (λ ys. value k (fresh columns ys)) [] file at) (KeyPut keys keys' table []) (Ok next)
+  no_column e {keys'} h = w.ends keys' (Ok next) (after_none (λ (ys : List ℕ). value k (fresh columns ys)) w.read _ _ _ _ e (columns_put set w.read w.stands h))
+
 -- no key
 pub keys_none : {keys : List ℕ} (before : List TableKey) → KeysPut keys keys before []
 unfolding any_b declared
@@ -182,6 +210,34 @@ module _ {keys keys₁ keys' : List ℕ} (room : SlotIn keys 15) (before : List 
       go t l e z false d =
           let f = h.fresh_are t l (ap (◌|| any_b (eqb t) (keyed_tables before)) d ∙ e) (put.others t (slot keys t room l) (other t k.table d) ∙ z) in
           record { members = λ i. f.members i ∙ ap (λ b. any_b (eqb i) (cond b k.columns (declared ks t))) (sym (ne_eqb k.table t (λ w. other t k.table d (sym w)))) }
+
+-- some keys were read, of whose tables the set is, and so many are left
+pub record KeysLeft (v : Version) (ts : List (List ℕ)) (file : List ℕ) (n at : ℕ) (keys : List ℕ) (left next : ℕ) (set : RequiredIndices) (keys' : List ℕ) : Type 0 where
+  pub before : List TableKey
+  pub stands : Stands set (keyed_tables before)
+  pub ends : (keys'' : List ℕ) (r : Result ℕ Refusal) → Found (times_after left (read_table_key v ts) before file next) (KeysPut keys' keys'' before) r
+      → Found (times_after n (read_table_key v ts) [] file at) (KeysPut keys keys'' []) r
+
+pub all_keys : (v : Version) (ts : List (List ℕ)) (file : List ℕ) (n at : ℕ) (keys : List ℕ) (set : RequiredIndices) {left : ℕ} {b : Bool} → left ≡ n → Holds set 0 b → KeysLeft v ts file n at keys left at set keys
+all_keys v ts file n at keys set e h = record { before = []; stands = stands_none set h; ends = λ keys'' r f. rw e at f }
+
+module _ {v : Version} {ts : List (List ℕ)} {file : List ℕ} {n at : ℕ} {keys : List ℕ} {left next : ℕ} {set : RequiredIndices} {keys' : List ℕ} (w : KeysLeft v ts file n at keys left next set keys') where
+  pub one_key : (left ≡ 0 → ⊥) → SlotIn keys' 15 → (set' : RequiredIndices) (keys₁ : List ℕ) {tables left' : ℕ} {b : Bool} (f : Field) → KeyIs tables (read_table_key v ts w.before file next) keys' keys₁ w.before (Ok f)
+      → Holds set' (bit_or (set_of set) (2 ^ f.value)) b → left' ≡ left - 1 → KeysLeft v ts file n at keys left' f.next set' keys₁
+  one_key some room set' keys₁ f h i e = record {
+    before = h.0 ∷ w.before;
+    stands = stands_key set set' f.value h.0 w.before h.1 w.stands i;
+    ends = λ keys'' r g.
+        w.ends keys'' r
+        (after-right (read_table_key v ts) w.before _ _ _ some (KeysPut keys' keys'' w.before) (KeysPut keys₁ keys'' (h.0 ∷ w.before)) h.3 (keys-more room w.before h.0 h.4 h.5) r (rw e at g));
+  }
+
+  pub key_refused : (left ≡ 0 → ⊥) → (keys₁ : List ℕ) (e : Refusal) → ((tags m : ℕ) → read_table_key v ts w.before file next tags m ≡ bad (code_of e.reason) e.place)
+      → Found (times_after n (read_table_key v ts) [] file at) (KeysPut keys keys₁ []) (Err e)
+  key_refused some keys₁ e h = w.ends keys₁ (Err e) (after-bad (read_table_key v ts) w.before _ _ _ some h)
+
+  pub no_key : left ≡ 0 → Found (times_after n (read_table_key v ts) [] file at) (KeysPut keys keys' []) (Ok next)
+  no_key e = w.ends keys' (Ok next) (after_none (read_table_key v ts) w.before _ _ _ _ e (keys_none w.before))
 
 -- all keys
 pub tables_put : {keys keys' : List ℕ} (ks : List TableKey) → ((t : ℕ) → t < 16 → slot_at keys t ≡ 0) → KeysPut keys keys' [] ks → TablesPut keys' ks

@@ -1,9 +1,9 @@
 -- The catalogue's tables in the array of names: table t stands at 513 * t, its column count first, then its names. Assumes nothing: these are definitions.
-use Rattle.std.specs.Prelude.{ℕ, zero, suc, ◌+◌, ◌*◌, ◌<◌, ◌≡◌, List, [], ◌∷◌, get_or}
+use Rattle.std.specs.Prelude.{ℕ, zero, suc, ◌+◌, ◌*◌, ◌<◌, ◌≡◌, List, [], ◌∷◌, get_or, Result, Ok, Err}
 use Rattle.cpl.specs.Limits.{Version}
-use Rattle.cpl.specs.Read.{Res, ok, bad, Reader, nonzero, any, times, counted}
-use Rattle.catalogue.specs.declared.Next.{Next}
-use Rattle.catalogue.specs.declared.Next.TheVariants as next
+use Rattle.cpl.specs.Read.{ok, bad, Reader, nonzero, any, counted}
+use Rattle.refusals.specs.Codes.{code_of}
+use Rattle.refusals.specs.declared.Refusal.{Refusal}
 
 -- k numbers from `at` on
 unfoldable pub names_at : (names : List ℕ) → (at k : ℕ) → List ℕ
@@ -27,6 +27,6 @@ abbrev pub read_table : Version → Reader (List ℕ)
 read_table v = counted v.wide any v.max_columns (nonzero 2)
 
 -- the answer is the reader's, what was read is `found`, and what stands below `to` has stayed
-abbrev pub NextIs : {A : Type 0} → Reader A → (file : List ℕ) → (at : ℕ) → (found : A) → (to : ℕ) → (names names' : List ℕ) → Next → Type 0
-NextIs p file at found to names names' (next.At end) = ((tags n : ℕ) → p file at tags n ≡ ok found end tags n) × Kept to names names'
-NextIs p file at found to names names' (next.Bad code place) = (tags n : ℕ) → p file at tags n ≡ bad code place
+abbrev pub NextIs : {A : Type 0} → Reader A → (file : List ℕ) → (at : ℕ) → (found : A) → (to : ℕ) → (names names' : List ℕ) → Result ℕ Refusal → Type 0
+NextIs p file at found to names names' (Ok end) = ((tags n : ℕ) → p file at tags n ≡ ok found end tags n) × Kept to names names'
+NextIs p file at found to names names' (Err e) = (tags n : ℕ) → p file at tags n ≡ bad (code_of e.reason) e.place

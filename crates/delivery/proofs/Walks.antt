@@ -9,6 +9,8 @@ use Rattle.versions.specs.declared.Version.{Version}
 use Rattle.required_indices.specs.declared.RequiredIndices.{RequiredIndices}
 use Rattle.result.specs.Records.{results}
 use Rattle.result.proofs.Grow as records
+use Rattle.std.proofs.Common.{Result}
+use Rattle.arena.specs.declared.Full.{Full}
 use Rattle.walk_steps.specs.declared.Walked.{Walked}
 use Rattle.optimize_projections.specs.Walk.{After, Before}
 use Rattle.optimize_projections.specs.declared.Settings.{Settings}
@@ -35,16 +37,15 @@ module _ {version : Version} {file : List ℕ} {start : ℕ} {cells rows nodes f
   }
 
   -- what the walk leaves is handed on
-  abbrev pub handed_on : {s : Settings} {records items icells records' items' icells' : List ℕ} {w : Walked}
+  abbrev pub handed_on : {s : Settings} {records items icells records' items' icells' : List ℕ} {w : Result Walked Full}
       → length records ≡ 3328 → length items ≡ 16896 → length icells ≡ 12288
       → After s cells rows nodes fields widths keys (results records items icells) (results records' items' icells') 0 request nothing_used w
-      → Rewritten version file start cells rows nodes fields widths records' items' icells' w.end
+      → Rewritten version file start cells rows nodes fields widths records' items' icells' w
   handed_on {s} {records} {items} {icells} {w = w} lr li lc a = record {
     standing = x.standing;
     version_is = x.version_is;
     heads = x.heads;
     walked = root_walk s x.standing.C cells rows nodes request x.R;
-    kept = w.kept;
     before = results records items icells;
     ends = a.is (walk-starts lr li lc);
     room = lr;

@@ -1,5 +1,5 @@
 -- A plan that can be walked, and the rewritten plan on its way to the output.
-use Rattle.std.specs.Prelude.{◌≡◌, List, ◌++◌, ℕ, ◌*◌, ◌<◌, ◌≤◌, ltb, length, take}
+use Rattle.std.specs.Prelude.{◌≡◌, Result, List, ◌++◌, ℕ, ◌*◌, ◌<◌, ◌≤◌, ltb, length, take}
 use Rattle.std.proofs.Math.Option.{none}
 use Rattle.cpl.specs.Bytes.{bytes_of, plan_bytes}
 use Rattle.cpl.specs.Codes.{LARGE}
@@ -21,9 +21,10 @@ use Rattle.lookup.specs.Standing.{Standing}
 use Rattle.result.specs.Result.{Results, record_n}
 use Rattle.result.specs.Records.{results}
 use Rattle.jobs.specs.Asked.{AllKeys}
-use Rattle.walk_steps.specs.declared.End.{End}
+use Rattle.arena.specs.declared.Full.{Full}
 use Rattle.walk_steps.specs.declared.Used.{Used}
-use Rattle.optimize_projections.specs.Walk.{EndIs, merge_by}
+use Rattle.walk_steps.specs.declared.Walked.{Walked}
+use Rattle.optimize_projections.specs.Walk.{WalkIs, merge_by}
 use Rattle.optimize_projections.specs.declared.Settings.{Settings}
 
 -- a result of so many tags and these bytes: "LARGE … 0", "ROOM: output shorter than the result; length needed", or the bytes
@@ -59,12 +60,11 @@ abbrev pub nothing_used : Used
 nothing_used = record { records = 0; rows = 0; cells = 0 }
 
 -- the plan that the walk left: at a record of the result's arrays, which hold 256 of them as they did before the walk, or too large
-pub record Rewritten (version : Version) (file : List ℕ) (start : ℕ) (cells rows nodes fields widths records items icells : List ℕ) (end : End) : Type 0 where
+pub record Rewritten (version : Version) (file : List ℕ) (start : ℕ) (cells rows nodes fields widths records items icells : List ℕ) (end : Result Walked Full) : Type 0 where
   pub standing : Standing cells rows nodes fields widths
   pub version_is : standing.C.version ≡ version_of version
   pub heads : Heads file start standing.C
   pub walked : rewriting.Walked
-  pub kept : RequiredIndices
   pub before : Results
-  pub ends : EndIs standing.C (lent cells rows nodes) standing.count before (results records items icells) nothing_used walked kept end
+  pub ends : WalkIs standing.C (lent cells rows nodes) standing.count before (results records items icells) nothing_used walked end
   pub room : length before.records ≡ max_nodes * record_n

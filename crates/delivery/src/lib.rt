@@ -6,18 +6,19 @@ ghost use Rattle.std.specs.Prelude.{◌≡◌, ◌++◌, ◌≤◌, length, take
 ghost use Rattle.cpl.specs.Bytes.{plan_bytes};
 ghost use Rattle.cpl.specs.Exprs.{plan_tags};
 ghost use Rattle.rules.specs.Answer as rules;
-ghost use Rattle.answers.specs.Answers.{AnswerIs};
+ghost use Rattle.answers.specs.Answers.{Delivers};
 ghost use Rattle.versions.specs.Versions.{version_of};
 ghost use Rattle.writer.specs.Plans.{Writes, plan_of};
-ghost use Rattle.delivery.specs.Delivery.{Rewritten, Walkable, delivered, nothing_used, root_walk};
+ghost use Rattle.delivery.specs.Delivery.{Walkable, delivered, nothing_used, root_walk};
 
-use answers::Answer;
-use optimize_projections::Settings;
+use arena::Full;
+use optimize_projections::{Plan, Rewriting, Scratch, Settings};
+use refusals::{Reason, Refusal};
 use required_indices::RequiredIndices;
 use versions::Version;
-use walk_steps::{End, Used};
+use walk_steps::Used;
 
-// The plan of a record, after the first `start` bytes of the file: counted, and written where it fits.
+// The plan of a record, after the first `start` bytes of the file: counted, and written where it fits; the length written, or a refusal.
 fn write_out(
     version: Version,
     file: &[u8],
@@ -27,65 +28,48 @@ fn write_out(
     nodes: &[u64; 1792],
     fields: &[u16],
     widths: &[u64; 512],
-    records: &[u64; 3328],
-    items: &[u16; 16896],
-    icells: &[u64; 12288],
+    made: &Rewriting,
     root: usize,
     out: &mut [u8],
-) -> Answer
+) -> Result<usize, Refusal>
     requires start_in_bounds { start ≤ length file.now }
-    requires writes { Writes version cells.now rows.now nodes.now fields.now widths.now records.now items.now icells.now root }
-    ensures { (w : Writes version cells.now rows.now nodes.now fields.now widths.now records.now items.now icells.now root) → AnswerIs (delivered (plan_tags (plan_of w)) (take start file.now ++ plan_bytes (version_of version) (plan_of w)) out.old) result out.new }
+    requires writes { Writes version cells.now rows.now nodes.now fields.now widths.now made.now.records.now made.now.items.now made.now.icells.now root }
+    ensures { (w : Writes version cells.now rows.now nodes.now fields.now widths.now made.now.records.now made.now.items.now made.now.icells.now root) → Delivers (delivered (plan_tags (plan_of w)) (take start file.now ++ plan_bytes (version_of version) (plan_of w)) out.old) result out.new }
 {
     let size = writer::plan_size(
-        version, cells, rows, nodes, fields, widths, records, items, icells, root,
+        version,
+        cells,
+        rows,
+        nodes,
+        fields,
+        widths,
+        made.records,
+        made.items,
+        made.icells,
+        root,
     );
     if size.tags > 4096 {
-        return answers::refuse(12, 0);
+        return Err(Refusal::new(Reason::Large, 0));
     }
     let needed = start + size.bytes;
     if needed > out.len() {
-        return answers::refuse(13, needed);
+        return Err(Refusal::new(Reason::Room, needed));
     }
-    let length = writer::write_plan(
-        version, file, start, cells, rows, nodes, fields, widths, records, items, icells, root, out,
-    );
-    Answer {
-        code: 0,
-        length,
-        place: 0,
-    }
-}
-
-// What the walk left: too large, or a plan to be written after the first `start` bytes of the file.
-fn deliver(
-    version: Version,
-    file: &[u8],
-    start: usize,
-    cells: &[u64; 12288],
-    rows: &[u16],
-    nodes: &[u64; 1792],
-    fields: &[u16],
-    widths: &[u64; 512],
-    records: &[u64; 3328],
-    items: &[u16; 16896],
-    icells: &[u64; 12288],
-    end: End,
-    out: &mut [u8],
-) -> Answer
-    requires { Rewritten version file.now start cells.now rows.now nodes.now fields.now widths.now records.now items.now icells.now end }
-    ensures { (x : Rewritten version file.now start cells.now rows.now nodes.now fields.now widths.now records.now items.now icells.now end) → AnswerIs (rules.deliver (rules.finish x.standing.C x.walked) out.old) result out.new }
-{
-    let End::Done {
-        record: root,
-        used: _,
-    } = end
-    else {
-        return answers::refuse(12, 0);
-    };
-    write_out(
-        version, file, start, cells, rows, nodes, fields, widths, records, items, icells, root, out,
-    )
+    Ok(writer::write_plan(
+        version,
+        file,
+        start,
+        cells,
+        rows,
+        nodes,
+        fields,
+        widths,
+        made.records,
+        made.items,
+        made.icells,
+        root,
+        out,
+    ))
 }
 
 // Nothing is in use of the result's arrays. They are lent as slices, which tells their lengths.
@@ -99,7 +83,7 @@ fn nothing_used(records: &[u64], items: &[u16], icells: &[u64]) -> Used
     }
 }
 
-/// The plan at node 0, asked for `request`: walked, and written to `out` after the first `start` bytes of the file; or a refusal.
+/// The plan at node 0, asked for `request`: walked, and written to `out` after the first `start` bytes of the file; the length written, or a refusal.
 pub fn walk_and_deliver(
     version: Version,
     file: &[u8],
@@ -120,17 +104,39 @@ pub fn walk_and_deliver(
     items: &mut [u16; 16896],
     icells: &mut [u64; 12288],
     out: &mut [u8],
-) -> Answer
+) -> Result<usize, Refusal>
     requires { Walkable version file.now start cells.now rows.now nodes.now fields.now widths.now keys.now request }
-    ensures { (x : Walkable version file.now start cells.now rows.now nodes.now fields.now widths.now keys.now request) → AnswerIs (rules.deliver (rules.finish x.standing.C (root_walk settings x.standing.C cells.now rows.now nodes.now request x.R)) out.old) result out.new }
+    ensures { (x : Walkable version file.now start cells.now rows.now nodes.now fields.now widths.now keys.now request) → Delivers (rules.deliver (rules.finish x.standing.C (root_walk settings x.standing.C cells.now rows.now nodes.now request x.R)) out.old) result out.new }
 {
     let used = nothing_used(records, items, icells);
-    let w = optimize_projections::optimize_projections(
-        cells, rows, nodes, fields, widths, keys, settings, 0, request, arows, acells, brows,
-        bcells, records, items, icells, used,
+    let plan = Plan {
+        cells,
+        rows,
+        nodes,
+        fields,
+        widths,
+        keys,
+    };
+    let mut a = Scratch {
+        rows: arows,
+        cells: acells,
+    };
+    let mut b = Scratch {
+        rows: brows,
+        cells: bcells,
+    };
+    let mut made = Rewriting {
+        records,
+        items,
+        icells,
+    };
+    let walked = optimize_projections::optimize_projections(
+        &plan, settings, 0, request, &mut a, &mut b, &mut made, used,
     );
-    let end = w.end;
-    deliver(
-        version, file, start, cells, rows, nodes, fields, widths, records, items, icells, end, out,
-    )
+    match walked {
+        Ok(w) => write_out(
+            version, file, start, cells, rows, nodes, fields, widths, &made, w.root, out,
+        ),
+        Err(Full) => Err(Refusal::new(Reason::Large, 0)),
+    }
 }

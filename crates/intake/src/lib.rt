@@ -2,75 +2,34 @@
 //! `acceptance` gives those up to 10.
 #![tactic(auto)]
 
-ghost use Rattle.std.specs.Prelude.{◌≡◌, ◌≤◌};
+ghost use Rattle.std.specs.Prelude.{◌≤◌};
 ghost use Rattle.rules.specs.Request.{request_fault};
+ghost use Rattle.request.specs.Requests.{RequestIs};
 ghost use Rattle.acceptance.specs.Readings.{Room};
-ghost use Rattle.intake.specs.Intake.{wanted, AskIs, IntakeIs};
+ghost use Rattle.intake.specs.Intake.{wanted, IntakeIs};
 
+use refusals::Refusal;
 use required_indices::RequiredIndices;
 use versions::Version;
 
-/// What came of a file and a request: a code and a place (0 and 0 where nothing is refused), the file's version, the offset of the plan, its number of
-/// nodes and the set of fields asked for.
+/// An accepted plan and its request: the file's version, the offset of the plan, its number of nodes and the set of fields asked for.
 #[derive(Clone, Copy)]
 pub struct Intake {
-    pub code: u8,
-    pub place: usize,
     pub version: Version,
     pub start: usize,
     pub count: usize,
     pub set: RequiredIndices,
 }
 
-// A refusal.
-fn refuse(code: u8, place: usize) -> Intake
-    ensures { (result.code ≡ code) × (result.place ≡ place) }
-{
-    Intake {
-        code,
-        place,
-        version: versions::version1(),
-        start: 0,
-        count: 0,
-        set: RequiredIndices::new(),
-    }
-}
-
-// The request of an accepted plan whose root has `width` fields: all of them, or those of the list.
-fn ask(
-    all: bool,
-    request: &[u16],
-    width: usize,
-    version: Version,
-    start: usize,
-    count: usize,
-) -> Intake
+// The set of fields asked for of an accepted plan whose root has `width` fields: all of them, or those of the list.
+fn ask(all: bool, request: &[u16], width: usize) -> Result<RequiredIndices, Refusal>
     requires { width ≤ 512 }
-    ensures { AskIs width (wanted all request.now width) version start count result (request_fault width (wanted all request.now width)) }
+    ensures { RequestIs width (wanted all request.now width) result (request_fault width (wanted all request.now width)) }
 {
     if all {
-        return Intake {
-            code: 0,
-            place: 0,
-            version,
-            start,
-            count,
-            set: request::all_fields(width),
-        };
+        return Ok(request::all_fields(width));
     }
-    let q = request::check_request(request, width);
-    if q.refused {
-        return refuse(11, q.place);
-    }
-    let set = q.set;
-    Intake {
-        code: 0,
-        place: 0,
-        version,
-        start,
-        count,
-        set,
-    }
+    request::check_request(request, width)
 }
 
 /// A file's plan, read into the lent arrays and accepted, and the set of fields asked for (`all` of them, or those of the list); or a refusal.
@@ -86,21 +45,16 @@ pub fn take_in(
     fields: &mut [u16],
     widths: &mut [u64],
     keys: &mut [u64],
-) -> Intake
+) -> Result<Intake, Refusal>
     requires { Room file.now cells.old rows.old nodes.old names.old fields.old widths.old keys.old }
-    ensures { IntakeIs file.now (wanted all request.now) cells.new rows.new nodes.new fields.new widths.new keys.new result result.code }
+    ensures { IntakeIs file.now (wanted all request.now) cells.new rows.new nodes.new fields.new widths.new keys.new result }
 {
-    let read = acceptance::read_and_check(file, cells, rows, nodes, names, fields, widths, keys);
-    let checked = read.checked;
-    if checked.code > 0 {
-        return refuse(checked.code, checked.place);
-    }
-    ask(
-        all,
-        request,
-        checked.fields,
-        read.version,
-        read.start,
-        checked.nodes,
-    )
+    let read = acceptance::read_and_check(file, cells, rows, nodes, names, fields, widths, keys)?;
+    let set = ask(all, request, read.fields)?;
+    Ok(Intake {
+        version: read.version,
+        start: read.start,
+        count: read.nodes,
+        set,
+    })
 }

@@ -1,5 +1,6 @@
 -- Union and Join: what is asked of the two sides. Assumes nothing.
 use mathlib.Core.Path.{◌≡◌, refl, sym, subst, ◌∙◌}
+use mathlib.Core.Logic.{◌⊎◌, inl, inr}
 use mathlib.Core.Bool.{Bool, true, false}
 use mathlib.Core.List.{List, [], ◌∷◌, ◌++◌, map}
 use mathlib.Core.Option.{Option, none, some}
@@ -65,39 +66,58 @@ module _ (os : List On) (has : Bool) (e : Expr) {ls rs : List Expr} {fs : List P
 
 -- ── the fields of a join ────────────────────────────────────────────────────────────────────
 
+abbrev pub Both : JoinType → Type 0
+Both t = (t ≡ Inner) ⊎ ((t ≡ Left) ⊎ ((t ≡ Right) ⊎ (t ≡ Full)))
+
 module _ {left : ℕ} {p q out : RequiredIndices} {b : Bool} (g : Holds out (bit_or (set_of p) (set_of q * 2 ^ left)) b) where
-  pub joined_inner : Joined Inner left p q out
+  joined_inner : Joined Inner left p q out
   unfolding join_fields
   joined_inner = record { asks = λ K L e k l. follow_asks left k l e g }
 
-  pub joined-left : Joined Left left p q out
+  joined-left : Joined Left left p q out
   unfolding join_fields
   joined-left = record { asks = λ K L e k l. follow_asks left k l e g }
 
-  pub joined-right : Joined Right left p q out
+  joined-right : Joined Right left p q out
   unfolding join_fields
   joined-right = record { asks = λ K L e k l. follow_asks left k l e g }
 
-  pub joined-full : Joined Full left p q out
+  joined-full : Joined Full left p q out
   unfolding join_fields
   joined-full = record { asks = λ K L e k l. follow_asks left k l e g }
 
+  -- a join that hands out the fields of both sides
+  pub joined_both : {t : JoinType} → Both t → Joined t left p q out
+  joined_both (inl e) = rw e joined_inner
+  joined_both (inr (inl e)) = rw e joined-left
+  joined_both (inr (inr (inl e))) = rw e joined-right
+  joined_both (inr (inr (inr e))) = rw e joined-full
+
 module _ (left : ℕ) (p q : RequiredIndices) where
-  pub joined-left_semi : Joined LeftSemi left p q p
+  joined-left_semi : Joined LeftSemi left p q p
   unfolding join_fields
   joined-left_semi = record { asks = λ K L e k l. k }
 
-  pub joined-left_anti : Joined LeftAnti left p q p
+  joined-left_anti : Joined LeftAnti left p q p
   unfolding join_fields
   joined-left_anti = record { asks = λ K L e k l. k }
 
-  pub joined-right_semi : Joined RightSemi left p q q
+  joined-right_semi : Joined RightSemi left p q q
   unfolding join_fields
   joined-right_semi = record { asks = λ K L e k l. l }
 
-  pub joined-right_anti : Joined RightAnti left p q q
+  joined-right_anti : Joined RightAnti left p q q
   unfolding join_fields
   joined-right_anti = record { asks = λ K L e k l. l }
+
+  -- a join that hands out the fields of one side
+  pub joined_own_left : {t : JoinType} → (t ≡ LeftSemi) ⊎ (t ≡ LeftAnti) → Joined t left p q p
+  joined_own_left (inl e) = rw e joined-left_semi
+  joined_own_left (inr e) = rw e joined-left_anti
+
+  pub joined_own_right : {t : JoinType} → (t ≡ RightSemi) ⊎ (t ≡ RightAnti) → Joined t left p q q
+  joined_own_right (inl e) = rw e joined-right_semi
+  joined_own_right (inr e) = rw e joined-right_anti
 
 module _ {left : ℕ} (fl fr : List Pair) {q : RequiredIndices} {Q : Mask} (e : left ≡ length fl) (a : Asks q Q) (l : length Q ≡ length fr) where
   both-few : length (fl ++ fr) ≤ words_n * 64 → set_of q * 2 ^ left < 2 ^ (words_n * 64)

@@ -17,12 +17,6 @@ then_fits {set = set} {kept} {width} e o =
     follow_fits width t.asks (omega (arith, t.few, t.wide))
 
 module _ {rest : Rest} {set kept input : RequiredIndices} where
-  pub kept-input : rest ≡ rests.Input → KeptBy rest set kept input input
-  kept-input e = record { asks = λ fs g K x l a. subst (Asks input) (sym (subst (λ t. RestBy fs g set kept t) e x K)) a }
-
-  pub kept-own : rest ≡ rests.Own → KeptBy rest set kept input kept
-  kept-own e = record { asks = λ fs g K x l a. let o = subst (λ t. RestBy fs g set kept t) e x in subst (Asks kept) (sym (o.is K)) o.asks }
-
   pub kept_then : {width : ℕ} {out : RequiredIndices} {b : Bool} → rest ≡ rests.InputThen width → Holds out (bit_or (set_of input) (set_of set * 2 ^ width)) b → KeptBy rest set kept input out
   kept_then {width} {out} e h = record {
     asks = λ fs g K x l a.

@@ -24,7 +24,7 @@ use Rattle.tree.proofs.Plans.{taken}
 use Rattle.lookup.specs.Fields.{first_at, row_at, width_at}
 use Rattle.lookup.proofs.Lists.{list_length}
 use Rattle.lookup.proofs.Standing.{row_is}
-use Rattle.key_sets.specs.Slots.{KeySet, SlotIn, node_slot, slot_at}
+use Rattle.key_sets.specs.Slots.{KeySet, node_slot, slot_at}
 use Rattle.requests.specs.Asked.{Below}
 use Rattle.requests.proofs.Rows.{row_below, set-fits}
 use Rattle.jobs.specs.Asked.{Asked}
@@ -64,10 +64,6 @@ module _ {cells rows fields widths keys : List ℕ} {node : Node} {k : ℕ} {r :
   pub parts : {n : Node} → node ≡ n → PartsOk arrays n
   parts e = (shown e).1
 
-  -- the node's number can be counted on
-  pub next_fits : k + 1 ≤ 256
-  next_fits = omega (arith, q.within, q.standing.tree.few)
-
   -- ── no input ──────────────────────────────────────────────────────────────────────────────
 
   module _ {n : Node} {h : Leaf} (e : node ≡ n) (p : head_of arrays n ≡ h0 h) where
@@ -106,10 +102,6 @@ module _ {cells rows fields widths keys : List ℕ} {node : Node} {k : ℕ} {r :
     one-fields : fields_n k ≡ unary_fields h (fields_n (k + 1))
     unfolding fields_of
     one-fields = ap (fields_of C) one_input_lem.plan
-
-    -- the slot of the input's key
-    pub one_slot : {slot : ℕ} → slot ≡ node_slot (k + 1) → SlotIn keys slot
-    one_slot e = omega (arith, e, one_input_lem.below, q.standing.tree.few, q.keyed.room)
 
     pub one_key : {slot : ℕ} {key : RequiredIndices} → slot ≡ node_slot (k + 1) → Holds key (slot_at keys slot) false → KeySet (set_of key) (key_of C (plan_at arrays (k + 1)))
     one_key e g = subst (λ s. KeySet s (key_of C (plan_at arrays (k + 1)))) (sym (g.set ∙ ap (slot_at keys) e)) (q.keyed.nodes_have.each (k + 1) (omega arith) one_input_lem.below)

@@ -24,7 +24,6 @@ use Rattle.required_indices.proofs.Methods.{below-asks, empty-mask, rest-asks}
 use Rattle.requests.specs.Asked.{Adds}
 use Rattle.result.specs.Result.{unary_part}
 use Rattle.jobs.specs.Job.{InputIs, Posed, ThenIs}
-use Rattle.jobs.specs.declared.Todo.{Todo}
 use Rattle.jobs.specs.declared.Todo.TheVariants as todos
 use Rattle.jobs.specs.declared.Rest.TheVariants as rests
 use Rattle.jobs.proofs.Plain.{asks-mask, job}

@@ -12,8 +12,6 @@ use Rattle.tree.specs.declared.Node.TheVariants.{Projection, Filter, Sort, Limit
 use Rattle.lookup.specs.Standing.{Standing}
 use Rattle.key_sets.specs.Slots.{keys_room}
 use Rattle.node_keys.specs.Keys.{NodeKeys}
-use Rattle.jobs.specs.declared.Kind.{Kind}
-use Rattle.jobs.specs.declared.Kind.TheVariants as kinds
 
 -- a node that is no Projection
 abbrev pub Other : Node → Type 0
@@ -29,10 +27,6 @@ Other Distinct = Unit {0}
 Other (Join j) = Unit {0}
 Other (Scan s) = Unit {0}
 Other (Empty b f n) = Unit {0}
-
-abbrev pub KindIs : Node → Kind → Type 0
-KindIs node (kinds.Projection f n) = node ≡ Projection f n
-KindIs node kinds.Other = Other node
 
 -- `keys` has the keys of all nodes of such a plan
 pub record AllKeys {cells rows nodes fields widths : List ℕ} (z : Standing cells rows nodes fields widths) (keys : List ℕ) : Type 0 where

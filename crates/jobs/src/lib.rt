@@ -17,11 +17,13 @@ ghost use Rattle.arena.specs.Rows.{items_at, RowsOk};
 ghost use Rattle.tree.specs.Node.{join_is};
 ghost use Rattle.tree.specs.Rows.{AggOk, AllAt, EachOk, KeyOk, OnOk, WinOk, aggs_at, keys_at, ons_at, win_size, wins_at};
 ghost use Rattle.tree.specs.Tree.{if?};
-ghost use Rattle.lookup.specs.Fields.{row_at};
-ghost use Rattle.requests.specs.Asked.{Below};
-ghost use Rattle.jobs.specs.Asked.{Asked, KindIs};
+ghost use Rattle.lookup.specs.Fields.{fields_of};
+ghost use Rattle.requests.specs.Asked.{SchemaBelow};
+ghost use Rattle.jobs.specs.Asked.{Asked};
 ghost use Rattle.jobs.specs.Job.{JobAt, Joinable, Joined, KeptBy, LeafJob, LeftBy, OneJob, Posed, PosedTwo, Sided, Through, TwoJob};
 
+use arena::Items;
+use lookup::Schema;
 use required_indices::RequiredIndices;
 use tree::{JoinNode, JoinType, Node};
 
@@ -56,41 +58,6 @@ pub struct Job {
     pub kept: RequiredIndices,
 }
 
-/// Is a node a Projection, with its rows, or one of those that have a job?
-#[derive(Clone, Copy)]
-pub enum Kind {
-    Projection { first: usize, n: usize },
-    Other,
-}
-
-/// A node's kind.
-pub fn kind_of(node: Node) -> Kind
-    ensures { KindIs node result }
-{
-    match node {
-        Node::Projection { first, n } => Kind::Projection { first, n },
-        Node::Filter { root: _ } => Kind::Other,
-        Node::Sort { first: _, n: _ } => Kind::Other,
-        Node::Limit { skip: _, fetch: _ } => Kind::Other,
-        Node::Aggregate {
-            first: _,
-            groups: _,
-            aggregates: _,
-        } => Kind::Other,
-        Node::Window { first: _, n: _ } => Kind::Other,
-        Node::SubqueryAlias { qualifier: _ } => Kind::Other,
-        Node::Union { right: _ } => Kind::Other,
-        Node::Distinct => Kind::Other,
-        Node::Join(_) => Kind::Other,
-        Node::Scan(_) => Kind::Other,
-        Node::Empty {
-            one_row: _,
-            first: _,
-            n: _,
-        } => Kind::Other,
-    }
-}
-
 /// One input, asked with `ask`, whose fields that are left are the node's.
 fn through(ask: RequiredIndices, topped: bool) -> Job
     ensures { Through ask topped result }
@@ -106,39 +73,30 @@ fn through(ask: RequiredIndices, topped: bool) -> Job
     }
 }
 
-/// A Filter's job. The input's fields are the `width` from field `start` on.
-fn filter_job(
-    r: RequiredIndices,
-    root: usize,
-    cells: &[u64],
-    fields: &[u16],
-    start: usize,
-    width: usize,
-) -> Job
+/// A Filter's job.
+fn filter_job(r: RequiredIndices, root: usize, cells: &[u64], input: &Schema) -> Job
     requires wf { Wf cells.now (root + 1) }
-    requires below { Below fields.now start width }
-    ensures { (key : List ℕ) → OneJob (filter (expr_at cells.now root)) key (row_at fields.now start width) r result }
+    requires below { SchemaBelow input.now }
+    ensures { (key : List ℕ) → OneJob (filter (expr_at cells.now root)) key (fields_of input.now) r result }
 {
-    let ask = requests::add_expr(r, cells, root, fields, start, width);
+    let ask = requests::add_expr(r, cells, root, input);
     through(ask.with_projection_beneficial(), true)
 }
 
-/// A Sort's job. Its n keys stand from row `first` on. The input's fields are the `width` from field `start` on.
+/// A Sort's job. Its n keys stand from row `first` on.
 fn sort_job(
     r: RequiredIndices,
     first: usize,
     n: usize,
     cells: &[u64],
     rows: &[u16],
-    fields: &[u16],
-    start: usize,
-    width: usize,
+    input: &Schema,
 ) -> Job
     requires each_ok { EachOk (KeyOk rows.now cells.now) rows.now first n }
-    requires below { Below fields.now start width }
-    ensures { (key : List ℕ) → OneJob (sort (keys_at rows.now cells.now first n)) key (row_at fields.now start width) r result }
+    requires below { SchemaBelow input.now }
+    ensures { (key : List ℕ) → OneJob (sort (keys_at rows.now cells.now first n)) key (fields_of input.now) r result }
 {
-    let ask = requests::with_roots(r, rows, first, n, 3, cells, fields, start, width);
+    let ask = requests::with_roots(r, rows, first, n, 3, cells, input);
     through(ask.with_projection_beneficial(), true)
 }
 
@@ -157,11 +115,11 @@ fn alias_job(r: RequiredIndices) -> Job
 }
 
 /// A Distinct's job. The input has `width` fields.
-fn distinct_job(r: RequiredIndices, fields: &[u16], start: usize, width: usize) -> Job
-    requires { Below fields.now start width }
-    ensures { (key : List ℕ) → OneJob distinct key (row_at fields.now start width) r result }
+fn distinct_job(r: RequiredIndices, input: &Schema) -> Job
+    requires { SchemaBelow input.now }
+    ensures { (key : List ℕ) → OneJob distinct key (fields_of input.now) r result }
 {
-    through(RequiredIndices::new_for_all_exprs(width), false)
+    through(RequiredIndices::new_for_all_exprs(input.width), false)
 }
 
 /// An Aggregate's job. Its `groups` group rows stand from row `first` on, its `aggregates` after them. All groups stay, unless the input's
@@ -175,21 +133,25 @@ fn aggregate_job(
     aggregates: usize,
     cells: &[u64],
     rows: &[u16],
-    fields: &[u16],
-    start: usize,
-    width: usize,
+    input: &Schema,
 ) -> Job
     requires rows_ok { RowsOk rows.now cells.now first groups }
     requires each_ok { EachOk (AggOk rows.now cells.now) rows.now (first + groups) aggregates }
-    requires below { Below fields.now start width }
-    requires posed { (R : Mask) × Posed (aggregate (items_at rows.now cells.now first groups) (aggs_at rows.now cells.now (first + groups) aggregates)) (row_at fields.now start width) r R }
-    ensures { (ks : List ℕ) → KeySet (set_of key) ks → OneJob (aggregate (items_at rows.now cells.now first groups) (aggs_at rows.now cells.now (first + groups) aggregates)) ks (row_at fields.now start width) r result }
+    requires below { SchemaBelow input.now }
+    requires posed { (R : Mask) × Posed (aggregate (items_at rows.now cells.now first groups) (aggs_at rows.now cells.now (first + groups) aggregates)) (fields_of input.now) r R }
+    ensures { (ks : List ℕ) → KeySet (set_of key) ks → OneJob (aggregate (items_at rows.now cells.now first groups) (aggs_at rows.now cells.now (first + groups) aggregates)) ks (fields_of input.now) r result }
 {
     let none = RequiredIndices::new();
     let split = r.split_off(groups);
     let asked = split.below;
     let set = split.rest;
-    let own = node_keys::kept_groups(key, asked, rows, first, groups, cells, fields, start, width);
+    let list = Items {
+        rows,
+        cells,
+        first,
+        count: groups,
+    };
+    let own = node_keys::kept_groups(key, asked, &list, input);
     let kept = own.followed_by(groups, set);
     if kept.is_empty() {
         return Job {
@@ -201,9 +163,9 @@ fn aggregate_job(
             kept,
         };
     }
-    let by = requests::with_items(none, rows, first, groups, cells, own, fields, start, width);
+    let by = requests::with_items(none, &list, own, input);
     let at = first + groups;
-    let ask = requests::with_aggregates(by, rows, at, aggregates, cells, set, fields, start, width);
+    let ask = requests::with_aggregates(by, rows, at, aggregates, cells, set, input);
     Job {
         todo: Todo::One { topped: true },
         rest: Rest::Own,
@@ -214,39 +176,37 @@ fn aggregate_job(
     }
 }
 
-/// A Window's job. Its n windows stand from row `first` on. The input's fields are the `width` from field `start` on.
+/// A Window's job. Its n windows stand from row `first` on.
 fn window_job(
     r: RequiredIndices,
     first: usize,
     n: usize,
     cells: &[u64],
     rows: &[u16],
-    fields: &[u16],
-    start: usize,
-    width: usize,
+    input: &Schema,
 ) -> Job
     requires all_at { AllAt (WinOk rows.now cells.now) (win_size rows.now) first n }
-    requires below { Below fields.now start width }
-    ensures { (key : List ℕ) → OneJob (window (wins_at rows.now cells.now first n)) key (row_at fields.now start width) r result }
+    requires below { SchemaBelow input.now }
+    ensures { (key : List ℕ) → OneJob (window (wins_at rows.now cells.now first n)) key (fields_of input.now) r result }
 {
     let none = RequiredIndices::new();
-    let split = r.split_off(width);
+    let split = r.split_off(input.width);
     let below = split.below;
     let set = split.rest;
     if set.is_empty() {
         return Job {
             todo: Todo::Same,
-            rest: Rest::InputThen { width },
+            rest: Rest::InputThen { width: input.width },
             ask: below,
             second: none,
             set,
             kept: none,
         };
     }
-    let ask = requests::with_windows(below, rows, first, n, cells, set, fields, start, width);
+    let ask = requests::with_windows(below, rows, first, n, cells, set, input);
     Job {
         todo: Todo::One { topped: true },
-        rest: Rest::InputThen { width },
+        rest: Rest::InputThen { width: input.width },
         ask,
         second: none,
         set,
@@ -265,14 +225,11 @@ fn join_kept(
     ensures { Joined join_type left a b result }
 {
     match join_type {
-        JoinType::Inner => a.followed_by(left, b),
-        JoinType::Left => a.followed_by(left, b),
-        JoinType::Right => a.followed_by(left, b),
-        JoinType::Full => a.followed_by(left, b),
-        JoinType::LeftSemi => a,
-        JoinType::LeftAnti => a,
-        JoinType::RightSemi => b,
-        JoinType::RightAnti => b,
+        JoinType::Inner | JoinType::Left | JoinType::Right | JoinType::Full => {
+            a.followed_by(left, b)
+        }
+        JoinType::LeftSemi | JoinType::LeftAnti => a,
+        JoinType::RightSemi | JoinType::RightAnti => b,
     }
 }
 
@@ -283,26 +240,19 @@ fn side_ask(
     j: JoinNode,
     cells: &[u64],
     rows: &[u16],
-    fields: &[u16],
-    start: usize,
-    width: usize,
+    input: &Schema,
 ) -> RequiredIndices
     requires each_ok { EachOk (OnOk rows.now cells.now) rows.now j.first j.n }
     requires wf { j.has_filter ≡ true → Wf cells.now (j.filter + 1) }
-    requires below { Below fields.now start width }
-    ensures { Sided (join_exprs (ons_at rows.now cells.now j.first j.n) (if? j.has_filter (expr_at cells.now j.filter))) (row_at fields.now start width) part result }
+    requires below { SchemaBelow input.now }
+    ensures { Sided (join_exprs (ons_at rows.now cells.now j.first j.n) (if? j.has_filter (expr_at cells.now j.filter))) (fields_of input.now) part result }
 {
-    let first = j.first;
-    let n = j.n;
-    let lefts = requests::with_roots(part, rows, first, n, 2, cells, fields, start, width);
-    let halves = requests::with_roots(lefts, rows, first, n, 3, cells, fields, start, width);
-    let has = j.has_filter;
-    if has {
-        let filter = j.filter;
-        let all = requests::add_expr(halves, cells, filter, fields, start, width);
-        return all.with_projection_beneficial();
+    let lefts = requests::with_roots(part, rows, j.first, j.n, 2, cells, input);
+    let mut all = requests::with_roots(lefts, rows, j.first, j.n, 3, cells, input);
+    if j.has_filter {
+        all = requests::add_expr(all, cells, j.filter, input);
     }
-    halves.with_projection_beneficial()
+    all.with_projection_beneficial()
 }
 
 /// A Join's job. Its left input's fields are the `width` from field `start` on, its right one's the `rwidth` from field `rstart` on.
@@ -311,32 +261,26 @@ fn join_job(
     j: JoinNode,
     cells: &[u64],
     rows: &[u16],
-    fields: &[u16],
-    start: usize,
-    width: usize,
-    rstart: usize,
-    rwidth: usize,
+    left: &Schema,
+    right: &Schema,
 ) -> Job
     requires each_ok { EachOk (OnOk rows.now cells.now) rows.now j.first j.n }
     requires wf { j.has_filter ≡ true → Wf cells.now (j.filter + 1) }
-    requires below { Below fields.now start width }
-    requires below_2 { Below fields.now rstart rwidth }
-    requires posed_two { (R : Mask) × PosedTwo (join (join_is j.join_type) (ons_at rows.now cells.now j.first j.n) (if? j.has_filter (expr_at cells.now j.filter))) (row_at fields.now start width) (row_at fields.now rstart rwidth) r R }
-    ensures { TwoJob (join (join_is j.join_type) (ons_at rows.now cells.now j.first j.n) (if? j.has_filter (expr_at cells.now j.filter))) (row_at fields.now start width) (row_at fields.now rstart rwidth) r j.right result }
+    requires below { SchemaBelow left.now }
+    requires below_2 { SchemaBelow right.now }
+    requires posed_two { (R : Mask) × PosedTwo (join (join_is j.join_type) (ons_at rows.now cells.now j.first j.n) (if? j.has_filter (expr_at cells.now j.filter))) (fields_of left.now) (fields_of right.now) r R }
+    ensures { TwoJob (join (join_is j.join_type) (ons_at rows.now cells.now j.first j.n) (if? j.has_filter (expr_at cells.now j.filter))) (fields_of left.now) (fields_of right.now) r j.right result }
 {
-    let join_type = j.join_type;
-    let right = j.right;
-    let split = requests::split_join_requirements(join_type, width, r);
-    let ask = side_ask(split.below, j, cells, rows, fields, start, width);
-    let second = side_ask(split.rest, j, cells, rows, fields, rstart, rwidth);
-    let kept = join_kept(join_type, width, ask, second);
-    let set = RequiredIndices::new();
+    let split = requests::split_join_requirements(j.join_type, left.width, r);
+    let ask = side_ask(split.below, j, cells, rows, left);
+    let second = side_ask(split.rest, j, cells, rows, right);
+    let kept = join_kept(j.join_type, left.width, ask, second);
     Job {
-        todo: Todo::Two { right },
+        todo: Todo::Two { right: j.right },
         rest: Rest::Own,
         ask,
         second,
-        set,
+        set: RequiredIndices::new(),
         kept,
     }
 }
@@ -346,13 +290,12 @@ fn union_job(r: RequiredIndices, right: usize) -> Job
     ensures { (fl fr : List Pair) → TwoJob union fl fr r right result }
 {
     let ask = r.with_projection_beneficial();
-    let set = RequiredIndices::new();
     Job {
         todo: Todo::Two { right },
         rest: Rest::Own,
         ask,
         second: ask,
-        set,
+        set: RequiredIndices::new(),
         kept: r,
     }
 }
@@ -405,13 +348,16 @@ pub fn job_at(
     ensures { JobAt cells.now rows.now fields.now widths.now keys.now node k r result }
 {
     let i = k + 1;
-    let s = lookup::first_at(widths, i);
-    let w = lookup::width_at(widths, i);
+    let input = Schema {
+        fields,
+        first: lookup::first_at(widths, i),
+        width: lookup::width_at(widths, i),
+    };
     match node {
-        Node::Projection { first: _, n: _ } => limit_job(r),
-        Node::Filter { root } => filter_job(r, root, cells, fields, s, w),
-        Node::Sort { first, n } => sort_job(r, first, n, cells, rows, fields, s, w),
-        Node::Limit { skip: _, fetch: _ } => limit_job(r),
+        Node::Projection { .. } => unreachable!(),
+        Node::Filter { root } => filter_job(r, root, cells, &input),
+        Node::Sort { first, n } => sort_job(r, first, n, cells, rows, &input),
+        Node::Limit { .. } => limit_job(r),
         Node::Aggregate {
             first,
             groups,
@@ -419,29 +365,22 @@ pub fn job_at(
         } => {
             let slot = key_sets::node_slot(i);
             let key = key_sets::key_at(keys, slot);
-            aggregate_job(r, key, first, groups, aggregates, cells, rows, fields, s, w)
+            aggregate_job(r, key, first, groups, aggregates, cells, rows, &input)
         }
-        Node::Window { first, n } => window_job(r, first, n, cells, rows, fields, s, w),
-        Node::SubqueryAlias { qualifier: _ } => alias_job(r),
+        Node::Window { first, n } => window_job(r, first, n, cells, rows, &input),
+        Node::SubqueryAlias { .. } => alias_job(r),
         Node::Union { right } => union_job(r, right),
-        Node::Distinct => distinct_job(r, fields, s, w),
-        Node::Join(j) => join_job(
-            r,
-            j,
-            cells,
-            rows,
-            fields,
-            s,
-            w,
-            lookup::first_at(widths, j.right),
-            lookup::width_at(widths, j.right),
-        ),
+        Node::Distinct => distinct_job(r, &input),
+        Node::Join(j) => {
+            let right = Schema {
+                fields,
+                first: lookup::first_at(widths, j.right),
+                width: lookup::width_at(widths, j.right),
+            };
+            join_job(r, j, cells, rows, &input, &right)
+        }
         Node::Scan(_) => scan_job(r),
-        Node::Empty {
-            one_row: _,
-            first: _,
-            n,
-        } => empty_job(r, n),
+        Node::Empty { n, .. } => empty_job(r, n),
     }
 }
 

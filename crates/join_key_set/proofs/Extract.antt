@@ -19,15 +19,15 @@ use Rattle.join_keys.specs.Flat.{equalities}
 use Rattle.join_key_set.specs.Pairs.{KeysOk, keys_at}
 use Rattle.join_key_set.specs.Answers.{Fills}
 use Rattle.join_key_set.specs.declared.JoinKeySet.{JoinKeySet}
-use Rattle.join_key_set.specs.declared.Filled.{Filled}
-use Rattle.join_key_set.specs.declared.Filled.TheVariants.{Set}
-use Rattle.join_key_set.proofs.Pairs.{keys-same, kept_less, kept_same, ok-none, ok_same}
+use Rattle.join_key_set.specs.declared.Pairs.{Pairs}
+use Rattle.std.specs.Prelude.{Result, Ok}
+use Rattle.join_key_set.proofs.Laws.{keys-same, kept_less, kept_same, ok-none}
 use Rattle.join_key_set.proofs.Sets.{fills_after, fills_same}
 
 -- an expression that is not looked into
 pub ret_leaf : (cells s : List ℕ) (set : JoinKeySet) (node : ℕ) (e : Expr) → KeysOk cells s set.start set.size → expr_at cells node ≡ e
     → extract_possible_join_keys e (keys_at cells s set.start set.size) ≡ some (keys_at cells s set.start set.size)
-    → Fills (extract_possible_join_keys (expr_at cells node) (keys_at cells s set.start set.size)) cells s set.start (set.size + equalities (expr_at cells node)) (Set set) s
+    → Fills (extract_possible_join_keys (expr_at cells node) (keys_at cells s set.start set.size)) cells s set.start (set.size + equalities (expr_at cells node)) (Ok set) s
 ret_leaf cells s set node e k v h = fills_same set k (ap (λ f. extract_possible_join_keys f (keys_at cells s set.start set.size)) v ∙ h) (omega arith)
 
 other_op : (o : Op2) (t : ℕ) (a b : Expr) (s : keys.JoinKeySet) → op2_tag o ≡ t → (t ≡ 8 → ⊥) → (t ≡ 10 → ⊥) → (t ≡ 11 → ⊥) → extract_possible_join_keys (bin o a b) s ≡ some s
@@ -45,14 +45,14 @@ abbrev pub Ask : (cells s : List ℕ) (set : JoinKeySet) (node : ℕ) → Type 0
 Ask cells s set node = Wf cells (node + 1) × (KeysOk cells s set.start set.size × ((set.start + set.size + equalities (expr_at cells node)) * 2 ≤ length s))
 
 -- what it answers
-abbrev pub Done : (cells s : List ℕ) (set : JoinKeySet) (node : ℕ) → Filled → List ℕ → Type 0
+abbrev pub Done : (cells s : List ℕ) (set : JoinKeySet) (node : ℕ) → Result JoinKeySet Pairs → List ℕ → Type 0
 Done cells s set node r s' = Fills (extract_possible_join_keys (expr_at cells node) (keys_at cells s set.start set.size)) cells s set.start (set.size + equalities (expr_at cells node)) r s'
 
 module _ (m : ℕ) (cells s : List ℕ) (set : JoinKeySet) (node t x y : ℕ) (g : (node ≡ m) × Ask cells s set node) (v : HasTwo cells node t x y) where
   two : (k : ℕ) → t ≡ k → expr_at cells node ≡ bin (op2_of k) (expr_at cells x) (expr_at cells y)
   two k h = v.means ∙ ap (λ n. bin (op2_of n) (expr_at cells x) (expr_at cells y)) h
 
-  pub ret_other : (t ≡ 8 → ⊥) → (t ≡ 10 → ⊥) → (t ≡ 11 → ⊥) → Done cells s set node (Set set) s
+  pub ret_other : (t ≡ 8 → ⊥) → (t ≡ 10 → ⊥) → (t ≡ 11 → ⊥) → Done cells s set node (Ok set) s
   ret_other a b c = ret_leaf cells s set node _ g.1.1.0 v.means (other_op (op2_of t) t _ _ _ (op2-tag t v.least v.most) a b c)
 
   pub wf_x : Wf cells (x + 1)
@@ -71,7 +71,7 @@ module _ (m : ℕ) (cells s : List ℕ) (set : JoinKeySet) (node t x y : ℕ) (g
     pub ask_eq : KeysOk cells s set.start set.size × ((Wf cells (x + 1) × Wf cells (y + 1)) × ((set.start + set.size + 1) * 2 ≤ length s))
     ask_eq = (g.1.1.0, ((wf_x, wf-y), omega (arith, g.1.1.1, one)))
 
-    pub ret_eq : (r : Filled) (s' : List ℕ) → Fills (insert (expr_at cells x) (expr_at cells y) (keys_at cells s set.start set.size)) cells s set.start (set.size + 1) r s' → Done cells s set node r s'
+    pub ret_eq : (r : Result JoinKeySet Pairs) (s' : List ℕ) → Fills (insert (expr_at cells x) (expr_at cells y) (keys_at cells s set.start set.size)) cells s set.start (set.size + 1) r s' → Done cells s set node r s'
     unfolding extract_possible_join_keys op2_of
     ret_eq r s' f = fills_after cells r s' (ap (λ e. extract_possible_join_keys e (keys_at cells s set.start set.size)) (two 8 h)) (kept_refl _ s) refl (omega (arith, one)) f
 
@@ -89,11 +89,11 @@ module _ (m : ℕ) (cells s : List ℕ) (set : JoinKeySet) (node t x y : ℕ) (g
     unfolding extract_possible_join_keys op2_of
     none-and n = ap (λ e. extract_possible_join_keys e (keys_at cells s set.start set.size)) (two 10 h) ∙ rw n
 
-    module _ (more : JoinKeySet) (s₁ : List ℕ) (d : Done cells s set x (Set more) s₁) where
+    module _ (more : JoinKeySet) (s₁ : List ℕ) (d : Done cells s set x (Ok more) s₁) where
       pub ask-and-right : (y < m) × Ask cells s₁ more y
       ask-and-right = (omega (arith, v.second, g.0), (wf-y, (rw d.starts d.ok, omega (arith, g.1.1.1, sum, d.few, d.starts, d.kept.long))))
 
-      pub ret_and : (r : Filled) (s₂ : List ℕ) → Done cells s₁ more y r s₂ → Done cells s set node r s₂
+      pub ret_and : (r : Result JoinKeySet Pairs) (s₂ : List ℕ) → Done cells s₁ more y r s₂ → Done cells s set node r s₂
       unfolding extract_possible_join_keys op2_of
       ret_and r s₂ f =
           fills_after cells r s₂
@@ -121,10 +121,7 @@ module _ (m : ℕ) (cells s : List ℕ) (set : JoinKeySet) (node t x y : ℕ) (g
     unfolding extract_possible_join_keys op2_of
     none_left n = ap (λ e. extract_possible_join_keys e (keys_at cells s set.start set.size)) (two 11 h) ∙ rw (ap (extract_possible_join_keys (expr_at cells x)) (sym (empty s left el.1)) ∙ n)
 
-    pub left-room : (ls : JoinKeySet) (s₁ : List ℕ) → Done cells s left x (Set ls) s₁ → (ls.start + ls.size) * 2 ≤ length s
-    left-room ls s₁ d = omega (arith, d.ok.room, d.starts, d.kept.long)
-
-    module _ (ls : JoinKeySet) (s₁ : List ℕ) (d : Done cells s left x (Set ls) s₁) (right : JoinKeySet) (er : (right.start ≡ ls.start + ls.size) × (right.size ≡ 0)) where
+    module _ (ls : JoinKeySet) (s₁ : List ℕ) (d : Done cells s left x (Ok ls) s₁) (right : JoinKeySet) (er : (right.start ≡ ls.start + ls.size) × (right.size ≡ 0)) where
       gives_left : extract_possible_join_keys (expr_at cells x) [] ≡ some (keys_at cells s₁ ls.start ls.size)
       gives_left = ap (extract_possible_join_keys (expr_at cells x)) (sym (empty s left el.1)) ∙ (d.is ∙ ap (λ n. some (keys_at cells s₁ n ls.size)) (sym d.starts))
 
@@ -138,7 +135,7 @@ module _ (m : ℕ) (cells s : List ℕ) (set : JoinKeySet) (node t x y : ℕ) (g
       unfolding extract_possible_join_keys op2_of
       none_right n = ap (λ e. extract_possible_join_keys e (keys_at cells s set.start set.size)) (two 11 h) ∙ rw (gives_left, ap (extract_possible_join_keys (expr_at cells y)) (sym (empty s₁ right er.1)) ∙ n)
 
-      module _ (rs : JoinKeySet) (s₂ : List ℕ) (f : Done cells s₁ right y (Set rs) s₂) where
+      module _ (rs : JoinKeySet) (s₂ : List ℕ) (f : Done cells s₁ right y (Ok rs) s₂) where
         kept₁ : Kept ((set.start + set.size) * 2) s s₁
         kept₁ = kept_less (omega (arith, el.0)) d.kept
 
@@ -151,16 +148,7 @@ module _ (m : ℕ) (cells s : List ℕ) (set : JoinKeySet) (node t x y : ℕ) (g
         gives-right : extract_possible_join_keys (expr_at cells y) [] ≡ some (keys_at cells s₂ rs.start rs.size)
         gives-right = ap (extract_possible_join_keys (expr_at cells y)) (sym (empty s₁ right er.1)) ∙ (f.is ∙ ap (λ n. some (keys_at cells s₂ n rs.size)) (sym f.starts))
 
-        pub ask_common : KeysOk cells s₂ set.start set.size × (KeysOk cells s₂ ls.start ls.size × (KeysOk cells s₂ rs.start rs.size × ((set.start + set.size ≤ ls.start) × (ls.start + ls.size ≤ rs.start))))
-        ask_common = (
-          ok_same cells s s₂ set.start set.size kept.long (kept_same set.start set.size (set.start + set.size) (omega arith) kept) g.1.1.0,
-          (
-            ok_same cells s₁ s₂ ls.start ls.size kept₂.long (kept_same ls.start ls.size (ls.start + ls.size) (omega arith) kept₂) (rw d.starts d.ok),
-            (rw f.starts f.ok, (omega (arith, d.starts, el.0), omega (arith, f.starts, er.0))),
-          ),
-        )
-
-        pub ret_or : (r : Filled) (s₃ : List ℕ)
+        pub ret_or : (r : Result JoinKeySet Pairs) (s₃ : List ℕ)
             → Fills (insert_intersection (keys_at cells s₂ ls.start ls.size) (keys_at cells s₂ rs.start rs.size) (keys_at cells s₂ set.start set.size)) cells s₂ set.start (set.size + ls.size) r s₃
             → Done cells s set node r s₃
         unfolding extract_possible_join_keys op2_of

@@ -4,7 +4,6 @@ use mathlib.Core.List.{List, [], ◌∷◌}
 use mathlib.Core.Option.{Option, none, some}
 use Prim.Native.Nat.{ℕ, ◌+◌, ◌*◌, ◌<◌, ◌≤◌}
 use native.Mathlib.Omega.{arith}
-use lib.ListN.{length}
 use Rattle.cpl.specs.Plan.{Expr, on}
 use Rattle.arena.specs.Cells.{Wf, expr_at}
 use Rattle.arena.specs.Kept.{Kept}
@@ -14,8 +13,8 @@ use Rattle.join_keys.specs.Keys.{◌and_then◌, insert, insert_all, insert_inte
 use Rattle.join_key_set.specs.Pairs.{Behind, KeyIs, KeysIn, KeysOk, keys_at}
 use Rattle.join_key_set.specs.Answers.{Fills, insert_common}
 use Rattle.join_key_set.specs.declared.JoinKeySet.{JoinKeySet}
-use Rattle.join_key_set.specs.declared.Filled.TheVariants.{Set}
-use Rattle.join_key_set.proofs.Pairs.{behind-refl, behind-same, keys-same, ok_same, read_key_lem, read_wf, rest, rest_all, rest-next, rest-none}
+use Rattle.std.specs.Prelude.{Ok}
+use Rattle.join_key_set.proofs.Laws.{behind-refl, behind-same, keys-same, ok_same, read_key_lem, read_wf, rest, rest_all, rest-next, rest-none}
 
 -- G works pairs into a set by the step st
 pub record Folds (G : (pairs set : keys.JoinKeySet) → Option keys.JoinKeySet) (st : (left right : Expr) → keys.JoinKeySet → Option keys.JoinKeySet) : Type 0 where
@@ -54,7 +53,7 @@ work_none G cells s set first count k = record {
 
 module _ {o : Option keys.JoinKeySet} {G : (pairs set : keys.JoinKeySet) → Option keys.JoinKeySet} {cells s₀ : List ℕ} {start size first count i : ℕ} {set : JoinKeySet} {s : List ℕ}
     (w : Work o G cells s₀ start size first count i set s) where
-  pub work_all : {st : (left right : Expr) → keys.JoinKeySet → Option keys.JoinKeySet} → Folds G st → count ≤ i → Fills o cells s₀ start (size + count) (Set set) s
+  pub work_all : {st : (left right : Expr) → keys.JoinKeySet → Option keys.JoinKeySet} → Folds G st → count ≤ i → Fills o cells s₀ start (size + count) (Ok set) s
   work_all f h = record {
     starts = w.starts;
     is = w.is ∙ (ap (λ ks. G ks (keys_at cells s start set.size)) (rest-none cells s₀ first count i h) ∙ f.done _);
@@ -62,9 +61,6 @@ module _ {o : Option keys.JoinKeySet} {G : (pairs set : keys.JoinKeySet) → Opt
     ok = w.ok;
     kept = w.kept;
   }
-
-  pub work_ok : KeysOk cells s set.start set.size
-  work_ok = rw w.starts w.ok
 
   -- a set behind the pairs that were worked in
   module _ (f n : ℕ) (h : first + i ≤ f) where
@@ -75,12 +71,6 @@ module _ {o : Option keys.JoinKeySet} {G : (pairs set : keys.JoinKeySet) → Opt
     work_keys = keys-same cells s₀ s f n (behind-same f n (first + i) s₀ s h w.behind)
 
   module _ (k : KeysOk cells s₀ first count) (h : i < count) where
-    pub work_inside : (first + i) * 2 + 1 < length s
-    work_inside = omega (arith, k.room, w.kept.long)
-
-    pub work_room : start + size ≤ first → (set.start + set.size + 1) * 2 ≤ length s
-    work_room d = omega (arith, k.room, w.kept.long, w.few, w.starts)
-
     -- the pair that is next
     module _ {l r : ℕ} (e : KeyIs s (first + i) l r) where
       old : KeyIs s₀ (first + i) l r
@@ -104,7 +94,7 @@ module _ {o : Option keys.JoinKeySet} {G : (pairs set : keys.JoinKeySet) → Opt
         work_65th n = next ∙ ap (◌and_then (λ t. G (rest cells s₀ first count (i + 1)) t)) n
 
         pub work_more : {more : JoinKeySet} {s' : List ℕ} → start + size ≤ first
-            → Fills (st (expr_at cells l) (expr_at cells r) (keys_at cells s set.start set.size)) cells s set.start (set.size + 1) (Set more) s'
+            → Fills (st (expr_at cells l) (expr_at cells r) (keys_at cells s set.start set.size)) cells s set.start (set.size + 1) (Ok more) s'
             → Behind ((set.start + set.size + 1) * 2) s s' → Work o G cells s₀ start size first count (i + 1) more s'
         unfolding Behind
         work_more {more} {s'} d g b =

@@ -1,5 +1,5 @@
 -- What the proofs of several functions use.
-pub mod Pairs
+pub mod Laws
 pub mod Sets
 pub mod Fold
 pub mod Extract

@@ -16,17 +16,19 @@ use Rattle.arena.specs.Kept.{Kept}
 use Rattle.arena.specs.View.{HasTwo}
 use Rattle.arena.proofs.Kept.{kept_expr, kept_refl, kept_trans}
 use Rattle.arena.proofs.Laws.{at_two, op2-tag, wf_less}
-use Rattle.arena_build.specs.Build.{put_node}
+use Rattle.arena.specs.declared.Full.{Full}
+use Rattle.arena_build.specs.Build.{Pushed, Stored, put_node}
+use Rattle.arena_build.specs.declared.Built.{Built}
 use Rattle.arena_build.proofs.Grow.{put_kept, put_tag, put_wf, put_x, put_y}
 use Rattle.join_keys.specs.Keys as keys
 use Rattle.join_keys.specs.Keys.{contains}
 use Rattle.join_keys.specs.Remove.{left_of_and, left_of_or, remove_join_expressions}
 use Rattle.join_key_set.specs.Pairs.{KeysIn, KeysOk, key_at, keys_at, left_at, right_at}
-use Rattle.join_key_set.specs.Answers.{Leaves, Rest, first_alone, joints}
+use Rattle.join_key_set.specs.Answers.{LeavesNode, Rest, first_alone, joints}
 use Rattle.join_key_set.specs.declared.JoinKeySet.{JoinKeySet}
-use Rattle.join_key_set.specs.declared.Left.{Left}
-use Rattle.join_key_set.specs.declared.Left.TheVariants.{Nothing, Node}
-use Rattle.join_key_set.proofs.Pairs.{in_ok}
+use Rattle.std.specs.Prelude as std
+use Rattle.std.specs.Prelude.{Some, None, Result, Ok, Err, IsOk}
+use Rattle.join_key_set.proofs.Laws.{in_ok}
 
 -- ── nodes that are kept ─────────────────────────────────────────────────────────────────────
 
@@ -107,14 +109,14 @@ and_none (some a) r e = ap (left_of_and (some a)) e
 abbrev pub Ask : (cells : List ℕ) (used node : ℕ) (s : List ℕ) (set : JoinKeySet) → Type 0
 Ask cells used node s set = (Wf cells used × (node < used)) × (KeysIn used s set.start set.size × ((used + joints (expr_at cells node)) * 3 ≤ length cells))
 
-abbrev pub Done : (cells : List ℕ) (used node : ℕ) (s : List ℕ) (set : JoinKeySet) → Left → List ℕ → Type 0
-Done cells used node s set r cells' = Leaves (remove_join_expressions (keys_at cells s set.start set.size) (expr_at cells node)) cells used (joints (expr_at cells node)) r cells'
+abbrev pub Done : (cells : List ℕ) (used node : ℕ) (s : List ℕ) (set : JoinKeySet) → std.Option ℕ → (more : ℕ) → List ℕ → Type 0
+Done cells used node s set r more cells' = LeavesNode (remove_join_expressions (keys_at cells s set.start set.size) (expr_at cells node)) cells used (joints (expr_at cells node)) more r cells'
 
 -- what was done after something else
-leaves_after : {o o' : Option Expr} {cells cells₁ : List ℕ} {used more : ℕ} (most most' : ℕ) (r : Left) (cells₂ : List ℕ) → o ≡ o' → Kept (used * 3) cells cells₁ → used ≤ more → more + most' ≤ used + most
-    → Leaves o' cells₁ more most' r cells₂ → Leaves o cells used most r cells₂
-leaves_after most most' (Nothing n) cells₂ e k h l g = record { is = e ∙ g.is; kept = kept_trans (omega arith) k g.kept; grown = omega (arith, g.grown); few = omega (arith, g.few); wf = g.wf }
-leaves_after most most' (Node i n) cells₂ e k h l g =
+leaves_after : {o o' : Option Expr} {cells cells₁ : List ℕ} {used more : ℕ} (most most' : ℕ) (r : std.Option ℕ) (n : ℕ) (cells₂ : List ℕ) → o ≡ o' → Kept (used * 3) cells cells₁ → used ≤ more → more + most' ≤ used + most
+    → LeavesNode o' cells₁ more most' n r cells₂ → LeavesNode o cells used most n r cells₂
+leaves_after most most' None n cells₂ e k h l g = record { is = e ∙ g.is; kept = kept_trans (omega arith) k g.kept; grown = omega (arith, g.grown); few = omega (arith, g.few); wf = g.wf }
+leaves_after most most' (Some i) n cells₂ e k h l g =
     (g.0, record { is = e ∙ g.1.is; kept = kept_trans (omega arith) k g.1.kept; grown = omega (arith, g.1.grown); few = omega (arith, g.1.few); wf = g.1.wf })
 
 module _ (cells : List ℕ) (used node : ℕ) (s : List ℕ) (set : JoinKeySet) (g : Ask cells used node s set) where
@@ -122,7 +124,7 @@ module _ (cells : List ℕ) (used node : ℕ) (s : List ℕ) (set : JoinKeySet) 
   ask-node = wf_less cells (node + 1) used (omega (arith, g.0.1)) g.0.0
 
   -- an expression that stays as it is
-  pub ret_stay : (e : Expr) → expr_at cells node ≡ e → remove_join_expressions (keys_at cells s set.start set.size) e ≡ some e → Done cells used node s set (Node node used) cells
+  pub ret_stay : (e : Expr) → expr_at cells node ≡ e → remove_join_expressions (keys_at cells s set.start set.size) e ≡ some e → Done cells used node s set (Some node) used cells
   ret_stay e v h = (
     g.0.1,
     record {
@@ -141,7 +143,7 @@ module _ (m : ℕ) (cells : List ℕ) (used node : ℕ) (s : List ℕ) (set : Jo
   is-tag : op2_tag (op2_of t) ≡ t
   is-tag = op2-tag t v.least v.most
 
-  pub stay_other : t < 10 → (t ≡ 8 → ⊥) → Done cells used node s set (Node node used) cells
+  pub stay_other : t < 10 → (t ≡ 8 → ⊥) → Done cells used node s set (Some node) used cells
   stay_other h n = ret_stay cells used node s set g.1 _ v.means (stays_op (op2_of t) _ _ _ (omega (arith, is-tag)) (λ e. n (sym is-tag ∙ e)))
 
   -- ── an equality ───────────────────────────────────────────────────────────────────────────
@@ -153,7 +155,7 @@ module _ (m : ℕ) (cells : List ℕ) (used node : ℕ) (s : List ℕ) (set : Jo
   )
 
   module _ (h : t ≡ 8) {b : Bool} (e : b ≡ contains (keys_at cells s set.start set.size) (expr_at cells x) (expr_at cells y)) where
-    pub gone_eq : b ≡ true → Done cells used node s set (Nothing used) cells
+    pub gone_eq : b ≡ true → Done cells used node s set None used cells
     unfolding remove_join_expressions op2_of
     gone_eq k = record {
       is = ap (remove_join_expressions (keys_at cells s set.start set.size)) (two 8 h) ∙ rw (sym e ∙ k);
@@ -163,7 +165,7 @@ module _ (m : ℕ) (cells : List ℕ) (used node : ℕ) (s : List ℕ) (set : Jo
       wf = g.1.0.0;
     }
 
-    pub stay_eq : b ≡ false → Done cells used node s set (Node node used) cells
+    pub stay_eq : b ≡ false → Done cells used node s set (Some node) used cells
     unfolding remove_join_expressions op2_of
     stay_eq k = ret_stay cells used node s set g.1 _ (two 8 h) (rw (sym e ∙ k))
 
@@ -207,8 +209,8 @@ module _ (m : ℕ) (cells : List ℕ) (used node : ℕ) (s : List ℕ) (set : Jo
     or_is e = ap (remove_join_expressions (keys_at cells s set.start set.size)) (two 11 e)
 
     -- nothing is left of the first
-    module _ {more : ℕ} {cells₁ : List ℕ} (d : Done cells used x s set (Nothing more) cells₁) where
-      pub or_gone : t ≡ 11 → Done cells used node s set (Nothing more) cells₁
+    module _ {more : ℕ} {cells₁ : List ℕ} (d : Done cells used x s set None more cells₁) where
+      pub or_gone : t ≡ 11 → Done cells used node s set None more cells₁
       unfolding left_of_or
       or_gone e = record {
         is = or_is e ∙ ap (λ o. left_of_or o (remove_join_expressions (keys_at cells s set.start set.size) (expr_at cells y))) d.is;
@@ -218,20 +220,20 @@ module _ (m : ℕ) (cells : List ℕ) (used node : ℕ) (s : List ℕ) (set : Jo
         wf = d.wf;
       }
 
-      pub and_right : (t ≡ 11 → ⊥) → (r : Left) (cells₂ : List ℕ) → Done cells₁ more y s set r cells₂ → Done cells used node s set r cells₂
+      pub and_right : (t ≡ 11 → ⊥) → (r : std.Option ℕ) (k : ℕ) (cells₂ : List ℕ) → Done cells₁ more y s set r k cells₂ → Done cells used node s set r k cells₂
       unfolding left_of_and
-      and_right n r cells₂ f =
-          leaves_after (joints (expr_at cells node)) (joints (expr_at cells₁ y)) r cells₂ (and_is (ten n) ∙ (ap (λ o. left_of_and o (remove_join_expressions (keys_at cells s set.start set.size) (expr_at cells y))) d.is ∙ sym (right_is d)))
+      and_right n r k cells₂ f =
+          leaves_after (joints (expr_at cells node)) (joints (expr_at cells₁ y)) r k cells₂ (and_is (ten n) ∙ (ap (λ o. left_of_and o (remove_join_expressions (keys_at cells s set.start set.size) (expr_at cells y))) d.is ∙ sym (right_is d)))
           d.kept d.grown (omega (arith, d.few, sum, ap joints (same-y d))) f
 
     -- a node is left of the first
-    module _ {l more : ℕ} {cells₁ : List ℕ} (d : Done cells used x s set (Node l more) cells₁) where
+    module _ {l more : ℕ} {cells₁ : List ℕ} (d : Done cells used x s set (Some l) more cells₁) where
       few₂ : {most : ℕ} → most ≤ more + joints (expr_at cells₁ y) → most < used + joints (expr_at cells node)
       few₂ q = omega (arith, d.1.few, sum, ap joints (same-y d.1))
 
       -- nothing of the second
-      module _ {most : ℕ} {cells₂ : List ℕ} (f : Done cells₁ more y s set (Nothing most) cells₂) where
-        or_gone_2 : t ≡ 11 → Done cells used node s set (Nothing most) cells₂
+      module _ {most : ℕ} {cells₂ : List ℕ} (f : Done cells₁ more y s set None most cells₂) where
+        or_gone_2 : t ≡ 11 → Done cells used node s set None most cells₂
         or_gone_2 e = record {
           is = or_is e ∙ or_none _ _ (sym (right_is d.1) ∙ f.is);
           kept = kept_trans (omega (arith, d.1.grown)) d.1.kept f.kept;
@@ -240,7 +242,7 @@ module _ (m : ℕ) (cells : List ℕ) (used node : ℕ) (s : List ℕ) (set : Jo
           wf = f.wf;
         }
 
-        and_left : (t ≡ 11 → ⊥) → Done cells used node s set (Node l most) cells₂
+        and_left : (t ≡ 11 → ⊥) → Done cells used node s set (Some l) most cells₂
         and_left n = (
           omega (arith, d.0, f.grown),
           record {
@@ -252,24 +254,28 @@ module _ (m : ℕ) (cells : List ℕ) (used node : ℕ) (s : List ℕ) (set : Jo
           },
         )
 
-        pub first_is : (r : Left) → r ≡ first_alone t l most → Done cells used node s set r cells₂
+        pub first_is : (r : std.Option ℕ) → r ≡ first_alone t l → Done cells used node s set r most cells₂
         unfolding first_alone
-        first_is r e = subst⁻¹ (λ q. Done cells used node s set q cells₂) e (go (eqb t 11) refl)
+        first_is r e = subst⁻¹ (λ q. Done cells used node s set q most cells₂) e (go (eqb t 11) refl)
           where
-            go : (b : Bool) → eqb t 11 ≡ b → Done cells used node s set (cond b (Nothing most) (Node l most)) cells₂
+            go : (b : Bool) → eqb t 11 ≡ b → Done cells used node s set (cond b None (Some l)) most cells₂
             go true k = or_gone_2 (eqb-true t 11 k)
             go false k = and_left (λ n. true≢false (sym (eq-eqb t 11 n) ∙ k))
 
       -- a node of each
-      module _ {r most : ℕ} {cells₂ : List ℕ} (f : Done cells₁ more y s set (Node r most) cells₂) where
-        pub put_room : most * 3 + 2 < length cells
+      module _ {r most : ℕ} {cells₂ : List ℕ} (f : Done cells₁ more y s set (Some r) most cells₂) where
+        put_room : most * 3 + 2 < length cells
         put_room = omega (arith, few₂ f.1.few, g.1.1.1)
 
-        pub ask_put : most * 3 + 2 < length cells₂
+        ask_put : most * 3 + 2 < length cells₂
         ask_put = omega (arith, put_room, d.1.kept.long, f.1.kept.long)
 
-        pub put_both : (cells₃ : List ℕ) → cells₃ ≡ put_node cells₂ most t l r → Done cells used node s set (Node most (most + 1)) cells₃
-        put_both cells₃ e = rw e (
+        pub put_fits : (b : Result Built Full) (cells₃ : List ℕ) → Pushed cells₂ most t l r b cells₃ → IsOk b
+        put_fits (Ok b) cells₃ w = refl
+        put_fits (Err e) cells₃ w = absurd (omega (arith, w.full, ask_put))
+
+        pub put_both : (b : Built) (cells₃ : List ℕ) → Stored cells₂ most t l r b.node b.used cells₃ → Done cells used node s set (Some b.node) b.used cells₃
+        put_both b cells₃ w = rw (w.node_is, w.more_is, w.stored) (
           omega arith,
           record {
             is = whole;

@@ -1,6 +1,6 @@
 -- The laws of one set: a pair that is looked for, and a pair that is inserted. Assumes nothing.
 use mathlib.Core.Path.{◌≡◌, refl, sym, ap, ap₂, subst⁻¹, ◌∙◌}
-use mathlib.Core.Bool.{Bool, true, false, cond, decide, ◌&&◌, ◌||◌}
+use mathlib.Core.Bool.{Bool, true, false, cond, ◌||◌}
 use mathlib.Core.List.{List, ◌∷◌}
 use mathlib.Core.Option.{Option, none, some}
 use Prim.Native.Nat.{ℕ, ◌+◌, ◌*◌, ◌<◌, ◌≤◌}
@@ -9,7 +9,6 @@ use borrow.Author.Tests.{le-ltb, lt-ltb}
 use lib.ListN.{length}
 use Rattle.cpl.specs.Plan.{Expr, On, on}
 use Rattle.cpl.specs.Tests.{any_b}
-use Rattle.rules.specs.Merge.{expr_d}
 use Rattle.arena.specs.Cells.{Wf, expr_at}
 use Rattle.arena.specs.Kept.{Kept}
 use Rattle.arena.proofs.Kept.{kept_refl, kept_trans}
@@ -18,20 +17,9 @@ use Rattle.join_keys.specs.Keys.{contains, added, insert, is_pair}
 use Rattle.join_key_set.specs.Pairs.{KeyIs, KeysOk, key_at, keys_at, put_key}
 use Rattle.join_key_set.specs.Answers.{Fills, insert_common}
 use Rattle.join_key_set.specs.declared.JoinKeySet.{JoinKeySet}
-use Rattle.join_key_set.specs.declared.Filled.{Filled}
-use Rattle.join_key_set.specs.declared.Filled.TheVariants.{Set, Pairs}
-use Rattle.join_key_set.proofs.Pairs.{keys_length, kept_less, put_below, put_keys, put_ok, read_key_lem, rest, rest_all, rest-next, rest-none}
-
--- ── is it the pair? ─────────────────────────────────────────────────────────────────────────
-
-module _ (l r a b : Expr) {x : Bool} (e : x ≡ decide (expr_d l a)) where
-  pub pair-both : {y : Bool} → x ≡ true → y ≡ decide (expr_d r b) → y ≡ is_pair l r (on a b)
-  unfolding is_pair
-  pair-both h g = g ∙ ap (◌&& decide (expr_d r b)) (sym h ∙ e)
-
-  pub pair-not : x ≡ false → false ≡ is_pair l r (on a b)
-  unfolding is_pair
-  pair-not h = ap (◌&& decide (expr_d r b)) (sym h ∙ e)
+use Rattle.join_key_set.specs.declared.Pairs.{Pairs}
+use Rattle.std.specs.Prelude.{Result, Ok, Err}
+use Rattle.join_key_set.proofs.Laws.{keys_length, kept_less, put_below, put_keys, put_ok, read_key_lem, rest, rest-next, rest-none}
 
 -- ── a pair that is looked for ───────────────────────────────────────────────────────────────
 
@@ -52,9 +40,6 @@ pub record Sought (cells s : List ℕ) (f n : ℕ) (l r : Expr) (i : ℕ) : Type
   pub same : contains (rest cells s f n i) l r ≡ contains (keys_at cells s f n) l r
 
 module _ (cells s : List ℕ) (f n : ℕ) (l r : Expr) where
-  pub sought_none : Sought cells s f n l r 0
-  sought_none = record { upto = omega arith; same = ap (λ ks. contains ks l r) (rest_all cells s f n) }
-
   pub sought_all : (i : ℕ) → Sought cells s f n l r i → n ≤ i → false ≡ contains (keys_at cells s f n) l r
   unfolding contains any_b
   sought_all i p h = sym (ap (λ ks. contains ks l r) (rest-none cells s f n i h)) ∙ p.same
@@ -84,31 +69,31 @@ module _ (cells s : List ℕ) (f n : ℕ) (l r : Expr) where
 
 -- a set that stays as it is
 pub fills_same : {o : Option keys.JoinKeySet} {cells s : List ℕ} {most : ℕ} (set : JoinKeySet) → KeysOk cells s set.start set.size → o ≡ some (keys_at cells s set.start set.size) → set.size ≤ most
-    → Fills o cells s set.start most (Set set) s
+    → Fills o cells s set.start most (Ok set) s
 fills_same set k e h = record { starts = refl; is = e; few = h; ok = k; kept = kept_refl _ _ }
 
 -- what was done after something else
-pub fills_after : {o o' : Option keys.JoinKeySet} (cells : List ℕ) {s s₁ : List ℕ} {start start' most most' : ℕ} (r : Filled) (s₂ : List ℕ) → o ≡ o' → Kept (start * 2) s s₁ → start' ≡ start → most' ≤ most
+pub fills_after : {o o' : Option keys.JoinKeySet} (cells : List ℕ) {s s₁ : List ℕ} {start start' most most' : ℕ} (r : Result JoinKeySet Pairs) (s₂ : List ℕ) → o ≡ o' → Kept (start * 2) s s₁ → start' ≡ start → most' ≤ most
     → Fills o' cells s₁ start' most' r s₂ → Fills o cells s start most r s₂
-fills_after cells (Set set) s₂ e k h l g = record {
+fills_after cells (Ok set) s₂ e k h l g = record {
   starts = g.starts ∙ h;
   is = e ∙ (g.is ∙ ap (λ n. some (keys_at cells s₂ n set.size)) h);
   few = omega (arith, g.few);
   ok = rw h at g.ok;
   kept = kept_trans (omega arith) k (rw h at g.kept);
 }
-fills_after cells Pairs s₂ e k h l g = e ∙ g
+fills_after cells (Err d) s₂ e k h l g = e ∙ g
 
 -- ── a pair that is inserted ─────────────────────────────────────────────────────────────────
 
 module _ (cells s : List ℕ) (set : JoinKeySet) (l r : ℕ) (ok : KeysOk cells s set.start set.size) {x : Bool}
     (e : x ≡ contains (keys_at cells s set.start set.size) (expr_at cells l) (expr_at cells r)) where
-  pub insert-known : x ≡ true → Fills (insert (expr_at cells l) (expr_at cells r) (keys_at cells s set.start set.size)) cells s set.start (set.size + 1) (Set set) s
+  pub insert-known : x ≡ true → Fills (insert (expr_at cells l) (expr_at cells r) (keys_at cells s set.start set.size)) cells s set.start (set.size + 1) (Ok set) s
   unfolding insert
   insert-known h = fills_same set ok (rw (sym e ∙ h)) (omega arith)
 
   pub insert_new : x ≡ false → set.size < 64 → (set.start + set.size + 1) * 2 ≤ length s → Wf cells (l + 1) → Wf cells (r + 1)
-      → Fills (insert (expr_at cells l) (expr_at cells r) (keys_at cells s set.start set.size)) cells s set.start (set.size + 1) (Set (record { start = set.start; size = set.size + 1 })) (put_key s (set.start + set.size) l r)
+      → Fills (insert (expr_at cells l) (expr_at cells r) (keys_at cells s set.start set.size)) cells s set.start (set.size + 1) (Ok (record { start = set.start; size = set.size + 1 })) (put_key s (set.start + set.size) l r)
   unfolding insert added
   insert_new h k room a b = record {
     starts = refl;
@@ -124,12 +109,12 @@ module _ (cells s : List ℕ) (set : JoinKeySet) (l r : ℕ) (ok : KeysOk cells 
 
 -- a pair that the second set has too, or has not
 module _ (cells s : List ℕ) (set s₂ : JoinKeySet) (l r : ℕ) {x : Bool} (e : x ≡ contains (keys_at cells s s₂.start s₂.size) (expr_at cells l) (expr_at cells r)) where
-  pub common_yes : x ≡ true → (f : Filled) (s' : List ℕ) → Fills (insert (expr_at cells l) (expr_at cells r) (keys_at cells s set.start set.size)) cells s set.start (set.size + 1) f s'
+  pub common_yes : x ≡ true → (f : Result JoinKeySet Pairs) (s' : List ℕ) → Fills (insert (expr_at cells l) (expr_at cells r) (keys_at cells s set.start set.size)) cells s set.start (set.size + 1) f s'
       → Fills (insert_common (keys_at cells s s₂.start s₂.size) (expr_at cells l) (expr_at cells r) (keys_at cells s set.start set.size)) cells s set.start (set.size + 1) f s'
   unfolding insert_common
   common_yes h f s' g = subst⁻¹ (λ b. Fills (cond b (insert (expr_at cells l) (expr_at cells r) (keys_at cells s set.start set.size)) (some (keys_at cells s set.start set.size))) cells s set.start (set.size + 1) f s') (sym e ∙ h) g
 
   pub common_no : KeysOk cells s set.start set.size → x ≡ false
-      → Fills (insert_common (keys_at cells s s₂.start s₂.size) (expr_at cells l) (expr_at cells r) (keys_at cells s set.start set.size)) cells s set.start (set.size + 1) (Set set) s
+      → Fills (insert_common (keys_at cells s s₂.start s₂.size) (expr_at cells l) (expr_at cells r) (keys_at cells s set.start set.size)) cells s set.start (set.size + 1) (Ok set) s
   unfolding insert_common
   common_no k h = fills_same set k (rw (sym e ∙ h)) (omega arith)

@@ -1,5 +1,6 @@
 -- What filling a set and removing keys answer.
-use Rattle.std.specs.Prelude.{◌≡◌, cond, List, ℕ, suc, ◌+◌, ◌*◌, ◌<◌, ◌≤◌, eqb}
+use Rattle.std.specs.Prelude as std
+use Rattle.std.specs.Prelude.{◌≡◌, cond, List, ℕ, suc, ◌+◌, ◌*◌, ◌<◌, ◌≤◌, eqb, Result, Ok, Err, Some, None}
 use Rattle.std.proofs.Math.Option.{Option, none, some}
 use Rattle.cpl.specs.Plan.{o_add, o_sub, o_mul, o_eq, o_lt, o_and, o_or, Expr, col, lit, miss, un, bin}
 use Rattle.arena.specs.Cells.{Wf, expr_at}
@@ -7,10 +8,8 @@ use Rattle.arena.specs.Kept.{Kept}
 use Rattle.join_keys.specs.Keys as keys
 use Rattle.join_key_set.specs.Pairs.{KeysIn, KeysOk, keys_at}
 use Rattle.join_key_set.specs.declared.JoinKeySet.{JoinKeySet}
-use Rattle.join_key_set.specs.declared.Filled.{Filled}
-use Rattle.join_key_set.specs.declared.Filled.TheVariants.{Set, Pairs}
+use Rattle.join_key_set.specs.declared.Pairs.{Pairs}
 use Rattle.join_key_set.specs.declared.Left.{Left}
-use Rattle.join_key_set.specs.declared.Left.TheVariants.{Nothing, Node}
 
 -- a pair that is inserted if the second set has it too
 unfoldable pub insert_common : (second : keys.JoinKeySet) (left right : Expr) → keys.JoinKeySet → Option keys.JoinKeySet
@@ -24,14 +23,14 @@ pub record Grown (o : Option keys.JoinKeySet) (cells pairs : List ℕ) (start mo
   pub ok : KeysOk cells pairs' start s.size
   pub kept : Kept (start * 2) pairs pairs'
 
-abbrev pub Fills : Option keys.JoinKeySet → (cells pairs : List ℕ) (start most : ℕ) → Filled → List ℕ → Type 0
-Fills o cells pairs start most (Set s) pairs' = Grown o cells pairs start most s pairs'
-Fills o cells pairs start most Pairs pairs' = o ≡ none
+abbrev pub Fills : Option keys.JoinKeySet → (cells pairs : List ℕ) (start most : ℕ) → Result JoinKeySet Pairs → List ℕ → Type 0
+Fills o cells pairs start most (Ok s) pairs' = Grown o cells pairs start most s pairs'
+Fills o cells pairs start most (Err e) pairs' = o ≡ none
 
 -- a set that was made has its nodes among the first n
-abbrev pub FilledIn : (n : ℕ) → Filled → (pairs' : List ℕ) → Type 0
-FilledIn n (Set s) pairs' = KeysIn n pairs' s.start s.size
-FilledIn n Pairs pairs' = Unit {0}
+abbrev pub FilledIn : (n : ℕ) → Result JoinKeySet Pairs → (pairs' : List ℕ) → Type 0
+FilledIn n (Ok s) pairs' = KeysIn n pairs' s.start s.size
+FilledIn n (Err e) pairs' = Unit {0}
 
 -- the `and`s and `or`s that are looked into: each may take a node
 unfoldable pub joints : Expr → ℕ
@@ -55,10 +54,14 @@ pub record Rest (o left : Option Expr) (cells : List ℕ) (used most more : ℕ)
   pub few : more ≤ used + most
   pub wf : Wf cells' more
 
+-- of which there is a node, or nothing
+abbrev pub LeavesNode : Option Expr → (cells : List ℕ) (used most more : ℕ) → std.Option ℕ → List ℕ → Type 0
+LeavesNode o cells used most more None cells' = Rest o none cells used most more cells'
+LeavesNode o cells used most more (Some node) cells' = (node < more) × Rest o (some (expr_at cells' node)) cells used most more cells'
+
 abbrev pub Leaves : Option Expr → (cells : List ℕ) (used most : ℕ) → Left → List ℕ → Type 0
-Leaves o cells used most (Nothing more) cells' = Rest o none cells used most more cells'
-Leaves o cells used most (Node node more) cells' = (node < more) × Rest o (some (expr_at cells' node)) cells used most more cells'
+Leaves o cells used most l cells' = LeavesNode o cells used most l.used l.node cells'
 
 -- what is left where only the node of the first side is: of an `or` (tag 11) nothing
-unfoldable pub first_alone : (tag node used : ℕ) → Left
-first_alone t l n = cond (eqb t 11) (Nothing n) (Node l n)
+unfoldable pub first_alone : (tag node : ℕ) → std.Option ℕ
+first_alone t l = cond (eqb t 11) None (Some l)

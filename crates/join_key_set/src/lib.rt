@@ -2,13 +2,14 @@
 //! two functions of `eliminate_cross_join.rs`.
 //!
 //! Expressions are nodes of `cells`, laid out as in crate `arena`. A pair is two node numbers in `pairs`, at twice its own number, and a set is a
-//! range of pairs in insertion order. No set stands on the stack: the sides of an `or` are worked out in the pairs behind the set being filled.
+//! range of pairs in insertion order. The arrays are lent (document 01: no heap), and no set stands on the stack: the sides of an `or` are worked
+//! out in the pairs behind the set being filled.
 #![tactic(auto)]
 
 ghost use Rattle.std.specs.Prelude.{◌≡◌, ℕ, ◌+◌, ◌*◌, ◌<◌, ◌≤◌, length};
 ghost use Rattle.cpl.specs.Plan.{on};
+ghost use Rattle.refusals.specs.Codes.{code_of};
 ghost use Rattle.arena.specs.Cells.{expr_at, Wf};
-ghost use Rattle.arena_build.specs.Build.{put_node};
 ghost use Rattle.join_keys.specs.Keys.{contains, insert, insert_all, insert_intersection, is_pair};
 ghost use Rattle.join_keys.specs.Extract.{extract_possible_join_keys};
 ghost use Rattle.join_keys.specs.Flat.{equalities};
@@ -17,10 +18,12 @@ ghost use Rattle.join_key_set.specs.Pairs.{Behind, KeyIs, keys_at, KeysIn, KeysO
 ghost use Rattle.join_key_set.specs.Answers.{FilledIn, Fills, first_alone, insert_common, joints, Leaves};
 
 use arena::View;
+use refusals::{Reason, Refusal};
 
 /// The most pairs that a set can have.
 pub const MAX_PAIRS: usize = 64;
 
+// Numbers stay here: a stored node has its operator as a tag, a number of the lent array.
 /// The tags of the operators that are looked into; `and` and `or` are the last of all.
 const EQ: u64 = 8;
 
@@ -48,6 +51,7 @@ pub fn key_at(pairs: &[u64], k: usize) -> Key
 }
 
 /// Writes pair `k`, which lies in the array.
+#[tactic(auto, unfolding(crate::specs::Pairs::put_key))]
 pub fn put_key(pairs: &mut [u64], k: usize, left: usize, right: usize)
     requires { k * 2 + 1 < length pairs.old }
     ensures { pairs.new ≡ put_key pairs.old k left right }
@@ -58,17 +62,16 @@ pub fn put_key(pairs: &mut [u64], k: usize, left: usize, right: usize)
 }
 
 /// Are the expressions of nodes `left` and `right` those of nodes `a` and `b`? The nodes up to them are well formed.
+#[tactic(auto, unfolding(join_keys::specs::Keys::is_pair))]
 fn is_pair(cells: &[u64], left: usize, right: usize, a: usize, b: usize) -> bool
     requires wf { Wf cells.now (left + 1) × Wf cells.now (right + 1) }
     requires wf_2 { Wf cells.now (a + 1) × Wf cells.now (b + 1) }
     ensures { result ≡ is_pair (expr_at cells.now left) (expr_at cells.now right) (on (expr_at cells.now a) (expr_at cells.now b)) }
 {
-    if arena::same_expr(cells, left, cells, a) {
-        return arena::same_expr(cells, right, cells, b);
-    }
-    false
+    arena::same_expr(cells, left, cells, a) && arena::same_expr(cells, right, cells, b)
 }
 
+// A range stays: the pairs lie in the lent array, where other sets are filled behind this one (document 01: no heap).
 /// A set: `size` pairs from pair `start` on.
 #[derive(Clone, Copy)]
 pub struct JoinKeySet {
@@ -76,11 +79,17 @@ pub struct JoinKeySet {
     pub size: usize,
 }
 
-/// What filling a set answers: the set, or that it would have a 65th pair.
+/// A set would hold over 64 pairs.
 #[derive(Clone, Copy)]
-pub enum Filled {
-    Set(JoinKeySet),
-    Pairs,
+pub struct Pairs;
+
+/// Document 02's 18, without a place.
+impl From<Pairs> for Refusal {
+    ghost from_gives = { λ _ refusal. (code_of refusal.reason ≡ 18) × (refusal.place ≡ 0) };
+
+    fn from(_: Pairs) -> Refusal {
+        Refusal::new(Reason::Pairs, 0)
+    }
 }
 
 impl JoinKeySet {
@@ -97,27 +106,27 @@ impl JoinKeySet {
         requires wf { Wf cells.now (left + 1) × Wf cells.now (right + 1) }
         ensures { result ≡ contains (keys_at cells.now pairs.now self.start self.size) (expr_at cells.now left) (expr_at cells.now right) }
     {
-        let start = self.start;
-        let size = self.size;
-        let mut i = 0;
-        while i < size {
-            let key = key_at(pairs, start + i);
-            let a = key.left;
-            let b = key.right;
-            if is_pair(cells, left, right, a, b) {
+        for i in 0..self.size {
+            let key = key_at(pairs, self.start + i);
+            if is_pair(cells, left, right, key.left, key.right) {
                 return true;
             }
-            if is_pair(cells, right, left, a, b) {
+            if is_pair(cells, right, left, key.left, key.right) {
                 return true;
             }
-            i += 1;
         }
         false
     }
 
     /// The set with the pair, where neither it nor its mirror is there. The set's nodes and those of the pair are well formed, and there is
     /// room for a pair behind the set: no other is written.
-    pub fn insert(self, cells: &[u64], pairs: &mut [u64], left: usize, right: usize) -> Filled
+    pub fn insert(
+        self,
+        cells: &[u64],
+        pairs: &mut [u64],
+        left: usize,
+        right: usize,
+    ) -> Result<JoinKeySet, Pairs>
         requires keys_ok { KeysOk cells.now pairs.old self.start self.size }
         requires wf { Wf cells.now (left + 1) × Wf cells.now (right + 1) }
         requires size_in_bounds { (self.start + self.size + 1) * 2 ≤ length pairs.old }
@@ -125,43 +134,38 @@ impl JoinKeySet {
         ensures behind { Behind ((self.start + self.size + 1) * 2) pairs.old pairs.new }
         ensures by_index { (n : ℕ) → KeysIn n pairs.old self.start self.size → left < n → right < n → FilledIn n result pairs.new }
     {
-        let start = self.start;
-        let size = self.size;
         if self.contains(cells, pairs, left, right) {
-            return Filled::Set(self);
+            return Ok(self);
         }
-        if size < MAX_PAIRS {
-            put_key(pairs, start + size, left, right);
-            return Filled::Set(JoinKeySet {
-                start,
-                size: size + 1,
+        if self.size < MAX_PAIRS {
+            put_key(pairs, self.start + self.size, left, right);
+            return Ok(JoinKeySet {
+                size: self.size + 1,
+                ..self
             });
         }
-        Filled::Pairs
+        Err(Pairs)
     }
 
     /// The set with the pairs of `keys`, one after the other. `keys` stands behind the set, and may be written over.
-    pub fn insert_all(self, cells: &[u64], pairs: &mut [u64], keys: JoinKeySet) -> Filled
+    pub fn insert_all(
+        self,
+        cells: &[u64],
+        pairs: &mut [u64],
+        keys: JoinKeySet,
+    ) -> Result<JoinKeySet, Pairs>
         requires keys_ok { KeysOk cells.now pairs.old self.start self.size }
         requires keys_ok_2 { KeysOk cells.now pairs.old keys.start keys.size }
         requires size_bound { self.start + self.size ≤ keys.start }
         ensures fills { Fills (insert_all (keys_at cells.now pairs.old keys.start keys.size) (keys_at cells.now pairs.old self.start self.size)) cells.now pairs.old self.start (self.size + keys.size) result pairs.new }
         ensures by_index { (n : ℕ) → KeysIn n pairs.old self.start self.size → KeysIn n pairs.old keys.start keys.size → FilledIn n result pairs.new }
     {
-        let first = keys.start;
-        let count = keys.size;
         let mut set = self;
-        let mut i = 0;
-        while i < count {
-            let key = key_at(pairs, first + i);
-            let filled = set.insert(cells, pairs, key.left, key.right);
-            let Filled::Set(more) = filled else {
-                return Filled::Pairs;
-            };
-            set = more;
-            i += 1;
+        for i in 0..keys.size {
+            let key = key_at(pairs, keys.start + i);
+            set = set.insert(cells, pairs, key.left, key.right)?;
         }
-        Filled::Set(set)
+        Ok(set)
     }
 
     /// The set with the pair, if `s2` has it too. As `insert`; the nodes of `s2` are well formed too.
@@ -172,7 +176,7 @@ impl JoinKeySet {
         s2: JoinKeySet,
         left: usize,
         right: usize,
-    ) -> Filled
+    ) -> Result<JoinKeySet, Pairs>
         requires keys_ok { KeysOk cells.now pairs.old self.start self.size }
         requires keys_ok_2 { KeysOk cells.now pairs.old s2.start s2.size }
         requires wf { Wf cells.now (left + 1) × Wf cells.now (right + 1) }
@@ -183,9 +187,10 @@ impl JoinKeySet {
         if s2.contains(cells, pairs, left, right) {
             return self.insert(cells, pairs, left, right);
         }
-        Filled::Set(self)
+        Ok(self)
     }
 
+    // Apart from `insert_all`, as in the Rust: one function for both would take a second set that one of them has not.
     /// The set with the pairs of `s1` that `s2` has too. `s1` stands behind the set, and may be written over; `s2` stands behind `s1`.
     pub fn insert_intersection(
         self,
@@ -193,27 +198,19 @@ impl JoinKeySet {
         pairs: &mut [u64],
         s1: JoinKeySet,
         s2: JoinKeySet,
-    ) -> Filled
+    ) -> Result<JoinKeySet, Pairs>
         requires keys_ok { KeysOk cells.now pairs.old self.start self.size }
         requires keys_ok_2 { KeysOk cells.now pairs.old s1.start s1.size }
         requires keys_ok_3 { KeysOk cells.now pairs.old s2.start s2.size }
         requires size_bound { (self.start + self.size ≤ s1.start) × (s1.start + s1.size ≤ s2.start) }
         ensures { Fills (insert_intersection (keys_at cells.now pairs.old s1.start s1.size) (keys_at cells.now pairs.old s2.start s2.size) (keys_at cells.now pairs.old self.start self.size)) cells.now pairs.old self.start (self.size + s1.size) result pairs.new }
     {
-        let first = s1.start;
-        let count = s1.size;
         let mut set = self;
-        let mut i = 0;
-        while i < count {
-            let key = key_at(pairs, first + i);
-            let filled = set.insert_common(cells, pairs, s2, key.left, key.right);
-            let Filled::Set(more) = filled else {
-                return Filled::Pairs;
-            };
-            set = more;
-            i += 1;
+        for i in 0..s1.size {
+            let key = key_at(pairs, s1.start + i);
+            set = set.insert_common(cells, pairs, s2, key.left, key.right)?;
         }
-        Filled::Set(set)
+        Ok(set)
     }
 }
 
@@ -224,81 +221,51 @@ pub fn extract_possible_join_keys(
     pairs: &mut [u64],
     keys: JoinKeySet,
     node: usize,
-) -> Filled
+) -> Result<JoinKeySet, Pairs>
     requires wf { Wf cells.now (node + 1) }
     requires keys_ok { KeysOk cells.now pairs.old keys.start keys.size }
     requires node_in_bounds { (keys.start + keys.size + equalities (expr_at cells.now node)) * 2 ≤ length pairs.old }
     ensures { Fills (extract_possible_join_keys (expr_at cells.now node) (keys_at cells.now pairs.old keys.start keys.size)) cells.now pairs.old keys.start (keys.size + equalities (expr_at cells.now node)) result pairs.new }
 {
-    let v = arena::node_at(cells, node);
-    match v {
-        View::Col(_, _) => Filled::Set(keys),
-        View::Lit(_) => Filled::Set(keys),
-        View::Miss => Filled::Set(keys),
-        View::One(_, _) => Filled::Set(keys),
+    match arena::node_at(cells, node) {
+        View::Col(_, _) | View::Lit(_) | View::Miss | View::One(_, _) => Ok(keys),
         View::Two(t, left, right) => {
             if t == EQ {
                 return keys.insert(cells, pairs, left, right);
             }
             if t == AND {
-                let l = extract_possible_join_keys(cells, pairs, keys, left);
-                let Filled::Set(more) = l else {
-                    return Filled::Pairs;
-                };
+                let more = extract_possible_join_keys(cells, pairs, keys, left)?;
                 return extract_possible_join_keys(cells, pairs, more, right);
             }
             if t == OR {
-                let l = extract_possible_join_keys(
-                    cells,
-                    pairs,
-                    JoinKeySet::new(keys.start + keys.size),
-                    left,
-                );
-                let Filled::Set(left_join_keys) = l else {
-                    return Filled::Pairs;
-                };
-                let r = extract_possible_join_keys(
-                    cells,
-                    pairs,
-                    JoinKeySet::new(left_join_keys.start + left_join_keys.size),
-                    right,
-                );
-                let Filled::Set(right_join_keys) = r else {
-                    return Filled::Pairs;
-                };
+                let behind = JoinKeySet::new(keys.start + keys.size);
+                let left_join_keys = extract_possible_join_keys(cells, pairs, behind, left)?;
+                let behind = JoinKeySet::new(left_join_keys.start + left_join_keys.size);
+                let right_join_keys = extract_possible_join_keys(cells, pairs, behind, right)?;
                 return keys.insert_intersection(cells, pairs, left_join_keys, right_join_keys);
             }
-            Filled::Set(keys)
+            Ok(keys)
         }
     }
 }
 
-/// Writes the numbers of node `i`, which lies in the array.
-fn put_node(cells: &mut [u64], i: usize, tag: u64, x: usize, y: usize)
-    requires { i * 3 + 2 < length cells.old }
-    ensures { cells.new ≡ put_node cells.old i tag x y }
-{
-    let at = i * 3;
-    cells[at] = tag;
-    cells[at + 1] = x as u64;
-    cells[at + 2] = y as u64;
-}
-
-/// What is left of a predicate: nothing, or a node; and the nodes now in use.
+/// What is left of a predicate, and the nodes in use.
 #[derive(Clone, Copy)]
-pub enum Left {
-    Nothing(usize),
-    Node(usize, usize),
+pub struct Left {
+    /// The node of what is left, if anything is.
+    pub node: Option<usize>,
+    pub used: usize,
 }
 
-/// What is left of an `and` or `or`, by its tag, where only node `l` of its first side is left.
-fn first_alone(tag: u64, l: usize, used: usize) -> Left
-    ensures { result ≡ first_alone tag l used }
+/// The node that is left of an `and` or `or`, by its tag, where only node `l` of its first side is left.
+#[tactic(auto, unfolding(crate::specs::Answers::first_alone))]
+fn first_alone(tag: u64, l: usize) -> Option<usize>
+    ensures { result ≡ first_alone tag l }
 {
     if tag == OR {
-        return Left::Nothing(used);
+        return None;
     }
-    Left::Node(l, used)
+    Some(l)
 }
 
 /// What is left of the predicate of node `node` without the keys: an equality that is a key goes; of an `and` what is left of either side is
@@ -316,40 +283,37 @@ pub fn remove_join_expressions(
     requires node_in_bounds { (used + joints (expr_at cells.old node)) * 3 ≤ length cells.old }
     ensures { Leaves (remove_join_expressions (keys_at cells.old pairs.now keys.start keys.size) (expr_at cells.old node)) cells.old used (joints (expr_at cells.old node)) result cells.new }
 {
-    let v = arena::node_at(cells, node);
-    match v {
-        View::Col(_, _) => Left::Node(node, used),
-        View::Lit(_) => Left::Node(node, used),
-        View::Miss => Left::Node(node, used),
-        View::One(_, _) => Left::Node(node, used),
+    let whole = Left {
+        node: Some(node),
+        used,
+    };
+    match arena::node_at(cells, node) {
+        View::Col(_, _) | View::Lit(_) | View::Miss | View::One(_, _) => whole,
         View::Two(t, left, right) => {
-            if t == EQ {
-                if keys.contains(cells, pairs, left, right) {
-                    return Left::Nothing(used);
-                }
-                return Left::Node(node, used);
+            if t == EQ && keys.contains(cells, pairs, left, right) {
+                return Left { node: None, used };
             }
             if t < AND {
-                return Left::Node(node, used);
+                return whole;
             }
-            let l = remove_join_expressions(cells, used, left, pairs, keys);
-            match l {
-                Left::Nothing(more) => {
-                    if t == OR {
-                        return Left::Nothing(more);
-                    }
-                    remove_join_expressions(cells, more, right, pairs, keys)
+            let first = remove_join_expressions(cells, used, left, pairs, keys);
+            let Some(l) = first.node else {
+                if t == OR {
+                    return first;
                 }
-                Left::Node(ll, more) => {
-                    let r = remove_join_expressions(cells, more, right, pairs, keys);
-                    match r {
-                        Left::Nothing(most) => first_alone(t, ll, most),
-                        Left::Node(rr, most) => {
-                            put_node(cells, most, t, ll, rr);
-                            Left::Node(most, most + 1)
-                        }
-                    }
-                }
+                return remove_join_expressions(cells, first.used, right, pairs, keys);
+            };
+            let second = remove_join_expressions(cells, first.used, right, pairs, keys);
+            let Some(r) = second.node else {
+                return Left {
+                    node: first_alone(t, l),
+                    used: second.used,
+                };
+            };
+            let both = arena_build::push(cells, second.used, t, l as u64, r as u64).unwrap();
+            Left {
+                node: Some(both.node),
+                used: both.used,
             }
         }
     }

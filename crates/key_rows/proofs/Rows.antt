@@ -12,11 +12,8 @@ use Rattle.arena.specs.Cells.{Wf, expr_at}
 use Rattle.arena.specs.Rows.{mark_at, root_at}
 use Rattle.tree.specs.Rows.{EachOk, OnOk, list_at, on_at, one, ons_at}
 use Rattle.tree.specs.Shows.{OnIs}
-use Rattle.join_key_set.specs.Pairs.{KeyIs, KeysIn, KeysOk, key_at, keys_at, left_at, put_key, right_at}
+use Rattle.join_key_set.specs.Pairs.{KeysIn, KeysOk, key_at, keys_at, left_at, put_key, right_at}
 use Rattle.key_rows.specs.Rows.{SameKeys}
-
-pub none-same : (rows pairs : List ℕ) → SameKeys 0 rows pairs
-none-same rows pairs = record { left = λ k h. absurd (omega arith); right = λ k h. absurd (omega arith) }
 
 -- two numbers stored side by side
 module _ (s : List ℕ) (at x y : ℕ) (h : at + 1 < length s) where
@@ -46,26 +43,6 @@ pairs-more {i} {l} {r} {rows} pairs h s o = record {
     | no d ↦ other-is pairs (i * 2) l r h (k * 2 + 1) (λ e. d (omega arith)) (λ e. d (omega arith)) ∙ s.right k (omega arith)
   ];
 }
-
--- the row of pair i
-pub rows_more : {i l r : ℕ} {pairs : List ℕ} (rows : List ℕ) → i * 4 + 3 < length rows → SameKeys i rows pairs → KeyIs pairs i l r →
-    SameKeys (i + 1) (set (set rows (i * 4 + 2) l) (i * 4 + 3) r) pairs
-rows_more {i} {l} {r} {pairs} rows h s o =
-    let e₃ : i * 4 + 3 ≡ i * 4 + 2 + 1 = omega arith in
-    let g : i * 4 + 2 + 1 < length rows = omega arith in
-    record {
-      left = λ k b. elim (ℕ_discrete k i) [
-        | yes e ↦ ap (left_at pairs) e ∙ sym o.left_is ∙ sym (rw e₃ (first_is rows (i * 4 + 2) l r g)) ∙ ap (mark_at (set (set rows (i * 4 + 2) l) (i * 4 + 3) r)) (sym e)
-        | no d ↦ s.left k (omega arith) ∙ sym (rw e₃ (other-is rows (i * 4 + 2) l r g (k * 4 + 2) (λ e. d (omega arith)) (λ e. d (omega arith))))
-      ];
-      right = λ k b. elim (ℕ_discrete k i) [
-        | yes e ↦ ap (right_at pairs) e ∙ sym o.right_is ∙ sym (rw e₃ (second_is rows (i * 4 + 2) l r g)) ∙ ap (root_at (set (set rows (i * 4 + 2) l) (i * 4 + 3) r)) (sym e)
-        | no d ↦ s.right k (omega arith) ∙ sym (rw e₃ (other-is rows (i * 4 + 2) l r g (k * 4 + 3) (λ e. d (omega arith)) (λ e. d (omega arith))))
-      ];
-    }
-
-pub same_until : {i n : ℕ} {rows pairs : List ℕ} → n ≤ i → SameKeys i rows pairs → SameKeys n rows pairs
-same_until h s = record { left = λ k b. s.left k (omega arith); right = λ k b. s.right k (omega arith) }
 
 -- ── the list that they stand for ────────────────────────────────────────────────────────────
 

@@ -11,7 +11,7 @@ use Rattle.required_indices.specs.Words.{number}
 use Rattle.required_indices.specs.declared.RequiredIndices.{RequiredIndices}
 use Rattle.required_indices.proofs.Members.{side}
 use Rattle.required_indices.proofs.Stored.{paste-below, paste-long, paste-part}
-use Rattle.key_sets.specs.Slots.{PutKey, SlotIn, slot_at}
+use Rattle.key_sets.specs.Slots.{PutKey, slot_at}
 
 -- a list that starts with x and then has the n numbers ws
 starts : (xs : List ℕ) (x n : ℕ) (ws : List ℕ) → take (suc n) xs ≡ x ∷ ws → (get_or xs 0 0 ≡ x) × (take n (drop 1 xs) ≡ ws)

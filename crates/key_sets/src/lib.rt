@@ -7,10 +7,10 @@ ghost use Rattle.std.specs.Prelude.{◌≡◌, false, ◌+◌, ◌*◌, ◌≤�
 ghost use Rattle.required_indices.specs.Request.{Holds, set_of};
 ghost use Rattle.key_sets.specs.Slots.{PutKey, SlotIn, node_slot, slot_at};
 
-use required_indices::RequiredIndices;
+use required_indices::{RequiredIndices, WORDS};
 
-// The numbers of a slot: `stored_n` of required_indices is the same.
-const SLOT: usize = 9;
+// The numbers of a slot: how many words are in use, and these. `stored_n` of required_indices is the same.
+const SLOT: usize = 1 + WORDS;
 
 // The most tables of a catalogue: their slots come first.
 const TABLES: usize = 16;
@@ -36,5 +36,5 @@ pub fn put_key(keys: &mut [u64], slot: usize, key: RequiredIndices)
     requires { SlotIn keys.old slot }
     ensures { PutKey keys.old keys.new slot (set_of key) }
 {
-    RequiredIndices::store(&key.indices, key.used, keys, slot * SLOT);
+    key.store(keys, slot * SLOT);
 }

@@ -4,11 +4,13 @@
 //! hold. The contracts determine every byte.
 #![tactic(auto)]
 
-ghost use Rattle.answers.specs.Answers.{AnswerIs};
+ghost use Rattle.std.specs.Prelude.{◌≤◌};
+ghost use Rattle.answers.specs.Answers.{AnswerIs, Delivers};
 ghost use Rattle.plan_text.specs.Answers.{list_answer};
-ghost use Rattle.acceptance.specs.Readings.{Narrow, NoneBelow, Room};
+ghost use Rattle.acceptance.specs.Readings.{Fits, NoneBelow, Room};
 
 use answers::Answer;
+use refusals::{Reason, Refusal};
 
 // The listing of a file's plan, worked out in arrays that are long enough for it.
 fn list_over(
@@ -21,15 +23,11 @@ fn list_over(
     widths: &mut [u64],
     keys: &mut [u64],
     out: &mut [u8],
-) -> Answer
+) -> Result<usize, Refusal>
     requires { Room file.now cells.old rows.old nodes.old names.old fields.old widths.old keys.old }
-    ensures { AnswerIs (list_answer file.now out.old) result out.new }
+    ensures { Delivers (list_answer file.now out.old) result out.new }
 {
-    let read = acceptance::read_and_check(file, cells, rows, nodes, names, fields, widths, keys);
-    let checked = read.checked;
-    if checked.code > 0 {
-        return answers::refuse(checked.code, checked.place);
-    }
+    acceptance::read_and_check(file, cells, rows, nodes, names, fields, widths, keys)?;
     text_answer::list_tree(cells, rows, nodes, out)
 }
 
@@ -47,43 +45,23 @@ pub fn list_plan_in(
 ) -> Answer
     ensures { AnswerIs (list_answer file.now out.old) result out.new }
 {
-    list_over(file, cells, rows, nodes, names, fields, widths, keys, out)
+    Answer::from(list_over(file, cells, rows, nodes, names, fields, widths, keys, out))
 }
 
-// The same in arrays of its own, for every file.
-fn list_wide(file: &[u8], out: &mut [u8]) -> Answer
-    ensures { AnswerIs (list_answer file.now out.old) result out.new }
+// The same in arrays of its own, of so many numbers of rows and of fields.
+fn list_with<const ROWS: usize, const FIELDS: usize>(
+    file: &[u8],
+    out: &mut [u8],
+) -> Result<usize, Refusal>
+    requires fits { Fits file.now ROWS FIELDS }
+    requires few { (ROWS ≤ 1065088) × (FIELDS ≤ 262144) }
+    ensures { Delivers (list_answer file.now out.old) result out.new }
 {
     let mut cells = [0u64; 12288];
-    let mut rows = [0u16; 1065088];
+    let mut rows = [0u16; ROWS];
     let mut nodes = [0u64; 1792];
     let mut names = [0u16; 8208];
-    let mut fields = [0u16; 262144];
-    let mut widths = [0u64; 512];
-    let mut keys = [0u64; 2448];
-    list_plan_in(
-        file,
-        &mut cells,
-        &mut rows,
-        &mut nodes,
-        &mut names,
-        &mut fields,
-        &mut widths,
-        &mut keys,
-        out,
-    )
-}
-
-// The same in arrays for a file whose nodes have at most 128 fields.
-fn list_narrow(file: &[u8], out: &mut [u8]) -> Answer
-    requires { Narrow file.now }
-    ensures { AnswerIs (list_answer file.now out.old) result out.new }
-{
-    let mut cells = [0u64; 12288];
-    let mut rows = [0u16; 278656];
-    let mut nodes = [0u64; 1792];
-    let mut names = [0u16; 8208];
-    let mut fields = [0u16; 65536];
+    let mut fields = [0u16; FIELDS];
     let mut widths = [0u64; 512];
     let mut keys = [0u64; 2448];
     list_over(
@@ -101,18 +79,18 @@ fn list_narrow(file: &[u8], out: &mut [u8]) -> Answer
 
 // The listing of a file, in the arrays that its version needs: versions are tried in turn, from this number on, and the function calls itself for the
 // reason that `acceptance::check_from` has.
-fn list_from(file: &[u8], number: u64, out: &mut [u8]) -> Answer
+fn list_from(file: &[u8], number: u64, out: &mut [u8]) -> Result<usize, Refusal>
     requires { NoneBelow file.now number }
-    ensures { AnswerIs (list_answer file.now out.old) result out.new }
+    ensures { Delivers (list_answer file.now out.old) result out.new }
 {
     if number > 2 {
-        return answers::refuse(2, 0);
+        return Err(Refusal::new(Reason::Mark, 0));
     }
     if reader::has_mark(file, number) {
         if number == 1 {
-            return list_narrow(file, out);
+            return list_with::<278656, 65536>(file, out);
         }
-        return list_wide(file, out);
+        return list_with::<1065088, 262144>(file, out);
     }
     list_from(file, number + 1, out)
 }
@@ -121,5 +99,5 @@ fn list_from(file: &[u8], number: u64, out: &mut [u8]) -> Answer
 pub fn list_plan(file: &[u8], out: &mut [u8]) -> Answer
     ensures { AnswerIs (list_answer file.now out.old) result out.new }
 {
-    list_from(file, 1, out)
+    Answer::from(list_from(file, 1, out))
 }

@@ -4,25 +4,13 @@
 //! contracts determine every byte.
 #![tactic(auto)]
 
-ghost use Rattle.std.specs.Prelude.{◌++◌, ◌≡◌, ◌+◌, ◌*◌, ◌-◌, ◌<◌, ◌≤◌, drop, get_or, length, take};
+ghost use Rattle.std.specs.Prelude.{◌++◌, ◌≡◌, ◌+◌, ◌*◌, ◌≤◌, get_or, length};
 ghost use Rattle.writer_parts.specs.Wrote.{Wrote};
 ghost use Rattle.plan_text.specs.Decimal.{decimal};
-ghost use Rattle.listing.specs.Text.{count_text, line_text, list_text, mask_in, most_read, printed_text, program_text, refused_text};
+ghost use Rattle.listing.specs.Text.{count_text, file_in, line_text, list_text, mask_in, printed_text, program_text, refused_text};
 ghost use Rattle.listing.specs.Lines.{Counts, Listable, Puts, line_at, node_text, span};
 
 use tree::Node;
-
-fn wide(x: usize) -> u64
-    ensures { result ≡ x }
-{
-    x as u64
-}
-
-fn wide_byte(x: u8) -> u64
-    ensures { result ≡ x }
-{
-    x as u64
-}
 
 /// A text from `at` on; the place after it.
 pub fn put_text(out: &mut [u8], at: usize, s: &[u8]) -> usize
@@ -49,31 +37,24 @@ pub fn put_number(out: &mut [u8], at: usize, n: u64) -> usize
 }
 
 // The kind of a node in small letters, from `at` on; the place after it.
+#[tactic(auto, unfolding(crate::specs::Lines::node_text))]
 fn put_kind(out: &mut [u8], at: usize, node: Node) -> usize
     requires { at + 13 ≤ length out.old }
     ensures { Puts at (node_text node) out.old result out.new }
 {
     match node {
-        Node::Projection { first: _, n: _ } => put_text(out, at, b"projection"),
-        Node::Filter { root: _ } => put_text(out, at, b"filter"),
-        Node::Sort { first: _, n: _ } => put_text(out, at, b"sort"),
-        Node::Limit { skip: _, fetch: _ } => put_text(out, at, b"limit"),
-        Node::Aggregate {
-            first: _,
-            groups: _,
-            aggregates: _,
-        } => put_text(out, at, b"aggregate"),
-        Node::Window { first: _, n: _ } => put_text(out, at, b"window"),
-        Node::SubqueryAlias { qualifier: _ } => put_text(out, at, b"subqueryalias"),
-        Node::Union { right: _ } => put_text(out, at, b"union"),
+        Node::Projection { .. } => put_text(out, at, b"projection"),
+        Node::Filter { .. } => put_text(out, at, b"filter"),
+        Node::Sort { .. } => put_text(out, at, b"sort"),
+        Node::Limit { .. } => put_text(out, at, b"limit"),
+        Node::Aggregate { .. } => put_text(out, at, b"aggregate"),
+        Node::Window { .. } => put_text(out, at, b"window"),
+        Node::SubqueryAlias { .. } => put_text(out, at, b"subqueryalias"),
+        Node::Union { .. } => put_text(out, at, b"union"),
         Node::Distinct => put_text(out, at, b"distinct"),
         Node::Join(_) => put_text(out, at, b"join"),
         Node::Scan(_) => put_text(out, at, b"scan"),
-        Node::Empty {
-            one_row: _,
-            first: _,
-            n: _,
-        } => put_text(out, at, b"empty"),
+        Node::Empty { .. } => put_text(out, at, b"empty"),
     }
 }
 
@@ -82,7 +63,7 @@ fn write_line(out: &mut [u8], k: usize, node: Node, width: u64) -> usize
     requires { 56 ≤ length out.old }
     ensures { Wrote (line_text k (node_text node) width) out.old result out.new }
 {
-    let a = put_number(out, 0, wide(k));
+    let a = put_number(out, 0, k as u64);
     let b = put_text(out, a, b" ");
     let c = put_kind(out, b, node);
     let d = put_text(out, c, b" ");
@@ -96,12 +77,9 @@ fn write_lines(out: &mut [u8], nodes: &[u64], widths: &[u64], count: usize) -> u
     ensures { Wrote (span (line_at nodes.now widths.now) 0 count) out.old result out.new }
 {
     let mut at = 0;
-    let mut k = 0;
-    while k < count {
+    for k in 0..count {
         let node = tree::node_at(nodes, k);
-        let n = write_line(&mut out[at..], k, node, widths[k]);
-        at += n;
-        k += 1;
+        at += write_line(&mut out[at..], k, node, widths[k]);
     }
     at
 }
@@ -112,7 +90,7 @@ fn write_listing(out: &mut [u8], nodes: &[u64], widths: &[u64], count: usize) ->
     ensures { Wrote (count_text count ++ span (line_at nodes.now widths.now) 0 count) out.old result out.new }
 {
     let a = put_text(out, 0, b"PLAN ");
-    let b = put_number(out, a, wide(count));
+    let b = put_number(out, a, count as u64);
     let c = put_text(out, b, b"\n");
     let n = write_lines(&mut out[c..], nodes, widths, count);
     c + n
@@ -124,9 +102,9 @@ fn write_refused(out: &mut [u8], code: u8, place: usize) -> usize
     ensures { Wrote (refused_text code place) out.old result out.new }
 {
     let a = put_text(out, 0, b"REFUSED ");
-    let b = put_number(out, a, wide_byte(code));
+    let b = put_number(out, a, u64::from(code));
     let c = put_text(out, b, b" ");
-    let d = put_number(out, c, wide(place));
+    let d = put_number(out, c, place as u64);
     put_text(out, d, b"\n")
 }
 
@@ -145,12 +123,10 @@ pub fn list_in(
     ensures wrote { Wrote (list_text file.now) text.old result text.new }
     ensures counts { Counts result text.new }
 {
-    let read = acceptance::read_and_check(file, cells, rows, nodes, names, fields, widths, keys);
-    let checked = read.checked;
-    if checked.code > 0 {
-        return write_refused(text, checked.code, checked.place);
+    match acceptance::read_and_check(file, cells, rows, nodes, names, fields, widths, keys) {
+        Ok(read) => write_listing(text, nodes, widths, read.nodes),
+        Err(refusal) => write_refused(text, refusal.code(), refusal.place),
     }
-    write_listing(text, nodes, widths, checked.nodes)
 }
 
 /// The listing of a plan file: a line for each node of its plan, or for what is wrong with the file; how many bytes of `text` it takes.
@@ -183,46 +159,25 @@ pub fn list(file: &[u8], text: &mut [u8; 16384]) -> usize
 pub fn byte(input: &[u8], i: usize) -> u8
     ensures { result ≡ get_or input.now i 0 }
 {
-    if i < input.len() {
-        return input[i];
-    }
-    0
-}
-
-fn wide_setting(x: u8) -> u16
-    ensures { (result ≡ x) × (result < 256) }
-{
-    x as u16
+    input.get(i).copied().unwrap_or(0)
 }
 
 // The mask that the input starts with.
+#[tactic(auto, unfolding(crate::specs::Text::mask_in))]
 fn mask_in(input: &[u8]) -> u16
     ensures { result ≡ mask_in input.now }
 {
-    let low = wide_setting(byte(input, 1));
-    let high = wide_setting(byte(input, 2));
+    let low = u16::from(byte(input, 1));
+    let high = u16::from(byte(input, 2));
     low + 256 * high
 }
 
-// Where the file starts: behind the three bytes of settings, or where the input ends.
-fn file_start(input: &[u8]) -> usize
-    ensures { (result ≤ length input.now) × (drop result input.now ≡ drop 3 input.now) }
+// The plan bytes that are looked at: those behind the three bytes of settings, 65,536 at most.
+fn file_in(input: &[u8]) -> &[u8]
+    ensures { result.now ≡ file_in input.now }
 {
-    if input.len() < 3 {
-        return input.len();
-    }
-    3
-}
-
-// Where the plan bytes that are looked at end: 65,536 bytes behind `at`, or where the input ends.
-fn file_end(input: &[u8], at: usize) -> usize
-    requires { at ≤ length input.now }
-    ensures { (at ≤ result) × (result ≤ length input.now) × (take (result - at) (drop at input.now) ≡ take most_read (drop at input.now)) }
-{
-    if input.len() - at > 65536 {
-        return at + 65536;
-    }
-    input.len()
+    let file = &input[input.len().min(3)..];
+    &file[..file.len().min(65536)]
 }
 
 // The narrowed plan's listing, or the refusal.
@@ -247,7 +202,5 @@ pub fn run(input: &[u8], text: &mut [u8; 16384]) -> usize
 {
     let mode = byte(input, 0);
     let mask = mask_in(input);
-    let at = file_start(input);
-    let end = file_end(input, at);
-    write_answer(mode, mask, &input[at..end], text)
+    write_answer(mode, mask, file_in(input), text)
 }

@@ -35,6 +35,16 @@ conflict-is q n r m =
     by_name (eqb n m) (eqb q r) (eqb q 0) (eqb r 0) (λ e g. eq-eqb q r (eqb-true q 0 e ∙ sym (eqb-true r 0 g)))
     ∙ ap (◌|| (eqb n m && cond (eqb q 0) (not (eqb r 0)) (eqb r 0))) (ap₂ ◌&&◌ (eqb-sym q r) (eqb-sym n m))
 
+distribute : (q n a b : Bool) → (q && n) || (n && (a || b)) ≡ n && ((q || a) || b)
+distribute true true a b = refl
+distribute true false a b = refl
+distribute false true a b = refl
+distribute false false a b = refl
+
+-- in the words of the code
+pub conflict_by : (q n r m : ℕ) → (eqb q r && eqb n m) || (eqb n m && (eqb q 0 || eqb r 0)) ≡ conflict (pair q n) (pair r m)
+conflict_by q n r m = distribute (eqb q r) (eqb n m) (eqb q 0) (eqb r 0) ∙ conflict-is q n r m
+
 pub conflict-sym : (f g : Pair) → conflict f g ≡ conflict g f
 conflict-sym (pair q n) (pair r m) =
     sym (conflict-is q n r m) ∙ ap₂ ◌&&◌ (eqb-sym n m) (ap (λ b. (b || eqb q 0) || eqb r 0) (eqb-sym q r) ∙ swap (eqb r q) (eqb q 0) (eqb r 0)) ∙ conflict-is r m q n

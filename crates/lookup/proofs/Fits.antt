@@ -7,6 +7,8 @@ use Prim.Native.Nat.{ℕ, zero, suc, ◌+◌, ◌-◌, ◌<◌, ◌≤◌}
 use native.Mathlib.Omega.{arith}
 use lib.Dec.{T, eqb, eqb→eq, leb}
 use borrow.Author.Tests.{eqb-true, leb-true, leb-false, le-leb, lt-leb, ltb-true, ltb-false}
+use Rattle.std.specs.Prelude.{Some, None, is_some}
+use Rattle.std.specs.Prelude
 use Rattle.cpl.specs.Lists.{All, ◌a∷◌}
 use Rattle.cpl.specs.Plan.{Pair, pair}
 use Rattle.cpl.specs.Exprs.{fits, next, find, present, fitting}
@@ -14,7 +16,7 @@ use Rattle.cpl.proofs.Bools.{halves}
 use Rattle.cpl.proofs.Clash.{clear}
 use Rattle.cpl.proofs.Lookup.{fits-is, find_none, find-here, find_past, fitting-here, fitting-past, find-fitting, own-fits}
 use Rattle.tree.specs.Rows.{list_at, one}
-use Rattle.lookup.specs.Answers.{lookup_of}
+use Rattle.lookup.specs.Answers.{lookup_of, place_of}
 use Rattle.lookup.specs.Fields.{field_at, row_at, RowClear}
 use Rattle.lookup.specs.declared.Lookup.{Lookup}
 use Rattle.lookup.specs.declared.Lookup.TheVariants.{Found, Absent, Ambiguous}
@@ -173,6 +175,14 @@ module _ (c : Pair) (fs : List Pair) where
   unfolding Many
   more-fit e = many e
 
+none_of : (p : Prelude.Option ℕ) → is_some p ≡ false → none ≡ place_of p
+none_of (Some i) e = absurd (true≢false e)
+none_of None e = refl
+
+place-some : (p : Prelude.Option ℕ) → is_some p ≡ true → (i : ℕ) × (some i ≡ place_of p)
+place-some (Some i) e = (i, refl)
+place-some None e = absurd (true≢false (sym e))
+
 -- ── a row of fields ────────────────────────────────────────────────────────────────────
 
 module _ (s : List ℕ) (k width q n : ℕ) {said : Bool} (o : RowClear s k width said) {i : ℕ} (e : some i ≡ find (pair q n) (row_at s k width)) where
@@ -185,8 +195,10 @@ module _ (s : List ℕ) (k width q n : ℕ) {said : Bool} (o : RowClear s k widt
       answer-found (pair q n) (row_at s k width) e
       (subst (λ x. fitting x (row_at s k width) ≡ 1) p (all_at (field_at s) k width i (own-fits (clear (row_at s k width) (subst⁻¹ (λ b. T (not b)) (o.clear b.0) tt))) t.below))
 
-  pub found-one : none ≡ find (pair q n) (rest (field_at s) k width (i + 1)) → Found i ≡ lookup_of (find (pair q n) (row_at s k width)) (fitting (pair q n) (row_at s k width))
-  found-one z = answer-found (pair q n) (row_at s k width) e ((hit (pair q n) (field_at s) k width i e).more ∙ ap suc (fitting_no (pair q n) (rest (field_at s) k width (i + 1)) z))
+  -- whether a field behind it fits
+  module _ (p : Prelude.Option ℕ) (z : place_of p ≡ find (pair q n) (rest (field_at s) k width (i + 1))) where
+    pub found-one : is_some p ≡ false → Found i ≡ lookup_of (find (pair q n) (row_at s k width)) (fitting (pair q n) (row_at s k width))
+    found-one h = answer-found (pair q n) (row_at s k width) e ((hit (pair q n) (field_at s) k width i e).more ∙ ap suc (fitting_no (pair q n) (rest (field_at s) k width (i + 1)) (none_of p h ∙ z)))
 
-  pub found-more : {j : ℕ} → some j ≡ find (pair q n) (rest (field_at s) k width (i + 1)) → Ambiguous ≡ lookup_of (find (pair q n) (row_at s k width)) (fitting (pair q n) (row_at s k width))
-  found-more z = answer_ambiguous (pair q n) (row_at s k width) e (omega (arith, (hit (pair q n) (field_at s) k width i e).more, fitting-some (pair q n) (rest (field_at s) k width (i + 1)) z))
+    pub found-more : is_some p ≡ true → Ambiguous ≡ lookup_of (find (pair q n) (row_at s k width)) (fitting (pair q n) (row_at s k width))
+    found-more h = answer_ambiguous (pair q n) (row_at s k width) e (omega (arith, (hit (pair q n) (field_at s) k width i e).more, fitting-some (pair q n) (rest (field_at s) k width (i + 1)) ((place-some p h).1 ∙ z)))

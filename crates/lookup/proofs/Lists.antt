@@ -20,6 +20,17 @@ module _ {A : Type 0} where
   list_same read read' f zero h = refl
   list_same read read' f (suc n) h = ap₂ ◌∷◌ (h f (omega arith) (omega arith)) (list_same read read' (f + 1) n (λ x a b. h x (omega arith) (omega arith)))
 
+  -- the same things from another place on
+  pub list-moved : (read read' : ℕ → A) (f g n : ℕ) → ((i : ℕ) → i < n → read (f + i) ≡ read' (g + i)) → list_at read one f n ≡ list_at read' one g n
+  unfolding list_at
+  list-moved read read' f g zero h = refl
+  list-moved read read' f g (suc n) h =
+      let a : f ≡ f + 0 = omega arith in
+      let b : g + 0 ≡ g = omega arith in
+      let x : (i : ℕ) → f + 1 + i ≡ f + suc i = λ i. omega arith in
+      let y : (i : ℕ) → g + suc i ≡ g + 1 + i = λ i. omega arith in
+      ap₂ ◌∷◌ (ap read a ∙ h 0 (omega arith) ∙ ap read' b) (list-moved read read' (f + 1) (g + 1) n (λ i l. ap read (x i) ∙ h (suc i) (omega arith) ∙ ap read' (y i)))
+
   pub list-map : {B : Type 0} (g : A → B) (read : ℕ → A) (size : ℕ → ℕ) (f n : ℕ) → map g (list_at read size f n) ≡ list_at (λ i. g (read i)) size f n
   unfolding list_at
   list-map g read size f zero = refl

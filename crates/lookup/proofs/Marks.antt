@@ -1,6 +1,6 @@
 -- The table of marks: a name that is marked stays so, and a field whose name's slot is not marked is in conflict with none. Assumes nothing.
 use mathlib.Core.Path.{◌≡◌, refl, sym, ap, ◌∙◌}
-use mathlib.Core.Bool.{Bool, true, false, ◌&&◌, ◌||◌}
+use mathlib.Core.Bool.{Bool, true, false, ◌&&◌, ◌||◌, true≢false}
 use mathlib.Core.List.{List}
 use Prim.Native.Nat.{ℕ, zero, suc, ◌+◌, ◌≤◌, ◌<◌}
 use native.Mathlib.Omega.{arith}
@@ -17,15 +17,15 @@ use Rattle.lookup.specs.Marks.{slots, slot_of, name_at, Marked, Marks}
 use Rattle.lookup.proofs.Clash.{conflict-is}
 use Rattle.lookup.proofs.Lists.{Missed, left-none, missed_all, missed_more}
 
-pub mark_set : (seen : List ℕ) (n x : ℕ) → length seen ≡ slots → x ≡ slot_of n → Marks n seen (set seen x 1)
-mark_set seen n x l e = record { long = length-set seen x 1; here = there (slot_of n) (sym e); stays = λ y m. by y m (eqb y x) refl }
+pub mark_set : (seen : List Bool) (n x : ℕ) → length seen ≡ slots → x ≡ slot_of n → Marks n seen (set seen x true)
+mark_set seen n x l e = record { long = length-set seen x true; here = there (slot_of n) (sym e); stays = λ y m. by y m (eqb y x) refl }
   where
-    there : (y : ℕ) → y ≡ x → get_or (set seen x 1) y 0 ≡ 1
-    there y d = rw d (get_or-set_same seen x 1 0 (omega arith))
+    there : (y : ℕ) → y ≡ x → get_or (set seen x true) y false ≡ true
+    there y d = rw d (get_or-set_same seen x true false (omega arith))
 
-    by : (y : ℕ) → get_or seen y 0 ≡ 1 → (b : Bool) → eqb y x ≡ b → get_or (set seen x 1) y 0 ≡ 1
+    by : (y : ℕ) → get_or seen y false ≡ true → (b : Bool) → eqb y x ≡ b → get_or (set seen x true) y false ≡ true
     by y m true d = there y (eqb-true y x d)
-    by y m false d = get_or-set_other seen x y 1 0 (eqb-false y x d) ∙ m
+    by y m false d = get_or-set_other seen x y true false (eqb-false y x d) ∙ m
 
 -- fields of two names
 apart : (q n r m : ℕ) → (n ≡ m → ⊥) → false ≡ conflict (pair q n) (pair r m)
@@ -35,13 +35,13 @@ name_of : {q n r m : ℕ} → pair q n ≡ pair r m → n ≡ m
 name_of e = cc
 
 module _ (s : List ℕ) (k : ℕ) where
-  pub marked-none : {seen : List ℕ} → length seen ≡ slots → Marked seen s k 0
+  pub marked-none : {seen : List Bool} → length seen ≡ slots → Marked seen s k 0
   marked-none l = record { long = l; marks = λ j h. absurd (omega arith) }
 
-  pub marked_more : {seen seen' : List ℕ} (i : ℕ) {q n : ℕ} → Marked seen s k i → pair q n ≡ field_at s (k + i) → Marks n seen seen' → Marked seen' s k (i + 1)
+  pub marked_more : {seen seen' : List Bool} (i : ℕ) {q n : ℕ} → Marked seen s k i → pair q n ≡ field_at s (k + i) → Marks n seen seen' → Marked seen' s k (i + 1)
   marked_more {seen} {seen'} i {q} {n} m e v = record { long = v.long ∙ m.long; marks = λ j h. by j h (eqb j i) refl }
     where
-      by : (j : ℕ) → j < i + 1 → (b : Bool) → eqb j i ≡ b → get_or seen' (slot_of (name_at s (k + j))) 0 ≡ 1
+      by : (j : ℕ) → j < i + 1 → (b : Bool) → eqb j i ≡ b → get_or seen' (slot_of (name_at s (k + j))) false ≡ true
       by j h true t =
           let d : name_at s (k + j) ≡ n = ap (λ x. name_at s (k + x)) (eqb-true j i t) ∙ sym (name_of e) in
           rw d v.here
@@ -49,11 +49,11 @@ module _ (s : List ℕ) (k : ℕ) where
           let d = eqb-false j i t in
           v.stays _ (m.marks j (omega arith))
 
-  pub unmarked : (seen : List ℕ) (w q n : ℕ) → Marked seen s k w → get_or seen (slot_of n) 0 ≡ 0 → false ≡ any_b (conflict (pair q n)) (row_at s k w)
+  pub unmarked : (seen : List Bool) (w q n : ℕ) → Marked seen s k w → get_or seen (slot_of n) false ≡ false → false ≡ any_b (conflict (pair q n)) (row_at s k w)
   unmarked seen w q n m z = missed_all _ _ _ _ w (go w (omega arith)) (omega arith)
     where
       other : (i : ℕ) → i < w → n ≡ name_at s (k + i) → ⊥
-      other i h e = omega (arith, m.marks i h, ap (λ x. get_or seen (slot_of x) 0) e)
+      other i h e = true≢false (sym (m.marks i h) ∙ sym (ap (λ x. get_or seen (slot_of x) false) e) ∙ z)
 
       go : (i : ℕ) → i ≤ w → Missed (conflict (pair q n)) (field_at s) k w i
       go zero h = left-none _ _ _ _

@@ -7,14 +7,18 @@ use native.Mathlib.Omega.{arith}
 use lib.Dec.{leb, ltb}
 use lib.IntN.{ℤ}
 use borrow.Author.Tests.{lt-leb, lt-ltb}
+use Rattle.std.specs.Prelude.{Ok, Err}
 use Rattle.cpl.specs.Accept.{Test}
-use Rattle.cpl.specs.Exprs.{fitting, known, definite}
+use Rattle.cpl.specs.Exprs.{find, fitting, known, definite}
 use Rattle.cpl.specs.Plan.{Pair, Op1, Op2, Expr, col, lit, miss, un, bin}
 use Rattle.cpl.specs.Tests.{all_b}
 use Rattle.cpl.proofs.Lookup.{find-fitting, fitting_++}
-use Rattle.lookup.specs.Answers.{resolved_of, resolving, worse}
-use Rattle.lookup.specs.declared.Resolved.{Resolved}
-use Rattle.lookup.specs.declared.Resolved.TheVariants.{Fine, Unknown, Ambiguous}
+use Rattle.lookup.specs.Answers.{Resolved, lookup_of, resolved_of, resolving, worse}
+use Rattle.lookup.specs.declared.Lookup.{Lookup}
+use Rattle.lookup.specs.declared.Lookup.TheVariants.{Found, Absent, Ambiguous}
+use Rattle.lookup.specs.declared.Unresolved.TheVariants as Unresolved
+use Rattle.lookup.specs.declared.Unresolved.TheVariants.{Unknown}
+use Rattle.lookup.proofs.Fits.{more-fit, no_fits, one-fits}
 
 -- ── two answers ─────────────────────────────────────────────────────────────────────────────
 
@@ -29,21 +33,29 @@ worse_of false d b e = refl
 pub worse-both : (p q : Test → Bool) → worse (resolving p) (resolving q) ≡ resolving (λ test. p test && q test)
 worse-both p q = worse_of (p known) (p definite) (q known) (q definite)
 
-pub worse-fine : (r : Resolved) → worse r Fine ≡ r
-worse-fine Fine = refl
-worse-fine Unknown = refl
-worse-fine Ambiguous = refl
+pub worse-fine : (r : Resolved) → worse r (Ok tt) ≡ r
+worse-fine (Ok u) = refl
+worse-fine (Err Unknown) = refl
+worse-fine (Err Unresolved.Ambiguous) = refl
 
 pub worse_assoc : (a b c : Resolved) → worse (worse a b) c ≡ worse a (worse b c)
-worse_assoc Fine b c = refl
-worse_assoc Unknown b c = refl
-worse_assoc Ambiguous Fine c = refl
-worse_assoc Ambiguous Unknown c = refl
-worse_assoc Ambiguous Ambiguous Fine = refl
-worse_assoc Ambiguous Ambiguous Unknown = refl
-worse_assoc Ambiguous Ambiguous Ambiguous = refl
+worse_assoc (Ok u) b c = refl
+worse_assoc (Err Unknown) b c = refl
+worse_assoc (Err Unresolved.Ambiguous) (Ok u) c = refl
+worse_assoc (Err Unresolved.Ambiguous) (Err Unknown) c = refl
+worse_assoc (Err Unresolved.Ambiguous) (Err Unresolved.Ambiguous) (Ok u) = refl
+worse_assoc (Err Unresolved.Ambiguous) (Err Unresolved.Ambiguous) (Err e) = refl
 
 -- ── a reference over two sides ──────────────────────────────────────────────────────────────
+
+abbrev pub together : (left right : Lookup) → Resolved
+together Ambiguous r = Err Unresolved.Ambiguous
+together Absent Ambiguous = Err Unresolved.Ambiguous
+together Absent Absent = Err Unknown
+together Absent (Found j) = Ok tt
+together (Found i) Ambiguous = Err Unresolved.Ambiguous
+together (Found i) Absent = Ok tt
+together (Found i) (Found j) = Err Unresolved.Ambiguous
 
 module _ (c : Pair) (xs ys : List Pair) where
   abbrev pub column : Resolved
@@ -53,16 +65,26 @@ module _ (c : Pair) (xs ys : List Pair) where
   unfolding known definite
   by_count n e = let h = sym e ∙ sym (fitting_++ c xs ys) in ap₂ resolved_of (ap (ltb 0) h ∙ sym (find-fitting c (xs ++ ys))) (ap (λ x. leb x 1) h)
 
-  pub column-none : fitting c xs + fitting c ys ≡ 0 → Unknown ≡ column
-  column-none e = by_count 0 e
-
-  pub column-one : fitting c xs + fitting c ys ≡ 1 → Fine ≡ column
-  column-one e = by_count 1 e
-
-  pub column-more : 1 < fitting c xs + fitting c ys → Ambiguous ≡ column
-  column-more l =
+  more : 1 < fitting c xs + fitting c ys → Err Unresolved.Ambiguous ≡ column
+  more l =
       let n = fitting c xs + fitting c ys in
       sym (ap₂ resolved_of (lt-ltb 0 n (omega (arith, l))) (lt-leb n 1 l)) ∙ by_count n refl
+
+  -- what the sides find is what both find together
+  pub column_is : (l r : Lookup) → l ≡ lookup_of (find c xs) (fitting c xs) → r ≡ lookup_of (find c ys) (fitting c ys) → together l r ≡ column
+  column_is Ambiguous r p q = more (omega (arith, more-fit c xs p))
+  column_is Absent Ambiguous p q = more (omega (arith, more-fit c ys q))
+  column_is Absent Absent p q = by_count 0 (omega (arith, no_fits c xs p, no_fits c ys q))
+  column_is Absent (Found j) p q = by_count 1 (omega (arith, no_fits c xs p, one-fits c ys q))
+  column_is (Found i) Ambiguous p q = more (omega (arith, more-fit c ys q))
+  column_is (Found i) Absent p q = by_count 1 (omega (arith, one-fits c xs p, no_fits c ys q))
+  column_is (Found i) (Found j) p q = more (omega (arith, one-fits c xs p, one-fits c ys q))
+
+  -- the left side finds a field, and the right side something
+  pub found_more : {i : ℕ} (r : Lookup) → (r ≡ Absent → ⊥) → Found i ≡ lookup_of (find c xs) (fitting c xs) → r ≡ lookup_of (find c ys) (fitting c ys) → Err Unresolved.Ambiguous ≡ column
+  found_more {i} (Found j) a p q = column_is (Found i) (Found j) p q
+  found_more Absent a p q = absurd (a refl)
+  found_more {i} Ambiguous a p q = column_is (Found i) Ambiguous p q
 
 -- ── expressions ─────────────────────────────────────────────────────────────────────────────
 
@@ -73,11 +95,11 @@ module _ (fs : List Pair) where
   pub seen_is : {e x : Expr} {r : Resolved} → e ≡ x → r ≡ seen x → r ≡ seen e
   seen_is v p = p ∙ sym (ap seen v)
 
-  pub seen_lit : {e : Expr} {z : ℤ} → e ≡ lit z → Fine ≡ seen e
+  pub seen_lit : {e : Expr} {z : ℤ} → e ≡ lit z → Ok tt ≡ seen e
   unfolding known definite
   seen_lit v = sym (ap seen v)
 
-  pub seen_miss : {e : Expr} → e ≡ miss → Fine ≡ seen e
+  pub seen_miss : {e : Expr} → e ≡ miss → Ok tt ≡ seen e
   unfolding known definite
   seen_miss v = sym (ap seen v)
 
@@ -99,7 +121,7 @@ module _ {A : Type 0} (F : Tests A) where
   abbrev pub all_seen : List A → Resolved
   all_seen xs = resolving (λ test. all_b (λ x. F x test) xs)
 
-  pub seen_none : all_seen [] ≡ Fine
+  pub seen_none : all_seen [] ≡ Ok tt
   unfolding all_b
   seen_none = refl
 

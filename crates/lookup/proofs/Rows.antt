@@ -1,7 +1,7 @@
 -- Rows of fields that are kept, and rows that are filled field by field. Assumes nothing.
 use mathlib.Core.Path.{◌≡◌, refl, sym, ap, ap₂, subst, ◌∙◌}
 use mathlib.Core.List.{List, [], ◌∷◌, ◌++◌, append-nil, append_assoc}
-use Prim.Native.Nat.{ℕ, ◌+◌, ◌*◌, ◌<◌, ◌≤◌}
+use Prim.Native.Nat.{ℕ, ◌+◌, ◌-◌, ◌*◌, ◌<◌, ◌≤◌}
 use native.Mathlib.Omega.{arith}
 use lib.ListN.{length, get_or, set, length-set}
 use lib.Seq.{get_or-set_same, get_or-set_other}
@@ -9,7 +9,8 @@ use Rattle.cpl.specs.Limits.{max_nodes}
 use Rattle.cpl.specs.Plan.{Pair, pair}
 use Rattle.tree.specs.Rows.{list_at, one}
 use Rattle.lookup.specs.Fields.{field_at, first_at, row_at, width_at, Kept, RowsKept, RowStays, WidthsKept, Filled}
-use Rattle.lookup.proofs.Lists.{list_same, list_append, rest, rest_all, rest-next, rest-none}
+use Rattle.std.specs.List.{CopiedTo, SameBelow, SameFrom}
+use Rattle.lookup.proofs.Lists.{list_same, list_append, list-moved, rest, rest_all, rest-next, rest-none}
 
 -- ── what is kept ────────────────────────────────────────────────────────────────────────────
 
@@ -136,3 +137,18 @@ module _ (read : ℕ → Pair) (f n to : ℕ) where
       let e : i ≡ n = omega (arith, p.upto) in
       let d : Filling to i [] (list_at read one f n) s s' = record { row = ap (row_at s' to i ++◌) (sym (rest-none read f n i h)) ∙ p.filling.row; kept = p.filling.kept } in
       fill_all (subst (λ x. Filling to x [] (list_at read one f n) s s') e d)
+
+-- a row that the library copies
+module _ {s s' : List ℕ} (to from width count : ℕ) where
+  pub copied : count ≡ width * 2 → length s' ≡ length s → CopiedTo s s' (from * 2) (to * 2) count → SameBelow s s' (to * 2) → SameFrom s s' (to * 2 + count) → Filled to width (row_at s from width) s s'
+  copied e l c b a = record {
+    row = list-moved (field_at s') (field_at s) to from width (λ i h. ap₂ pair (moved i ((to + i) * 2) ((from + i) * 2) (omega arith)) (moved i ((to + i) * 2 + 1) ((from + i) * 2 + 1) (omega arith)));
+    kept = record {
+      long = l;
+      low = λ x h. ap₂ pair (b (x * 2) 0 (omega arith)) (b (x * 2 + 1) 0 (omega arith));
+      high = λ x h. ap₂ pair (a (x * 2) 0 (omega arith)) (a (x * 2 + 1) 0 (omega arith));
+    };
+  }
+    where
+      moved : (i k j : ℕ) → (to * 2 ≤ k) × (k < to * 2 + count) × (from * 2 + (k - to * 2) ≡ j) → get_or s' k 0 ≡ get_or s j 0
+      moved i k j h = c k 0 h.0 h.1 ∙ ap (λ (x : ℕ). get_or s x 0) h.2

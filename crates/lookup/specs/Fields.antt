@@ -5,7 +5,8 @@ use Rattle.cpl.specs.Accept.{clash}
 use Rattle.cpl.specs.Limits.{max_nodes}
 use Rattle.cpl.specs.Plan.{Pair, pair}
 use Rattle.tree.specs.Rows.{list_at, one}
-use Rattle.lookup.specs.declared.Field.{Field}
+use Rattle.tree.specs.declared.Field.{Field}
+use Rattle.lookup.specs.declared.Schema.{Schema}
 use Rattle.lookup.specs.declared.Sides.{Sides}
 
 abbrev pub field_at : List ℕ → ℕ → Pair
@@ -65,6 +66,18 @@ pub record Filled (first width : ℕ) (fs : List Pair) (s s' : List ℕ) : Type 
 
 abbrev pub pair_of : Field → Pair
 pair_of f = pair f.qualifier f.name
+
+-- the fields of a row
+abbrev pub fields_of : Schema → List Pair
+fields_of s = row_at s.fields.now s.first s.width
+
+-- they lie in the array
+abbrev pub SchemaIn : Schema → Type 0
+SchemaIn s = RowIn s.fields.now s.first s.width
+
+-- and do not clash where that is said
+abbrev pub SchemaClear : Schema → (said : Bool) → Type 0
+SchemaClear s said = RowClear s.fields.now s.first s.width said
 
 -- the fields of the two sides of a node
 abbrev pub left_row : List ℕ → Sides → List Pair

@@ -1,5 +1,5 @@
 -- A table of marks, with a slot for each remainder of a name: where the slot of a name is not marked, none of the marked fields has the name.
-use Rattle.std.specs.Prelude.{◌≡◌, List, ℕ, ◌+◌, ◌*◌, ◌%◌, ◌<◌, length, get_or}
+use Rattle.std.specs.Prelude.{◌≡◌, Bool, true, false, List, ℕ, ◌+◌, ◌*◌, ◌%◌, ◌<◌, length, get_or}
 
 -- as many slots as the table of src/ has
 abbrev pub slots : ℕ
@@ -13,12 +13,12 @@ abbrev pub name_at : List ℕ → ℕ → ℕ
 name_at s j = get_or s (j * 2 + 1) 0
 
 -- the slots of the names of `width` fields from field `first` on are marked
-pub record Marked (seen fields : List ℕ) (first width : ℕ) : Type 0 where
+pub record Marked (seen : List Bool) (fields : List ℕ) (first width : ℕ) : Type 0 where
   pub long : length seen ≡ slots
-  pub marks : (j : ℕ) → j < width → get_or seen (slot_of (name_at fields (first + j))) 0 ≡ 1
+  pub marks : (j : ℕ) → j < width → get_or seen (slot_of (name_at fields (first + j))) false ≡ true
 
 -- a table became another: the slot of a name was marked, and no mark was lost
-pub record Marks (name : ℕ) (seen seen' : List ℕ) : Type 0 where
+pub record Marks (name : ℕ) (seen seen' : List Bool) : Type 0 where
   pub long : length seen' ≡ length seen
-  pub here : get_or seen' (slot_of name) 0 ≡ 1
-  pub stays : (x : ℕ) → get_or seen x 0 ≡ 1 → get_or seen' x 0 ≡ 1
+  pub here : get_or seen' (slot_of name) false ≡ true
+  pub stays : (x : ℕ) → get_or seen x false ≡ true → get_or seen' x false ≡ true

@@ -13,20 +13,15 @@ ghost use Rattle.cpl.specs.Plan.{col, pair};
 ghost use Rattle.cpl.specs.Tests.{any_b};
 ghost use Rattle.lookup.specs.Answers.{lookup_of, place_of, resolving, worse};
 ghost use Rattle.lookup.specs.Marks.{Marked, Marks, slot_of, slots};
-ghost use Rattle.lookup.specs.Fields.{field_at, Filled, first_at, Kept, left_row, pair_of, right_row, row_at, RowClear, RowIn, SidesClear, SidesIn, width_at};
+ghost use Rattle.lookup.specs.Fields.{fields_of, SchemaClear, SchemaIn, field_at, Filled, first_at, Kept, left_row, pair_of, right_row, row_at, RowClear, RowIn, SidesClear, SidesIn, width_at};
 ghost use Rattle.tree.specs.Rows.{list_at, one};
 
 use arena::View;
-
-/// A field: a qualifier, 0 for none, and a name.
-#[derive(Clone, Copy)]
-pub struct Field {
-    pub qualifier: u16,
-    pub name: u16,
-}
+use tree::Field;
 
 /// Two sides: `lwidth` fields from field `left` on, `rwidth` from field `right` on. What has one input or none has width 0 there. And are the
-/// fields of each side by themselves known not to clash?
+/// fields of each side by themselves known not to clash? Rows are named by numbers, as `widths` holds them: the lent array of fields is written
+/// between two uses (document 01: no heap, fixed memory), so no slice of it is held.
 #[derive(Clone, Copy)]
 pub struct Sides {
     pub left: usize,
@@ -36,14 +31,7 @@ pub struct Sides {
     pub clear: bool,
 }
 
-/// The first field that fits a reference: its place, or there is none.
-#[derive(Clone, Copy)]
-pub enum Fit {
-    At(usize),
-    Nothing,
-}
-
-/// What a reference finds among fields: the place of the one that fits, or none fits, or more than one does.
+/// What a reference finds among fields: the place of the one that fits, or none fits, or more than one does. An enum, as document 01 names it.
 #[derive(Clone, Copy)]
 pub enum Lookup {
     Found(usize),
@@ -51,10 +39,9 @@ pub enum Lookup {
     Ambiguous,
 }
 
-/// What the references of expressions find: each one field, or some none, or else some more than one.
-#[derive(Clone, Copy)]
-pub enum Resolved {
-    Fine,
+/// Why the references of expressions do not each find one field: some finds none, or else some finds more than one.
+#[derive(Clone, Copy, PartialEq, Eq)]
+pub enum Unresolved {
     Unknown,
     Ambiguous,
 }
@@ -86,10 +73,7 @@ pub fn put_field(fields: &mut [u16], j: usize, f: Field)
 pub fn width_at(widths: &[u64], k: usize) -> usize
     ensures { result ≡ width_at widths.now k }
 {
-    if k < widths.len() {
-        return widths[k] as usize;
-    }
-    0
+    widths.get(k).map_or(0, |&width| width as usize)
 }
 
 /// The number of node `k`'s first field; 0 past the last node.
@@ -102,109 +86,98 @@ pub fn first_at(widths: &[u64], k: usize) -> usize
     0
 }
 
-/// The place of the first that fits a reference among `count` fields from field `first` on, which lie in the array. Without a qualifier a
-/// reference fits each field of its name; with one it fits that pair alone.
-pub fn first_fit(fields: &[u16], first: usize, count: usize, qualifier: u16, name: u16) -> Fit
-    requires { (first + count) * 2 ≤ length fields.now }
-    ensures { place_of result ≡ find (pair qualifier name) (list_at (field_at fields.now) one first count) }
-{
-    let mut i = 0;
-    while i < count {
-        let f = field_at(fields, first + i);
-        if (name == f.name) & ((qualifier == 0) | (qualifier == f.qualifier)) {
-            return Fit::At(i);
-        }
-        i += 1;
-    }
-    Fit::Nothing
+/// A row of fields: `width` of them from field `first` on. The fields of a node are one.
+#[derive(Clone, Copy)]
+pub struct Schema<'a> {
+    pub fields: &'a [u16],
+    pub first: usize,
+    pub width: usize,
 }
 
-/// What a reference finds among `width` fields from field `first` on, which lie in the array. Where `clear` is said they do not clash, so where
-/// the reference's own pair is found, no second field fits.
-pub fn look_up(
-    fields: &[u16],
-    first: usize,
-    width: usize,
-    clear: bool,
-    qualifier: u16,
-    name: u16,
-) -> Lookup
-    requires { RowClear fields.now first width clear }
-    ensures { result ≡ lookup_of (find (pair qualifier name) (row_at fields.now first width)) (fitting (pair qualifier name) (row_at fields.now first width)) }
+impl Schema<'_> {
+    /// The place of the first field that fits a reference. Without a qualifier a reference fits each field of its name; with one it fits that pair
+    /// alone. The fields lie in the array.
+    pub fn first_fit(&self, qualifier: u16, name: u16) -> Option<usize>
+        requires { SchemaIn self.now }
+        ensures { place_of result ≡ find (pair qualifier name) (fields_of self.now) }
+    {
+        for i in 0..self.width {
+            let f = field_at(self.fields, self.first + i);
+            if (name == f.name) & ((qualifier == 0) | (qualifier == f.qualifier)) {
+                return Some(i);
+            }
+        }
+        None
+    }
+}
+
+/// What a reference finds among the fields of a row, which lie in the array. Where `clear` is said they do not clash, so where the reference's
+/// own pair is found, no second field fits.
+pub fn look_up(schema: &Schema, clear: bool, qualifier: u16, name: u16) -> Lookup
+    requires { SchemaClear schema.now clear }
+    ensures { result ≡ lookup_of (find (pair qualifier name) (fields_of schema.now)) (fitting (pair qualifier name) (fields_of schema.now)) }
 {
-    let Fit::At(i) = first_fit(fields, first, width, qualifier, name) else {
+    let Some(i) = schema.first_fit(qualifier, name) else {
         return Lookup::Absent;
     };
-    let f = field_at(fields, first + i);
+    let f = field_at(schema.fields, schema.first + i);
     if clear & (f.qualifier == qualifier) {
         return Lookup::Found(i);
     }
     let next = i + 1;
-    let Fit::Nothing = first_fit(fields, first + next, width - next, qualifier, name) else {
-        return Lookup::Ambiguous;
+    let behind = Schema {
+        first: schema.first + next,
+        width: schema.width - next,
+        ..*schema
     };
+    if behind.first_fit(qualifier, name).is_some() {
+        return Lookup::Ambiguous;
+    }
     Lookup::Found(i)
 }
 
 /// What a reference finds in two sides together, which lie in the array.
-fn resolve_column(fields: &[u16], sides: Sides, qualifier: u16, name: u16) -> Resolved
+fn resolve_column(fields: &[u16], sides: Sides, qualifier: u16, name: u16) -> Result<(), Unresolved>
     requires { SidesClear fields.now sides }
     ensures { result ≡ resolving (λ test. test (left_row fields.now sides ++ right_row fields.now sides) (col (pair qualifier name))) }
 {
-    let left = look_up(
+    let left = Schema {
         fields,
-        sides.left,
-        sides.lwidth,
-        sides.clear,
-        qualifier,
-        name,
-    );
-    let right = look_up(
+        first: sides.left,
+        width: sides.lwidth,
+    };
+    let right = Schema {
         fields,
-        sides.right,
-        sides.rwidth,
-        sides.clear,
-        qualifier,
-        name,
-    );
-    match left {
-        Lookup::Found(_) => {
-            match right {
-                Lookup::Found(_) => Resolved::Ambiguous,
-                Lookup::Absent => Resolved::Fine,
-                Lookup::Ambiguous => Resolved::Ambiguous,
-            }
-        }
-        Lookup::Absent => {
-            match right {
-                Lookup::Found(_) => Resolved::Fine,
-                Lookup::Absent => Resolved::Unknown,
-                Lookup::Ambiguous => Resolved::Ambiguous,
-            }
-        }
-        Lookup::Ambiguous => Resolved::Ambiguous,
+        first: sides.right,
+        width: sides.rwidth,
+    };
+    let left = look_up(&left, sides.clear, qualifier, name);
+    let right = look_up(&right, sides.clear, qualifier, name);
+    match (left, right) {
+        (Lookup::Found(_), Lookup::Absent) | (Lookup::Absent, Lookup::Found(_)) => Ok(()),
+        (Lookup::Absent, Lookup::Absent) => Err(Unresolved::Unknown),
+        _ => Err(Unresolved::Ambiguous),
     }
 }
 
 /// What two lists of expressions find together: unknown comes before ambiguous.
-pub fn both_resolved(a: Resolved, b: Resolved) -> Resolved
+pub fn both_resolved(a: Result<(), Unresolved>, b: Result<(), Unresolved>) -> Result<(), Unresolved>
     ensures { result ≡ worse «a» «b» }
 {
     match a {
-        Resolved::Fine => b,
-        Resolved::Unknown => a,
-        Resolved::Ambiguous => {
+        Ok(()) => b,
+        Err(Unresolved::Unknown) => a,
+        Err(Unresolved::Ambiguous) => {
             match b {
-                Resolved::Fine => a,
-                Resolved::Unknown => b,
-                Resolved::Ambiguous => a,
+                Ok(()) => a,
+                Err(_) => b,
             }
         }
     }
 }
 
 /// What the references of node `i`'s expression find in two sides together, which lie in the array. The nodes up to `i` are well formed.
-pub fn resolve_both(cells: &[u64], i: usize, fields: &[u16], sides: Sides) -> Resolved
+pub fn resolve_both(cells: &[u64], i: usize, fields: &[u16], sides: Sides) -> Result<(), Unresolved>
     requires wf { Wf cells.now (i + 1) }
     requires sides_clear { SidesClear fields.now sides }
     ensures { result ≡ resolving (λ test. test (left_row fields.now sides ++ right_row fields.now sides) (expr_at cells.now i)) }
@@ -212,8 +185,7 @@ pub fn resolve_both(cells: &[u64], i: usize, fields: &[u16], sides: Sides) -> Re
     let v = arena::node_at(cells, i);
     match v {
         View::Col(q, n) => resolve_column(fields, sides, q, n),
-        View::Lit(_) => Resolved::Fine,
-        View::Miss => Resolved::Fine,
+        View::Lit(_) | View::Miss => Ok(()),
         View::One(_, x) => resolve_both(cells, x, fields, sides),
         View::Two(_, x, y) => {
             let first = resolve_both(cells, x, fields, sides);
@@ -223,35 +195,28 @@ pub fn resolve_both(cells: &[u64], i: usize, fields: &[u16], sides: Sides) -> Re
     }
 }
 
-/// What the references of node `i`'s expression find among `width` fields from field `first` on, which lie in the array, and do not clash where
-/// `clear` is said. The nodes up to `i` are well formed.
-pub fn resolve_expr(
-    cells: &[u64],
-    i: usize,
-    fields: &[u16],
-    first: usize,
-    width: usize,
-    clear: bool,
-) -> Resolved
+/// What the references of node `i`'s expression find among the fields of a row, which lie in the array, and do not clash where `clear` is said.
+/// The nodes up to `i` are well formed.
+pub fn resolve_expr(cells: &[u64], i: usize, schema: &Schema, clear: bool) -> Result<(), Unresolved>
     requires wf { Wf cells.now (i + 1) }
-    requires row_clear { RowClear fields.now first width clear }
-    ensures { result ≡ resolving (λ test. test (row_at fields.now first width) (expr_at cells.now i)) }
+    requires row_clear { SchemaClear schema.now clear }
+    ensures { result ≡ resolving (λ test. test (fields_of schema.now) (expr_at cells.now i)) }
 {
     let one = Sides {
-        left: first,
-        lwidth: width,
-        right: first,
+        left: schema.first,
+        lwidth: schema.width,
+        right: schema.first,
         rwidth: 0,
         clear,
     };
-    resolve_both(cells, i, fields, one)
+    resolve_both(cells, i, schema.fields, one)
 }
 
 /// May two fields not stand in one list? Two equal pairs, or one name both with and without qualifier.
 fn in_conflict(f: Field, g: Field) -> bool
     ensures { result ≡ conflict (pair_of f) (pair_of g) }
 {
-    (f.name == g.name) & ((f.qualifier == g.qualifier) | (f.qualifier == 0) | (g.qualifier == 0))
+    (f == g) | ((f.name == g.name) & ((f.qualifier == 0) | (g.qualifier == 0)))
 }
 
 /// Is a field in conflict with one of `width` fields from field `first` on, which lie in the array?
@@ -260,11 +225,9 @@ fn conflicts(fields: &[u16], first: usize, width: usize, f: Field) -> bool
     ensures { result ≡ any_b (conflict (pair_of f)) (row_at fields.now first width) }
 {
     let mut hit = false;
-    let mut i = 0;
-    while i < width {
+    for i in 0..width {
         let g = field_at(fields, first + i);
         hit = hit | in_conflict(f, g);
-        i += 1;
     }
     hit
 }
@@ -277,34 +240,38 @@ fn slot(f: Field) -> usize
 }
 
 /// The slot of a field's name is marked.
-fn mark(seen: &mut [u8; 256], f: Field)
+fn mark(seen: &mut [bool; 256], f: Field)
     requires { length seen.old ≡ slots }
     ensures { Marks f.name seen.old seen.new }
 {
     let s = slot(f);
-    seen[s] = 1;
+    seen[s] = true;
 }
 
 /// The slots of the names of `width` fields from field `first` on, which lie in the array, are marked.
-fn mark_row(seen: &mut [u8; 256], fields: &[u16], first: usize, width: usize)
+fn mark_row(seen: &mut [bool; 256], fields: &[u16], first: usize, width: usize)
     requires { (length seen.old ≡ slots) × RowIn fields.now first width }
     ensures { Marked seen.new fields.now first width }
 {
-    let mut i = 0;
-    while i < width {
+    for i in 0..width {
         let f = field_at(fields, first + i);
         mark(seen, f);
-        i += 1;
     }
 }
 
 /// `conflicts`, where the names of the fields are marked: a field whose name's slot is not marked is in conflict with none.
-fn conflicts_marked(seen: &[u8; 256], fields: &[u16], first: usize, width: usize, f: Field) -> bool
+fn conflicts_marked(
+    seen: &[bool; 256],
+    fields: &[u16],
+    first: usize,
+    width: usize,
+    f: Field,
+) -> bool
     requires { RowIn fields.now first width × Marked seen.now fields.now first width }
     ensures { result ≡ any_b (conflict (pair_of f)) (row_at fields.now first width) }
 {
     let s = slot(f);
-    if seen[s] == 0 {
+    if !seen[s] {
         return false;
     }
     conflicts(fields, first, width, f)
@@ -319,16 +286,14 @@ pub fn clash_from(fields: &[u16], first: usize, start: usize, width: usize) -> b
     if start == width {
         return false;
     }
-    let mut seen = [0u8; 256];
+    let mut seen = [false; 256];
     mark_row(&mut seen, fields, first, start);
-    let mut i = start;
-    while i < width {
+    for i in start..width {
         let f = field_at(fields, first + i);
         if conflicts_marked(&seen, fields, first, i, f) {
             return true;
         }
         mark(&mut seen, f);
-        i += 1;
     }
     false
 }
@@ -343,15 +308,13 @@ pub fn sides_clash(fields: &[u16], sides: Sides) -> bool
     let lwidth = sides.lwidth;
     let right = sides.right;
     let width = sides.rwidth;
-    let mut seen = [0u8; 256];
+    let mut seen = [false; 256];
     mark_row(&mut seen, fields, left, lwidth);
-    let mut i = 0;
-    while i < width {
+    for i in 0..width {
         let f = field_at(fields, right + i);
         if conflicts_marked(&seen, fields, left, lwidth, f) {
             return true;
         }
-        i += 1;
     }
     false
 }
@@ -361,27 +324,17 @@ pub fn copy_fields(fields: &mut [u16], to: usize, from: usize, width: usize)
     requires { (from + width ≤ to) × RowIn fields.old to width }
     ensures { Filled to width (row_at fields.old from width) fields.old fields.new }
 {
-    let mut i = 0;
-    while i < width {
-        let f = field_at(fields, from + i);
-        put_field(fields, to + i, f);
-        i += 1;
-    }
+    fields.copy_within(from * 2..(from + width) * 2, to * 2);
 }
 
-/// `width` fields from field `from` on are put from field `to` on, behind them, under a qualifier. All lie in the array.
+/// `width` fields from field `from` on are put from field `to` on, behind them, under a qualifier. All lie in the array. Field by field: the library
+/// copies whole numbers, and each second one is the qualifier.
 pub fn alias_fields(fields: &mut [u16], to: usize, from: usize, width: usize, qualifier: u16)
     requires { (from + width ≤ to) × RowIn fields.old to width }
     ensures { Filled to width (map (requalify qualifier) (row_at fields.old from width)) fields.old fields.new }
 {
-    let mut i = 0;
-    while i < width {
+    for i in 0..width {
         let f = field_at(fields, from + i);
-        let g = Field {
-            qualifier,
-            name: f.name,
-        };
-        put_field(fields, to + i, g);
-        i += 1;
+        put_field(fields, to + i, Field { qualifier, ..f });
     }
 }

@@ -3,11 +3,13 @@ use mathlib.Core.Path.{◌≡◌, refl, sym, ap, ap₂, subst, ◌∙◌}
 use mathlib.Core.Bool.{Bool, true, false, not, ◌&&◌, ◌||◌}
 use mathlib.Core.List.{List, [], ◌∷◌, map}
 use mathlib.Core.Option.{none, some}
-use Prim.Native.Nat.{ℕ, ◌+◌, ◌*◌, ◌/◌, ◌%◌, ◌^◌, ◌<◌, ◌≤◌}
+use Prim.Native.Nat.{ℕ, zero, suc, ◌+◌, ◌*◌, ◌/◌, ◌%◌, ◌^◌, ◌<◌, ◌≤◌}
 use native.Mathlib.Omega.{arith}
 use borrow.Author.Tests.{lt-ltb}
 use lib.Dec.{eqb, ltb}
 use lib.ListN.{length}
+use Rattle.std.specs.List.{list_any, range_with_len}
+use Rattle.std.proofs.Common.{add-one}
 use Rattle.cpl.specs.Codes.{tag_of}
 use Rattle.cpl.specs.Exprs.{item_tags}
 use Rattle.cpl.specs.Limits.{max_tags}
@@ -19,7 +21,7 @@ use Rattle.rules.proofs.Held.{held_items}
 use Rattle.arena.specs.Cells.{Wf, expr_at}
 use Rattle.arena.specs.Rows.{RowIs, RowOk, item_at, items_at}
 use Rattle.arena.proofs.Laws.{here}
-use Rattle.arena.proofs.Rows.{read_expr_lem, rest, rest_all, rest-next, rest-none, tags_le}
+use Rattle.arena.proofs.Rows.{read_expr_lem, tags_le}
 use Rattle.arena.proofs.Same.{items-length}
 use Rattle.arena_build.specs.Lists.{Listing, ListRefused, nodes_of}
 use Rattle.arena_build.proofs.Defs.{item-pair}
@@ -28,29 +30,16 @@ use Rattle.merge.specs.Step.{Reads, pushes_tag}
 
 -- ── held ────────────────────────────────────────────────────────────────────────────────────
 
--- no item that was passed stops the merge
-pub record Passed (m : ℕ) (js : List Item) (s cells : List ℕ) (f n i : ℕ) : Type 0 where
-  pub upto : i ≤ n
-  pub same : any_b (stops m js) (rest s cells f n i) ≡ held m js (items_at s cells f n)
+-- a question to each item of a list, by its rows' numbers
+any_rows : (g : Item → Bool) (s cells : List ℕ) (f n : ℕ) → list_any (λ i. g (item_at s cells i)) (range_with_len f n) ≡ any_b g (items_at s cells f n)
+unfolding items_at any_b
+any_rows g s cells f zero = refl
+any_rows g s cells f (suc n) = rw add-one (ap (g (item_at s cells f) ||◌) (any_rows g s cells (suc f) n))
 
-module _ (m : ℕ) (js : List Item) (s cells : List ℕ) (f n : ℕ) where
-  pub passed_none : Reads js (items_at s cells f n) → Passed m js s cells f n 0
-  passed_none r = record { upto = omega arith; same = ap (any_b (stops m js)) (rest_all s cells f n) ∙ sym (held_items m js (items_at s cells f n) r.clear r.resolved) }
-
-  module _ (i : ℕ) (p : Passed m js s cells f n i) (h : i < n) where
-    next : stops m js (item_at s cells (f + i)) || any_b (stops m js) (rest s cells f n (i + 1)) ≡ held m js (items_at s cells f n)
-    unfolding any_b
-    next = sym (ap (any_b (stops m js)) (rest-next s cells f n i h)) ∙ p.same
-
-    pub passed_more : stops m js (item_at s cells (f + i)) ≡ false → Passed m js s cells f n (i + 1)
-    passed_more e = record { upto = omega arith; same = rw e at next }
-
-    pub passed_held : stops m js (item_at s cells (f + i)) ≡ true → true ≡ held m js (items_at s cells f n)
-    passed_held e = rw e at next
-
-  pub passed_all : (i : ℕ) → Passed m js s cells f n i → n ≤ i → false ≡ held m js (items_at s cells f n)
-  unfolding any_b
-  passed_all i p h = sym (ap (any_b (stops m js)) (rest-none s cells f n i h)) ∙ p.same
+-- some item stops the merge
+pub any_held : (m : ℕ) (js : List Item) (s cells : List ℕ) (f n : ℕ) → Reads js (items_at s cells f n)
+    → list_any (λ i. stops m js (item_at s cells i)) (range_with_len f n) ≡ held m js (items_at s cells f n)
+any_held m js s cells f n r = any_rows (stops m js) s cells f n ∙ sym (held_items m js (items_at s cells f n) r.clear r.resolved)
 
 and_no : (a : Bool) → a && false ≡ false
 and_no true = refl

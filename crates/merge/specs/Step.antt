@@ -1,5 +1,5 @@
 -- What one step of merging says of the two lists.
-use Rattle.std.specs.Prelude.{◌≡◌, Bool, true, List, map, ℕ, ◌*◌, ◌/◌, ◌%◌, ◌^◌, ◌≤◌, eqb, length}
+use Rattle.std.specs.Prelude.{◌≡◌, Bool, true, List, map, Result, Ok, Err, ℕ, ◌*◌, ◌/◌, ◌%◌, ◌^◌, ◌≤◌, eqb, length}
 use Rattle.std.proofs.Math.Option.{none, some}
 use Rattle.cpl.specs.Exprs.{item_tags}
 use Rattle.cpl.specs.Limits.{max_tags, max_wide}
@@ -10,8 +10,9 @@ use Rattle.cpl.specs.Accepted.{Clear, Resolved}
 use Rattle.rules.specs.Merge.{merge_step}
 use Rattle.rules.specs.Rewrite.{too_long}
 use Rattle.arena.specs.Rows.{RowsOk, items_at}
+use Rattle.arena.specs.declared.Full.{Full}
 use Rattle.merge.specs.declared.Step.{Step}
-use Rattle.merge.specs.declared.Step.TheVariants.{Large, Merged, Same, Stop}
+use Rattle.merge.specs.declared.Step.TheVariants.{Merged, Same, Stop}
 
 -- "bit t for a definition whose outermost tag beneath the alias is t"
 abbrev pub pushes_tag : (mask tag : ℕ) → Bool
@@ -41,8 +42,8 @@ pub record Over (house : Bool) (mask : ℕ) (js is : List Item) : Type 0 where
   pub long : too_long list ≡ true
 
 -- what a step answers of the upper list js and the lower list is
-abbrev pub Stepped : (house : Bool) (mask : ℕ) (js is : List Item) (size : ℕ) → Step → (rows cells : List ℕ) → Type 0
-Stepped house mask js is size Same rows cells = merge_step house mask js is ≡ some js
-Stepped house mask js is size Stop rows cells = merge_step house mask js is ≡ none
-Stepped house mask js is size Merged rows cells = (merge_step house mask js is ≡ some (items_at rows cells 0 size)) × Held rows cells size
-Stepped house mask js is size Large rows cells = Over house mask js is
+abbrev pub Stepped : (house : Bool) (mask : ℕ) (js is : List Item) (size : ℕ) → Result Step Full → (rows cells : List ℕ) → Type 0
+Stepped house mask js is size (Ok Same) rows cells = merge_step house mask js is ≡ some js
+Stepped house mask js is size (Ok Stop) rows cells = merge_step house mask js is ≡ none
+Stepped house mask js is size (Ok Merged) rows cells = (merge_step house mask js is ≡ some (items_at rows cells 0 size)) × Held rows cells size
+Stepped house mask js is size (Err full) rows cells = Over house mask js is

@@ -1,16 +1,14 @@
 -- The key of a node by its kind, and the keys of all nodes. Assumes nothing.
-use mathlib.Core.Path.{◌≡◌, refl, sym, ap, ap₂, subst, subst⁻¹, ◌∙◌}
-use mathlib.Core.Logic.{⊎_elim}
+use mathlib.Core.Path.{◌≡◌, refl, sym, ap, subst, ◌∙◌}
+use mathlib.Core.Logic.{◌⊎◌, inl, inr, ⊎_elim}
 use mathlib.Core.Bool.{Bool, true, false, true≢false}
-use mathlib.Core.List.{List, [], ◌∷◌, map}
-use mathlib.Core.Option.{Option, none, some}
+use mathlib.Core.List.{List, []}
 use Prim.Native.Nat.{ℕ, zero, suc, ◌+◌, ◌*◌, ◌≤◌, ◌<◌}
 use native.Mathlib.Omega.{arith}
 use lib.Dec.{eqb}
 use lib.ListN.{length}
-use Rattle.cpl.specs.Fields.{fields_of}
 use Rattle.cpl.specs.Lists.{All, a[], ◌a∷◌}
-use Rattle.cpl.specs.Plan.{Binary, Catalogue, Item, Leaf, Pair, Plan, Unary, aggregate, binary, distinct, empty, filter, leaf, limit, names_of, projection, scan, sort, subquery_alias, unary, window}
+use Rattle.cpl.specs.Plan.{Binary, Leaf, Pair, Plan, Unary, empty, names_of, projection, scan}
 use Rattle.cpl.specs.ReadPlan.{Head, h0, h1, h2}
 use Rattle.cpl.specs.Tests.{any_b}
 use Rattle.cpl.specs.Writable.{FitColumns, FitLeaf, FitList, FitPlan, FitUnary}
@@ -22,12 +20,12 @@ use Rattle.required_indices.specs.Set.{has}
 use Rattle.required_indices.specs.declared.RequiredIndices.{RequiredIndices}
 use Rattle.required_indices.proofs.Members.{has-none, side}
 use Rattle.arena.specs.Rows.{RowsOk, item_at, items_at}
-use Rattle.tree.specs.Node.{NodeFits}
 use Rattle.tree.specs.Rows.{columns_at, exprs_at, list_at, number_at, one}
-use Rattle.tree.specs.Shows.{HasInput, HasInputs, Stands, TakenApart}
-use Rattle.tree.specs.Tree.{Arrays, PartsOk, head_of, if?, lent, plan_at, right_of}
+use Rattle.tree.specs.Shows.{HasInput, Stands, TakenApart}
+use Rattle.tree.specs.Tree.{Arrays, head_of, if?, lent, plan_at, right_of}
 use Rattle.tree.specs.declared.Node.{Node}
 use Rattle.tree.specs.declared.Node.TheVariants.{Projection, Filter, Sort, Limit, Aggregate, Window, SubqueryAlias, Union, Distinct, Join, Scan, Empty}
+use Rattle.tree.specs.declared.JoinNode.{JoinNode}
 use Rattle.tree.specs.declared.ScanNode.{ScanNode}
 use Rattle.lookup.specs.Fields.{RowIn, first_at, row_at, width_at}
 use Rattle.lookup.specs.Standing.{Standing}
@@ -35,7 +33,7 @@ use Rattle.lookup.proofs.Lists.{list_length}
 use Rattle.lookup.proofs.Standing.{fields-few, row_in, row_is, row-long}
 use Rattle.key_sets.specs.Slots.{KeySet, PutKey, SlotIn, TableKeys, node_slot, slot_at}
 use Rattle.node_keys.specs.Found.{ColumnsIn}
-use Rattle.node_keys.specs.Keys.{HasNone, KeysFound, NodeAsked, NodeKeyIs, NodeKeys, PassesOn, PlanAsked, ProjectionKey, ScanIn, ScanKey}
+use Rattle.node_keys.specs.Keys.{HasNone, NodeAsked, NodeKeyIs, NodeKeys, PassesOn, PlanAsked, ProjectionKey, ScanIn, ScanKey}
 use Rattle.node_keys.proofs.Steps.{items-list}
 
 -- ── sets and keys ───────────────────────────────────────────────────────────────────────────
@@ -76,6 +74,23 @@ through a Distinct p = absurd p
 through a (Join j) p = absurd p
 through a (Scan s) p = absurd p
 through a (Empty b f n) p = absurd p
+
+-- the kinds that pass it on, and those that have none
+pub passes : {n : Node}
+    → ((r : ℕ) × (n ≡ Filter r)) ⊎ (((f m : ℕ) × (n ≡ Sort f m)) ⊎ (((s m : ℕ) × (n ≡ Limit s m)) ⊎ ((q : ℕ) × (n ≡ SubqueryAlias q)))) → PassesOn n
+passes (inl h) = rw h.1 tt
+passes (inr (inl h)) = rw h.2 tt
+passes (inr (inr (inl h))) = rw h.2 tt
+passes (inr (inr (inr h))) = rw h.1 tt
+
+pub has_none : {n : Node}
+    → ((f g v : ℕ) × (n ≡ Aggregate f g v)) ⊎ (((f m : ℕ) × (n ≡ Window f m)) ⊎ (((r : ℕ) × (n ≡ Union r)) ⊎ ((n ≡ Distinct) ⊎ (((j : JoinNode) × (n ≡ Join j)) ⊎ ((b : Bool) × (f m : ℕ) × (n ≡ Empty b f m)))))) → HasNone n
+has_none (inl h) = rw h.3 tt
+has_none (inr (inl h)) = rw h.2 tt
+has_none (inr (inr (inl h))) = rw h.1 tt
+has_none (inr (inr (inr (inl h)))) = rw h tt
+has_none (inr (inr (inr (inr (inl h))))) = rw h.1 tt
+has_none (inr (inr (inr (inr (inr h))))) = rw h.3 tt
 
 -- ── a node's key ────────────────────────────────────────────────────────────────────────────
 
@@ -199,21 +214,6 @@ module _ {cells rows nodes fields widths : List ℕ} {k : ℕ} where
           let b = (has-input z q.within).below in
           (row_in z (k + 1) b d e, omega (arith, row-long z (k + 1) b d e, fields-few z (k + 1) b, (small z.tables.version_is).fields-small))
 
--- ── slots ───────────────────────────────────────────────────────────────────────────────────
-
-module _ {cells rows nodes fields widths keys : List ℕ} {k : ℕ} (q : NodeAsked cells rows nodes fields widths keys k) where
-  pub numbers_fit : NodeFits nodes k
-  numbers_fit = (q.standing.tree.each k q.within).numbers
-
-  pub input_slot : (n : Node) (h : Unary) → TakenApart nodes k n → head_of (lent cells rows nodes) n ≡ h1 h → (k < 256) × SlotIn keys (node_slot (k + 1))
-  input_slot n h t e =
-      let z = q.standing in
-      let i = stands n t z q.within e in
-      (omega (arith, q.within, z.tree.few), omega (arith, i.below, z.tree.few, q.room))
-
-  pub passed_slot : (n : Node) → TakenApart nodes k n → PassesOn n → (k < 256) × SlotIn keys (node_slot (k + 1))
-  passed_slot n t p = let h = through (lent cells rows nodes) n p in input_slot n h.head t h.is
-
 -- ── all nodes, from the last to the first ───────────────────────────────────────────────────
 
 pub record Towards (cells rows nodes fields widths : List ℕ) (count : ℕ) (keys keys' : List ℕ) (k : ℕ) : Type 0 where
@@ -222,9 +222,6 @@ pub record Towards (cells rows nodes fields widths : List ℕ) (count : ℕ) (ke
   pub is : (z : Standing cells rows nodes fields widths) → count ≡ z.count → TableKeys z.C keys → TableKeys z.C keys' × NodeKeys z k keys'
 
 module _ {cells rows nodes fields widths keys : List ℕ} {count : ℕ} where
-  pub towards_none : Towards cells rows nodes fields widths count keys keys count
-  towards_none = record { upto = omega arith; long = refl; is = λ z e ts. (ts, record { each = λ j h l. absurd (omega arith) }) }
-
   pub towards_asked : {keys' : List ℕ} {k : ℕ} → PlanAsked cells rows nodes fields widths keys count → Towards cells rows nodes fields widths count keys keys' k → (j : ℕ) → j < k → NodeAsked cells rows nodes fields widths keys' j
   towards_asked q t j h = record { standing = q.standing; within = omega (arith, t.upto, q.count_is); room = omega (arith, t.long, q.room) }
 
@@ -249,9 +246,3 @@ module _ {cells rows nodes fields widths keys : List ℕ} {count : ℕ} where
                 },
               );
         }
-
-  pub towards_all : {keys' : List ℕ} {k : ℕ} → k ≤ 0 → Towards cells rows nodes fields widths count keys keys' k → KeysFound cells rows nodes fields widths count keys keys'
-  towards_all {keys'} {k} h t = record {
-    long = t.long;
-    is = λ z e ts. let n = t.is z e ts in (n.0, subst (λ x. NodeKeys z x keys') (let w : k ≡ 0 = omega arith in w) n.1);
-  }

@@ -1,13 +1,11 @@
 -- The key of a scan, by whether its columns are given. Assumes nothing.
-use mathlib.Core.Path.{◌≡◌, refl, sym, ap, subst, ◌∙◌}
+use mathlib.Core.Path.{◌≡◌, refl, sym, ap, ◌∙◌}
 use mathlib.Core.Bool.{true, false}
 use mathlib.Core.List.{List, map}
 use mathlib.Core.Option.{some}
-use Prim.Native.Nat.{ℕ, ◌*◌, ◌≤◌, ◌<◌}
+use Prim.Native.Nat.{ℕ}
 use native.Mathlib.Omega.{arith}
 use lib.Dec.{eqb}
-use lib.ListN.{length}
-use Rattle.cpl.specs.Limits.{max_tables}
 use Rattle.cpl.specs.Plan.{scan}
 use Rattle.cpl.specs.Writable.{FitLeaf, FitList}
 use Rattle.rules.specs.Keys.{leaf_key}

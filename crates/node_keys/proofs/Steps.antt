@@ -1,5 +1,5 @@
 -- The turns of the loops over items and over columns. Assumes nothing.
-use mathlib.Core.Path.{◌≡◌, refl, sym, ap, ap₂, subst, subst⁻¹, ◌∙◌}
+use mathlib.Core.Path.{◌≡◌, refl, sym, ap, subst, subst⁻¹, ◌∙◌}
 use mathlib.Core.Bool.{Bool, true, false, ◌&&◌, true≢false}
 use mathlib.Core.List.{List, [], ◌∷◌, ◌++◌, map}
 use mathlib.Core.Option.{Option, none, some}
@@ -9,10 +9,10 @@ use native.Mathlib.Omega.{arith}
 use lib.Bits.{bit_or}
 use lib.ListN.{length}
 use Rattle.cpl.specs.Exprs.{find}
-use Rattle.cpl.specs.Plan.{Expr, Item, Pair, bin, col, item_expr, lit, miss, un}
+use Rattle.cpl.specs.Plan.{Expr, Pair, bin, col, item_expr, lit, miss, un}
 use Rattle.cpl.specs.Tests.{any_b}
 use Rattle.cpl.proofs.Lookup.{found_below}
-use Rattle.rules.specs.Keys.{field_place, is_place, places_of, member}
+use Rattle.rules.specs.Keys.{field_place, is_place, places_of}
 use Rattle.required_indices.specs.Request.{Holds, set_of, words_n}
 use Rattle.required_indices.specs.Set.{has}
 use Rattle.required_indices.specs.declared.RequiredIndices.{RequiredIndices}
@@ -20,8 +20,8 @@ use Rattle.arena.specs.Rows.{item_at, items_at}
 use Rattle.tree.specs.Rows.{columns_at, list_at, number_at, one}
 use Rattle.lookup.specs.Answers.{place_of}
 use Rattle.lookup.specs.Fields.{field_at, row_at}
-use Rattle.lookup.specs.declared.Fit.{Fit}
-use Rattle.lookup.specs.declared.Fit.TheVariants.{At, Nothing}
+use Rattle.std.specs.Prelude.{Some, None}
+use Rattle.std.specs.Prelude
 use Rattle.lookup.proofs.Lists.{list_append, list_length, list-map}
 use Rattle.key_sets.specs.Slots.{KeySet}
 use Rattle.node_keys.specs.Found.{Finds, FoundIs, Further, PlaceIn}
@@ -34,11 +34,11 @@ use Rattle.node_keys.proofs.Founds.{found-again, found_computed, found_first, fo
 was_seen : {s : ℕ} (j : ℕ) {ks : List ℕ} {ps : List (Option ℕ)} {f : Found} {b : Bool} → has s j ≡ true → KeySet s ks → FoundIs ks ps f → has (set_of f.seen) j ≡ b → any_b (is_place j) ps ≡ b
 was_seen j {ks} {ps} y k h n = sym (ap (◌&& any_b (is_place j) ps) (sym (k.members j) ∙ y)) ∙ (sym (h.seen_are j) ∙ n)
 
-module _ {key : RequiredIndices} {i : ℕ} {place : Fit} {f : Found} where
-  pub step_computed : place ≡ Nothing → Further key i place f f
+module _ {key : RequiredIndices} {i : ℕ} {place : Prelude.Option ℕ} {f : Found} where
+  pub step_computed : place ≡ None → Further key i place f f
   step_computed e = record { is = λ ks ps k d h. subst⁻¹ (λ p. FoundIs ks (ps ++ (place_of p ∷ [])) f) e (found_computed h) }
 
-  module _ (j : ℕ) (e : place ≡ At j) where
+  module _ (j : ℕ) (e : place ≡ Some j) where
     pub step_other : has (set_of key) j ≡ false → Further key i place f f
     step_other n = record { is = λ ks ps k d h. subst⁻¹ (λ p. FoundIs ks (ps ++ (place_of p ∷ [])) f) e (found-other h j (sym (k.members j) ∙ n)) }
 
@@ -68,7 +68,7 @@ module _ (read : ℕ → Option ℕ) (first : ℕ) {key : RequiredIndices} where
   unfolding list_at
   finds_none h = record { is = λ ks k. h ks }
 
-  pub finds_more : {i : ℕ} {place : Fit} {f f' : Found} → Finds key (list_at read one first i) f → Further key i place f f' → place_of place ≡ read (first + i) → Finds key (list_at read one first (i + 1)) f'
+  pub finds_more : {i : ℕ} {place : Prelude.Option ℕ} {f f' : Found} → Finds key (list_at read one first i) f → Further key i place f f' → place_of place ≡ read (first + i) → Finds key (list_at read one first (i + 1)) f'
   finds_more {i} {place} {f} {f'} h n e = record {
     is = λ ks k.
         subst⁻¹ (λ ps. FoundIs ks ps f') (snoc read first i ∙ ap (λ p. list_at read one first i ++ (p ∷ [])) (sym e))
@@ -129,9 +129,9 @@ few-place fs miss j d h = absurd (let z : true ≡ false = cc in true≢false z)
 few-place fs (un o a) j d h = absurd (let z : true ≡ false = cc in true≢false z)
 few-place fs (bin o a b) j d h = absurd (let z : true ≡ false = cc in true≢false z)
 
-pub place_in : (p : Fit) (fields : List ℕ) (start width : ℕ) (e : Expr) → place_of p ≡ field_place (row_at fields start width) e → width ≤ words_n * 64 → PlaceIn p
-place_in (At j) fields start width e d h = few-place (row_at fields start width) e j (sym d) (omega (arith, list_length (field_at fields) one start width))
-place_in Nothing fields start width e d h = tt
+pub place_in : (p : Prelude.Option ℕ) (fields : List ℕ) (start width : ℕ) (e : Expr) → place_of p ≡ field_place (row_at fields start width) e → width ≤ words_n * 64 → PlaceIn p
+place_in (Some j) fields start width e d h = few-place (row_at fields start width) e j (sym d) (omega (arith, list_length (field_at fields) one start width))
+place_in None fields start width e d h = tt
 
 -- a set of all items
 pub count-places : {out : RequiredIndices} {b : Bool} (rows cells fields : List ℕ) (start width first count : ℕ) → Holds out (2 ^ count - 1) b

@@ -1,11 +1,11 @@
 -- The keys of scans: a key's columns are columns of its table, so a scan of all columns has its table's key. Assumes nothing.
 use mathlib.Core.Path.{◌≡◌, refl, sym, ap, ap₂, subst, subst⁻¹, ◌∙◌}
-use mathlib.Core.Bool.{Bool, true, false, cond, not, ◌&&◌, ◌||◌, true≢false}
+use mathlib.Core.Bool.{Bool, true, false, cond, not, ◌||◌, true≢false}
 use mathlib.Core.List.{List, [], ◌∷◌, map}
-use mathlib.Core.Option.{Option, none, some}
-use Prim.Native.Nat.{ℕ, zero, suc, ◌+◌, ◌-◌, ◌*◌, ◌≤◌, ◌<◌}
+use mathlib.Core.Option.{none, some}
+use Prim.Native.Nat.{ℕ, zero, suc, ◌+◌, ◌-◌, ◌≤◌, ◌<◌}
 use native.Mathlib.Omega.{arith}
-use borrow.Author.Tests.{eq-eqb, eqb-true, ltb-true, ne_eqb}
+use borrow.Author.Tests.{eq-eqb, eqb-true, ltb-true}
 use lib.Dec.{eqb, ltb}
 use lib.ListN.{length, get_or}
 use Rattle.cpl.specs.Fields.{columns_of}
@@ -13,11 +13,10 @@ use Rattle.cpl.specs.Limits.{Version}
 use Rattle.cpl.specs.Lists.{AllAfter, b[], ◌b∷◌}
 use Rattle.cpl.specs.Plan.{Catalogue, Expr, TableKey, names_of, scan}
 use Rattle.cpl.specs.Read.{fresh}
-use Rattle.cpl.specs.Tests.{all_b, any_b, iota}
+use Rattle.cpl.specs.Tests.{any_b, iota}
 use Rattle.cpl.specs.Writable.{FitAfter, FitCatalogue, FitTableKey}
 use Rattle.cpl.proofs.Bools.{and_left}
 use Rattle.rules.specs.Keys.{carried, declared, first_at, has_all, is_place, leaf_key, member}
-use Rattle.key_sets.specs.Slots.{KeySet}
 use Rattle.node_keys.proofs.Founds.{all_true}
 
 -- ── a key's columns are columns of its table ────────────────────────────────────────────────

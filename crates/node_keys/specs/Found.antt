@@ -1,6 +1,7 @@
 -- The items of a list that are columns of a key, as sets.
-use Rattle.std.specs.Prelude.{◌≡◌, Bool, ◌&&◌, List, [], ◌∷◌, ◌++◌, ℕ, ◌+◌, ◌*◌, ◌<◌, ◌≤◌, length, get_or}
-use Rattle.std.proofs.Math.Option.{Option, none, some}
+use Rattle.std.specs.Prelude.{◌≡◌, Bool, ◌&&◌, List, [], ◌∷◌, ◌++◌, ℕ, ◌+◌, ◌*◌, ◌<◌, ◌≤◌, length, get_or, Some, None}
+use Rattle.std.specs.Prelude
+use Rattle.std.proofs.Math.Option.{Option, none}
 use Rattle.cpl.specs.Tests.{any_b}
 use Rattle.rules.specs.Keys.{carried, is_key_place, is_place, fresh_at, member}
 use Rattle.required_indices.specs.Request.{set_of, words_n}
@@ -8,8 +9,6 @@ use Rattle.required_indices.specs.Set.{has}
 use Rattle.required_indices.specs.declared.RequiredIndices.{RequiredIndices}
 use Rattle.tree.specs.Rows.{EachOk, Inside, number_at}
 use Rattle.lookup.specs.Answers.{place_of}
-use Rattle.lookup.specs.declared.Fit.{Fit}
-use Rattle.lookup.specs.declared.Fit.TheVariants.{At, Nothing}
 use Rattle.key_sets.specs.Slots.{KeySet}
 use Rattle.node_keys.specs.declared.Found.{Found}
 
@@ -20,12 +19,12 @@ pub record FoundIs (key : List ℕ) (ps : List (Option ℕ)) (f : Found) : Type 
   pub all_are : (m : ℕ) → has (set_of f.all) m ≡ is_key_place key (get_or ps m none)
 
 -- a set has room for the place
-abbrev pub PlaceIn : Fit → Type 0
-PlaceIn (At j) = j < words_n * 64
-PlaceIn Nothing = Unit {0}
+abbrev pub PlaceIn : Prelude.Option ℕ → Type 0
+PlaceIn (Some j) = j < words_n * 64
+PlaceIn None = Unit {0}
 
 -- what is found among i items became what is found among these and one more
-pub record Further (key : RequiredIndices) (i : ℕ) (place : Fit) (f f' : Found) : Type 0 where
+pub record Further (key : RequiredIndices) (i : ℕ) (place : Prelude.Option ℕ) (f f' : Found) : Type 0 where
   pub is : (ks : List ℕ) (ps : List (Option ℕ)) → KeySet (set_of key) ks → i ≡ length ps → FoundIs ks ps f → FoundIs ks (ps ++ (place_of place ∷ [])) f'
 
 -- whatever list the key's set stands for

@@ -1,7 +1,6 @@
 -- What is said of the keys of nodes that were worked out, and of the groups that stay.
 use Rattle.std.specs.Prelude.{◌≡◌, true, List, ℕ, ◌+◌, ◌<◌, ◌≤◌, length}
 use Rattle.std.proofs.Math.Option.{Option}
-use Rattle.cpl.specs.Limits.{max_tables}
 use Rattle.cpl.specs.Plan.{Catalogue, Expr, scan}
 use Rattle.cpl.specs.Writable.{FitCatalogue, FitLeaf}
 use Rattle.rules.specs.Keys.{carried, kept_groups, key_of, leaf_key}
@@ -16,8 +15,6 @@ use Rattle.tree.specs.declared.ScanNode.{ScanNode}
 use Rattle.lookup.specs.Standing.{Standing}
 use Rattle.key_sets.specs.Slots.{KeySet, SlotIn, TableKeys, keys_room, node_slot, slot_at}
 use Rattle.node_keys.specs.Found.{ColumnsIn}
-use Rattle.node_keys.specs.declared.Origin.{Origin}
-use Rattle.node_keys.specs.declared.Origin.TheVariants.{Table, Items, Input, Nothing}
 
 -- ── nodes ───────────────────────────────────────────────────────────────────────────────────
 
@@ -50,12 +47,6 @@ HasNone Distinct = Unit {0}
 HasNone (Join j) = Unit {0}
 HasNone (Scan s) = ⊥
 HasNone (Empty b f n) = Unit {0}
-
-abbrev pub OriginIs : Node → Origin → Type 0
-OriginIs n (Table s) = n ≡ Scan s
-OriginIs n (Items f k) = n ≡ Projection f k
-OriginIs n Input = PassesOn n
-OriginIs n Nothing = HasNone n
 
 -- the table's slot lies in the array, and so do the scan's columns where they are given
 pub record ScanIn (rows keys : List ℕ) (s : ScanNode) : Type 0 where

@@ -7,19 +7,18 @@
 ghost use Rattle.std.specs.Prelude.{◌≡◌, false, List, [], map, ℕ, ◌+◌, ◌*◌, ◌<◌, ◌≤◌, length};
 ghost use Rattle.std.proofs.Math.Option.{some};
 ghost use Rattle.arena.specs.Cells.{expr_at, Wf};
-ghost use Rattle.arena.specs.Rows.{items_at, RowsOk};
-ghost use Rattle.required_indices.specs.Set.{has};
+ghost use Rattle.arena.specs.Lists.{listed, ListOk};
 ghost use Rattle.required_indices.specs.Request.{Holds, set_of, words_n};
 ghost use Rattle.tree.specs.Rows.{columns_at};
 ghost use Rattle.lookup.specs.Answers.{place_of};
-ghost use Rattle.lookup.specs.Fields.{row_at, RowIn};
+ghost use Rattle.lookup.specs.Fields.{fields_of, SchemaIn};
 ghost use Rattle.key_sets.specs.Slots.{SlotIn, node_slot, slot_at};
 ghost use Rattle.rules.specs.Keys.{field_place, places_of};
 ghost use Rattle.node_keys.specs.Found.{Carries, ColumnsIn, Finds, FoundIs, Further, PlaceIn};
-ghost use Rattle.node_keys.specs.Keys.{KeptGroups, KeysFound, NodeAsked, NodeKeyIs, OriginIs, PlanAsked, ProjectionKey, ScanIn, ScanKey};
+ghost use Rattle.node_keys.specs.Keys.{KeptGroups, KeysFound, NodeAsked, NodeKeyIs, PlanAsked, ProjectionKey, ScanIn, ScanKey};
 
-use arena::View;
-use lookup::Fit;
+use arena::{Items, View};
+use lookup::Schema;
 use required_indices::RequiredIndices;
 use tree::{Node, ScanNode};
 
@@ -43,77 +42,52 @@ fn none_found() -> Found
     }
 }
 
-// Whether place `j` is in a set.
-fn is_in(set: RequiredIndices, j: usize) -> bool
-    ensures { result ≡ has (set_of set) j }
-{
-    RequiredIndices::contains(&set.indices, set.used, j)
-}
-
 /// Of one item more, item `i`, which is the column at a place, or computed.
-fn with_place(found: Found, key: RequiredIndices, i: usize, place: Fit) -> Found
+fn with_place(found: Found, key: RequiredIndices, i: usize, place: Option<usize>) -> Found
     requires i_bound { i < words_n * 64 }
     requires place_in { PlaceIn place }
     ensures { Further key i place found result }
 {
-    let Fit::At(j) = place else {
+    let Some(j) = place else {
         return found;
     };
-    if !is_in(key, j) {
+    if !key.contains(j) {
         return found;
     }
-    let seen = found.seen;
-    let firsts = found.firsts;
-    let old = found.all;
-    let all = old.with_index(i);
-    if is_in(seen, j) {
-        return Found { seen, firsts, all };
+    let all = found.all.with_index(i);
+    if found.seen.contains(j) {
+        return Found { all, ..found };
     }
     Found {
-        seen: seen.with_index(j),
-        firsts: firsts.with_index(i),
+        seen: found.seen.with_index(j),
+        firsts: found.firsts.with_index(i),
         all,
     }
 }
 
-/// The place of the field that an expression is, among `width` fields from field `start` on; none where it is computed.
-fn item_place(cells: &[u64], root: usize, fields: &[u16], start: usize, width: usize) -> Fit
+/// The place of the field that an expression is, among the fields of an input; none where it is computed.
+fn item_place(cells: &[u64], root: usize, input: &Schema) -> Option<usize>
     requires wf { Wf cells.now (root + 1) }
-    requires row_in { RowIn fields.now start width }
-    ensures { place_of result ≡ field_place (row_at fields.now start width) (expr_at cells.now root) }
+    requires row_in { SchemaIn input.now }
+    ensures { place_of result ≡ field_place (fields_of input.now) (expr_at cells.now root) }
 {
-    let v = arena::node_at(cells, root);
-    match v {
-        View::Col(q, n) => lookup::first_fit(fields, start, width, q, n),
-        View::Lit(_) => Fit::Nothing,
-        View::Miss => Fit::Nothing,
-        View::One(_, _) => Fit::Nothing,
-        View::Two(_, _, _) => Fit::Nothing,
+    match arena::node_at(cells, root) {
+        View::Col(q, n) => input.first_fit(q, n),
+        View::Lit(_) | View::Miss | View::One(..) | View::Two(..) => None,
     }
 }
 
 /// Of the items of a list, over an input's fields.
-fn found_items(
-    key: RequiredIndices,
-    rows: &[u16],
-    first: usize,
-    count: usize,
-    cells: &[u64],
-    fields: &[u16],
-    start: usize,
-    width: usize,
-) -> Found
-    requires rows_ok { RowsOk rows.now cells.now first count × (count ≤ words_n * 64) }
-    requires row_in { RowIn fields.now start width × (width ≤ words_n * 64) }
-    ensures { Finds key (places_of (row_at fields.now start width) (items_at rows.now cells.now first count)) result }
+fn found_items(key: RequiredIndices, list: &Items, input: &Schema) -> Found
+    requires rows_ok { ListOk list.now × (list.now.count ≤ words_n * 64) }
+    requires row_in { SchemaIn input.now × (input.now.width ≤ words_n * 64) }
+    ensures { Finds key (places_of (fields_of input.now) (listed list.now)) result }
 {
     let mut found = none_found();
-    let mut i = 0;
-    while i < count {
-        let row = arena::row_at(rows, first + i);
-        let place = item_place(cells, row.root, fields, start, width);
+    for i in 0..list.count {
+        let row = arena::row_at(list.rows, list.first + i);
+        let place = item_place(list.cells, row.root, input);
         found = with_place(found, key, i, place);
-        i += 1;
     }
     found
 }
@@ -124,11 +98,9 @@ fn found_columns(key: RequiredIndices, rows: &[u16], first: usize, count: usize)
     ensures { Finds key (map some (columns_at rows.now first count)) result }
 {
     let mut found = none_found();
-    let mut i = 0;
-    while i < count {
+    for i in 0..count {
         let j = tree::column_at(rows, first + i);
-        found = with_place(found, key, i, Fit::At(j));
-        i += 1;
+        found = with_place(found, key, i, Some(j));
     }
     found
 }
@@ -137,11 +109,11 @@ fn found_columns(key: RequiredIndices, rows: &[u16], first: usize, count: usize)
 fn carried(key: RequiredIndices, found: Found) -> RequiredIndices
     ensures { Carries key found result }
 {
-    let seen = found.seen;
-    if seen.equals(key) {
-        return found.firsts;
+    if found.seen.equals(key) {
+        found.firsts
+    } else {
+        RequiredIndices::new()
     }
-    RequiredIndices::new()
 }
 
 /// The key of a scan: its table's, carried on to its columns, if they are given.
@@ -150,35 +122,23 @@ fn scan_key(scan: ScanNode, rows: &[u16], keys: &[u64]) -> RequiredIndices
     ensures { ScanKey rows.now keys.now scan result }
 {
     let key = key_sets::key_at(keys, scan.table);
-    if scan.given {
-        if key.is_empty() {
-            return key;
-        }
-        let found = found_columns(key, rows, scan.first, scan.n);
-        return carried(key, found);
+    if !scan.given || key.is_empty() {
+        return key;
     }
-    key
+    let found = found_columns(key, rows, scan.first, scan.n);
+    carried(key, found)
 }
 
 /// The key of a Projection: its input's, carried on to its items.
-fn projection_key(
-    key: RequiredIndices,
-    rows: &[u16],
-    first: usize,
-    n: usize,
-    cells: &[u64],
-    fields: &[u16],
-    start: usize,
-    width: usize,
-) -> RequiredIndices
-    requires rows_ok { RowsOk rows.now cells.now first n × (n ≤ words_n * 64) }
-    requires row_in { RowIn fields.now start width × (width ≤ words_n * 64) }
-    ensures { ProjectionKey key (places_of (row_at fields.now start width) (items_at rows.now cells.now first n)) result }
+fn projection_key(key: RequiredIndices, list: &Items, input: &Schema) -> RequiredIndices
+    requires rows_ok { ListOk list.now × (list.now.count ≤ words_n * 64) }
+    requires row_in { SchemaIn input.now × (input.now.width ≤ words_n * 64) }
+    ensures { ProjectionKey key (places_of (fields_of input.now) (listed list.now)) result }
 {
     if key.is_empty() {
         return key;
     }
-    let found = found_items(key, rows, first, n, cells, fields, start, width);
+    let found = found_items(key, list, input);
     carried(key, found)
 }
 
@@ -191,44 +151,8 @@ fn input_key(keys: &[u64], k: usize) -> RequiredIndices
     key_sets::key_at(keys, slot)
 }
 
-/// Where a node's key comes from: a scan's from its table, a Projection's from its input by its items; others have their input's, or none.
-#[derive(Clone, Copy)]
-enum Origin {
-    Table(ScanNode),
-    Items { first: usize, n: usize },
-    Input,
-    Nothing,
-}
-
-/// Where a node's key comes from, by its kind.
-fn origin_of(node: Node) -> Origin
-    ensures { OriginIs node result }
-{
-    match node {
-        Node::Projection { first, n } => Origin::Items { first, n },
-        Node::Filter { root: _ } => Origin::Input,
-        Node::Sort { first: _, n: _ } => Origin::Input,
-        Node::Limit { skip: _, fetch: _ } => Origin::Input,
-        Node::Aggregate {
-            first: _,
-            groups: _,
-            aggregates: _,
-        } => Origin::Nothing,
-        Node::Window { first: _, n: _ } => Origin::Nothing,
-        Node::SubqueryAlias { qualifier: _ } => Origin::Input,
-        Node::Union { right: _ } => Origin::Nothing,
-        Node::Distinct => Origin::Nothing,
-        Node::Join(_) => Origin::Nothing,
-        Node::Scan(s) => Origin::Table(s),
-        Node::Empty {
-            one_row: _,
-            first: _,
-            n: _,
-        } => Origin::Nothing,
-    }
-}
-
-/// The key of node `k` of an accepted plan, where that of its input stands in its slot.
+/// The key of node `k` of an accepted plan, where that of its input stands in its slot: a scan's is its table's, a Projection's its input's by its
+/// items; others have their input's, or none.
 fn node_key(
     cells: &[u64],
     rows: &[u16],
@@ -241,18 +165,31 @@ fn node_key(
     requires { NodeAsked cells.now rows.now nodes.now fields.now widths.now keys.now k }
     ensures { NodeKeyIs cells.now rows.now nodes.now fields.now widths.now keys.now k result }
 {
-    let node = tree::node_at(nodes, k);
-    let origin = origin_of(node);
-    match origin {
-        Origin::Table(s) => scan_key(s, rows, keys),
-        Origin::Items { first, n } => {
+    match tree::node_at(nodes, k) {
+        Node::Scan(scan) => scan_key(scan, rows, keys),
+        Node::Projection { first, n } => {
             let key = input_key(keys, k);
-            let start = lookup::first_at(widths, k + 1);
-            let width = lookup::width_at(widths, k + 1);
-            projection_key(key, rows, first, n, cells, fields, start, width)
+            let list = Items {
+                rows,
+                cells,
+                first,
+                count: n,
+            };
+            let input = Schema {
+                fields,
+                first: lookup::first_at(widths, k + 1),
+                width: lookup::width_at(widths, k + 1),
+            };
+            projection_key(key, &list, &input)
         }
-        Origin::Input => input_key(keys, k),
-        Origin::Nothing => RequiredIndices::new(),
+        Node::Filter { .. } | Node::Sort { .. } | Node::Limit { .. } | Node::SubqueryAlias { .. } =>
+            input_key(keys, k),
+        Node::Aggregate { .. }
+        | Node::Window { .. }
+        | Node::Union { .. }
+        | Node::Distinct
+        | Node::Join(_)
+        | Node::Empty { .. } => RequiredIndices::new(),
     }
 }
 
@@ -269,40 +206,32 @@ pub fn node_keys(
     requires { PlanAsked cells.now rows.now nodes.now fields.now widths.now keys.old count }
     ensures { KeysFound cells.now rows.now nodes.now fields.now widths.now count keys.old keys.new }
 {
-    let mut k = count;
-    while 0 < k {
-        k -= 1;
+    for k in (0..count).rev() {
         let key = node_key(cells, rows, nodes, k, fields, widths, keys);
         let slot = key_sets::node_slot(k);
         key_sets::put_key(keys, slot, key);
     }
 }
 
-/// The groups of an Aggregate that stay, by its input's key: of `count` groups those that are asked for and those that are a key column,
+/// The groups of an Aggregate that stay, by its input's key: those that are asked for and those that are a key column,
 /// where each of the key's columns is a group; else all.
 pub fn kept_groups(
     key: RequiredIndices,
     asked: RequiredIndices,
-    rows: &[u16],
-    first: usize,
-    count: usize,
-    cells: &[u64],
-    fields: &[u16],
-    start: usize,
-    width: usize,
+    groups: &Items,
+    input: &Schema,
 ) -> RequiredIndices
-    requires rows_ok { RowsOk rows.now cells.now first count × (count ≤ words_n * 64) }
-    requires row_in { RowIn fields.now start width × (width ≤ words_n * 64) }
-    ensures { KeptGroups key asked (places_of (row_at fields.now start width) (items_at rows.now cells.now first count)) result }
+    requires rows_ok { ListOk groups.now × (groups.now.count ≤ words_n * 64) }
+    requires row_in { SchemaIn input.now × (input.now.width ≤ words_n * 64) }
+    ensures { KeptGroups key asked (places_of (fields_of input.now) (listed groups.now)) result }
 {
     if key.is_empty() {
-        return RequiredIndices::new_for_all_exprs(count);
+        return RequiredIndices::new_for_all_exprs(groups.count);
     }
-    let found = found_items(key, rows, first, count, cells, fields, start, width);
+    let found = found_items(key, groups, input);
     let grouped = found.seen;
     if grouped.equals(key) {
-        let all = found.all;
-        return asked.append(all);
+        return asked.append(found.all);
     }
-    RequiredIndices::new_for_all_exprs(count)
+    RequiredIndices::new_for_all_exprs(groups.count)
 }

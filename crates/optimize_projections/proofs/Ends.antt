@@ -12,18 +12,17 @@ use Rattle.cpl.specs.Fields.{fields_of}
 use Rattle.cpl.specs.Plan.{Catalogue, Item, Pair, Plan, bare, projection, unary}
 use Rattle.rules.specs.Mask.{Mask, count_m, select}
 use Rattle.rules.specs.Rules.{over_child, same_columns, top_up}
-use Rattle.rules.specs.Rewrite as rules
 use Rattle.required_indices.specs.Request.{Asks}
 use Rattle.required_indices.specs.declared.RequiredIndices.{RequiredIndices}
+use Rattle.std.proofs.Common.{Result, Ok, Err}
+use Rattle.arena.specs.declared.Full.{Full}
 use Rattle.arena.proofs.Kept.{kept_refl, kept_trans}
 use Rattle.tree.specs.Tree.{Arrays}
 use Rattle.result.specs.Result.{Results, record_n, result_at}
 use Rattle.result.specs.Records.{Grown, results}
 use Rattle.projections.specs.Tops.{OnTop, TopAnswer}
 use Rattle.projections.specs.declared.Topped.{Topped}
-use Rattle.projections.specs.declared.Topped.TheVariants as toppeds
-use Rattle.walk_steps.specs.Steps.{Over, OverIs}
-use Rattle.walk_steps.specs.declared.End.TheVariants.{Done}
+use Rattle.walk_steps.specs.Steps.{Over}
 use Rattle.walk_steps.specs.declared.Used.{Used}
 use Rattle.walk_steps.specs.declared.Walked.{Walked}
 use Rattle.optimize_projections.specs.Walk.{More, Ready, Stands, TooLarge, WalkIs}
@@ -132,13 +131,13 @@ module _ {C : Catalogue} {a : Arrays} {count : ℕ} {r : Results} {s items cells
       }
 
   -- what the plan became by f, as the projection's answer says
-  pub over-walk : (f : Plan → Plan) (t : Topped) (w : Walked) {ask : RequiredIndices} {K : Mask} {o : Bool} → v.cells ≤ u.cells + plan_tags (f p) → Asks ask K → o ≡ false
+  pub over-walk : (f : Plan → Plan) (t : Result Topped Full) (w : Result Walked Full) {ask : RequiredIndices} {K : Mask} {o : Bool} → v.cells ≤ u.cells + plan_tags (f p) → Asks ask K → o ≡ false
       → TopAnswer C a count (results s items cells) (results s' items cells) v.records v.rows v.cells (f (result_at C a (results s items cells) rec)) (result_at C a (results s items cells) rec) t
       → Over t v ask w → WalkIs C a count r (results s' items cells) u (record { plan = f p; kept = K; overlong = o }) w
   over-walk f t w {ask} {K} {o} l k e answer d =
-      by t (subst (λ (q : Plan). TopAnswer C a count (results s items cells) (results s' items cells) v.records v.rows v.cells (f q) q t) x.plan answer) d.end_is
+      by t (subst (λ (q : Plan). TopAnswer C a count (results s items cells) (results s' items cells) v.records v.rows v.cells (f q) q t) x.plan answer) d
     where
-      by : (t : Topped) → TopAnswer C a count (results s items cells) (results s' items cells) v.records v.rows v.cells (f p) p t → OverIs v t w.end
+      by : (t : Result Topped Full) → TopAnswer C a count (results s items cells) (results s' items cells) v.records v.rows v.cells (f p) p t → Over t v ask w
           → WalkIs C a count r (results s' items cells) u (record { plan = f p; kept = K; overlong = o }) w
-      by (toppeds.Done i n) y q = rw (q, d.kept_is) (put_on y l, k, e)
-      by toppeds.Full y q = rw q (inr (inl (omega (arith, x.nodes, y.tight))))
+      by (Ok t) y q = rw q (put_on y l, k, e)
+      by (Err g) y q = rw q (inr (inl (omega (arith, x.nodes, y.tight))))

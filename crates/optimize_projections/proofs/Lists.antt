@@ -1,7 +1,7 @@
 -- The pending list over node k: its items at the request, over the node asked for the columns they use. Assumes nothing.
 use mathlib.Core.Path.{◌≡◌, refl, sym, ap, subst, subst⁻¹, ◌∙◌}
 use mathlib.Core.Logic.{inl, inr, ⊎_elim}
-use mathlib.Core.Bool.{Bool, true, false}
+use mathlib.Core.Bool.{Bool, false}
 use mathlib.Core.List.{List, [], ◌∷◌, map}
 use mathlib.Core.Option.{none, some}
 use Prim.Native.Nat.{ℕ, ◌+◌, ◌*◌, ◌^◌, ◌<◌, ◌≤◌}
@@ -37,14 +37,14 @@ use Rattle.projections.specs.Tops.{Held, ListIs}
 use Rattle.projections.specs.declared.Selection.{Selection}
 use Rattle.projections.specs.declared.Selection.TheVariants as selection
 use Rattle.projections.proofs.Tops.{copies_held, held_grown, held_more, items_kept, named_differ, select_sum}
-use Rattle.walk_steps.specs.Steps.{FieldsFor, ListPut, Picked, SelectionIs, TakenIs, kept_pending, pending_items, side}
+use Rattle.walk_steps.specs.Steps.{Picked, PickedIs, Putting, SelectionIs, kept_pending, pending_items, side}
 use Rattle.walk_steps.specs.declared.Chosen.{Chosen}
-use Rattle.walk_steps.specs.declared.End.{End}
-use Rattle.walk_steps.specs.declared.End.TheVariants.{Done, Large}
 use Rattle.walk_steps.specs.declared.Pending.{Pending}
 use Rattle.walk_steps.specs.declared.Used.{Used}
+use Rattle.std.proofs.Common.{Result, Ok, Err}
+use Rattle.arena.specs.declared.Full.{Full}
 use Rattle.walk_steps.specs.declared.Walked.{Walked}
-use Rattle.optimize_projections.specs.Walk.{After, Before, BeforeList, EndIs, More, PutAfter, Ready, Stands, TooLarge, WalkIs, merge_by}
+use Rattle.optimize_projections.specs.Walk.{After, Before, BeforeList, More, PutAfter, Ready, Stands, TooLarge, WalkIs, merge_by}
 use Rattle.optimize_projections.specs.declared.Settings.{Settings}
 use Rattle.optimize_projections.proofs.Ends.{based, child_nodes, child_tags, grown-refl, more-refl, over-walk}
 use Rattle.optimize_projections.proofs.Inputs.{narrowed, node_good, node_kept}
@@ -140,55 +140,11 @@ shift v u o n n' t t' e f g x = ⊎_elim (λ d. inl d) (λ y. ⊎_elim (λ d. in
 
 -- ── the list over node k ────────────────────────────────────────────────────────────────────
 
-module _ {cells rows nodes fields widths keys arows acells sr items icells : List ℕ} {k : ℕ} {l : Pending} {request : RequiredIndices} {u : Used} (c : Chosen) (items₁ icells₁ : List ℕ)
-    (q : Picked (kept_pending l request rows cells arows acells) (row_at fields (first_at widths k) (width_at widths k)) u items icells items₁ icells₁ c) where
+module _ {cells rows nodes fields widths keys arows acells sr items icells : List ℕ} {k : ℕ} {l : Pending} {request : RequiredIndices} {u : Used} (items₁ icells₁ : List ℕ) where
   module _ (b : BeforeList cells rows nodes fields widths keys arows acells (results sr items icells) k l request u) where
-    abbrev C : Catalogue
-    C = b.standing.C
-
-    abbrev a : Arrays
-    a = lent cells rows nodes
-
-    abbrev count : ℕ
-    count = b.standing.count
-
-    abbrev js : List Item
-    js = pending_items l rows cells arows acells
-
-    abbrev fs : List Pair
-    fs = fields_of b.standing.C (plan_at (lent cells rows nodes) k)
-
     -- the request's items
     kept_is : kept_pending l request rows cells arows acells ≡ select b.R (pending_items l rows cells arows acells)
     kept_is = items_kept (side l.scratch arows rows) (side l.scratch acells cells) l.first l.n b.asks b.fit
-
-    abbrev Q : Mask
-    Q = used (map item_expr (select b.R (pending_items l rows cells arows acells))) (fields_of b.standing.C (plan_at (lent cells rows nodes) k))
-
-    pub asks_q : Asks c.ask Q
-    asks_q =
-        subst (λ (gs : List Pair). Asks c.ask (used (map item_expr (select b.R (pending_items l rows cells arows acells))) gs)) (row_is b.standing k b.within refl refl)
-        (subst (λ (ks : List Item). Asks c.ask (used (map item_expr ks) (row_at fields (first_at widths k) (width_at widths k)))) kept_is q.asks)
-
-    module _ (fine : c.large ≡ false) where
-      pub chosen : SelectionIs (select b.R (pending_items l rows cells arows acells)) u items icells items₁ icells₁ c.used c.list
-      chosen =
-          subst (λ (ks : List Item). SelectionIs ks u items icells items₁ icells₁ c.used c.list) kept_is
-          (subst (λ (t : Bool). TakenIs (kept_pending l request rows cells arows acells) u items icells items₁ icells₁ c t) fine q.taken)
-
-      abbrev pub input-before : Before cells rows nodes fields widths keys (results sr items₁ icells₁) k c.ask c.used
-      input-before =
-          record {
-            standing = b.standing;
-            keyed = b.keyed;
-            within = b.within;
-            ready = taken-ready b.ready (select b.R (pending_items l rows cells arows acells)) items₁ icells₁ c.used c.list chosen;
-            R = used (map item_expr (select b.R (pending_items l rows cells arows acells))) (fields_of b.standing.C (plan_at (lent cells rows nodes) k));
-            fit = used-fit (map item_expr (select b.R (pending_items l rows cells arows acells))) (fields_of b.standing.C (plan_at (lent cells rows nodes) k));
-            asks = asks_q;
-          }
-
-  -- ── by the settings ───────────────────────────────────────────────────────────────────────
 
   module _ (s : Settings) where
     -- the rules' plan of the list
@@ -210,82 +166,106 @@ module _ {cells rows nodes fields widths keys arows acells sr items icells : Lis
         (flag_of request) b.R
 
     -- there was no room for the items
-    pub copies_large : c.large ≡ true → {w : Walked} → w.end ≡ Large → {r' : Results} → PutAfter s cells rows nodes fields widths keys arows acells (results sr items icells) r' k l request u w
-    copies_large e {w} d {r'} = record {
+    pub copies_large : {g h : Full} → Picked (kept_pending l request rows cells arows acells) (row_at fields (first_at widths k) (width_at widths k)) u items icells items₁ icells₁ (Err g) → {r' : Results}
+        → PutAfter s cells rows nodes fields widths keys arows acells (results sr items icells) r' k l request u (Err h)
+    copies_large {g} {h} q {r'} = record {
       is = λ b.
           let ks : List Item = select b.R (pending_items l rows cells arows acells) in
-          let t : TakenIs ks u items icells items₁ icells₁ c true =
-          subst (λ (js : List Item). TakenIs js u items icells items₁ icells₁ c true) (kept_is b) (subst (λ (t : Bool). TakenIs (kept_pending l request rows cells arows acells) u items icells items₁ icells₁ c t) e q.taken) in
-          rw d
-          (subst⁻¹ (λ (v : rules.Walked). EndIs b.standing.C (lent cells rows nodes) b.standing.count (results sr items icells) r' u v w.kept Large) (list-walk b)
-          (inr (inr (omega (arith, t.1, nodes-tags ks, named-tags b.standing.C ks (node_walk b).plan t.0, b.ready.cells_long)))));
+          let t : Picked ks (row_at fields (first_at widths k) (width_at widths k)) u items icells items₁ icells₁ (Err g) =
+          subst (λ (js : List Item). Picked js (row_at fields (first_at widths k) (width_at widths k)) u items icells items₁ icells₁ (Err g)) (kept_is b) q in
+          subst⁻¹ (λ (v : rules.Walked). WalkIs b.standing.C (lent cells rows nodes) b.standing.count (results sr items icells) r' u v (Err h)) (list-walk b)
+          (inr (inr (omega (arith, t.1, nodes-tags ks, named-tags b.standing.C ks (node_walk b).plan t.0, b.ready.cells_long))));
     }
 
-    module _ (fine : c.large ≡ false) {sr₂ items₂ icells₂ : List ℕ} {w : Walked}
-        (x : After s cells rows nodes fields widths keys (results sr items₁ icells₁) (results sr₂ items₂ icells₂) k c.ask c.used w) where
-      node_end : (b : BeforeList cells rows nodes fields widths keys arows acells (results sr items icells) k l request u)
-          → WalkIs b.standing.C (lent cells rows nodes) b.standing.count (results sr items₁ icells₁) (results sr₂ items₂ icells₂) c.used (node_walk b) w
-      node_end b =
+  module _ (c : Chosen) (q : PickedIs (kept_pending l request rows cells arows acells) (row_at fields (first_at widths k) (width_at widths k)) u items icells items₁ icells₁ c) where
+    module _ (b : BeforeList cells rows nodes fields widths keys arows acells (results sr items icells) k l request u) where
+      abbrev Q : Mask
+      Q = used (map item_expr (select b.R (pending_items l rows cells arows acells))) (fields_of b.standing.C (plan_at (lent cells rows nodes) k))
+
+      pub asks_q : Asks c.ask Q
+      asks_q =
+          subst (λ (gs : List Pair). Asks c.ask (used (map item_expr (select b.R (pending_items l rows cells arows acells))) gs)) (row_is b.standing k b.within refl refl)
+          (subst (λ (ks : List Item). Asks c.ask (used (map item_expr ks) (row_at fields (first_at widths k) (width_at widths k)))) (kept_is b) q.asks)
+
+      pub chosen : SelectionIs (select b.R (pending_items l rows cells arows acells)) u items icells items₁ icells₁ c.used c.list
+      chosen = subst (λ (ks : List Item). SelectionIs ks u items icells items₁ icells₁ c.used c.list) (kept_is b) q.taken
+
+      abbrev pub input-before : Before cells rows nodes fields widths keys (results sr items₁ icells₁) k c.ask c.used
+      input-before =
+          record {
+            standing = b.standing;
+            keyed = b.keyed;
+            within = b.within;
+            ready = taken-ready b.ready (select b.R (pending_items l rows cells arows acells)) items₁ icells₁ c.used c.list chosen;
+            R = used (map item_expr (select b.R (pending_items l rows cells arows acells))) (fields_of b.standing.C (plan_at (lent cells rows nodes) k));
+            fit = used-fit (map item_expr (select b.R (pending_items l rows cells arows acells))) (fields_of b.standing.C (plan_at (lent cells rows nodes) k));
+            asks = asks_q;
+          }
+
+    module _ (s : Settings) where
+      node_asked : {sr₂ items₂ icells₂ : List ℕ} {w : Result Walked Full} → After s cells rows nodes fields widths keys (results sr items₁ icells₁) (results sr₂ items₂ icells₂) k c.ask c.used w
+          → (b : BeforeList cells rows nodes fields widths keys arows acells (results sr items icells) k l request u)
+          → WalkIs b.standing.C (lent cells rows nodes) b.standing.count (results sr items₁ icells₁) (results sr₂ items₂ icells₂) c.used (node_walk s b) w
+      node_asked {sr₂} {items₂} {icells₂} {w} x b =
           subst (λ (f : Bool).
           WalkIs b.standing.C (lent cells rows nodes) b.standing.count (results sr items₁ icells₁) (results sr₂ items₂ icells₂) c.used
           (walk (merge_by s) b.standing.C (plan_at (lent cells rows nodes) k) none f
           (used (map item_expr (select b.R (pending_items l rows cells arows acells))) (fields_of b.standing.C (plan_at (lent cells rows nodes) k)))) w) q.flag
-          (x.is (input-before b fine))
+          (x.is (input-before b))
 
-      node-fit : (b : BeforeList cells rows nodes fields widths keys arows acells (results sr items icells) k l request u) → Fit (node_walk b).kept (fields_of b.standing.C (plan_at (lent cells rows nodes) k))
+      node-fit : (b : BeforeList cells rows nodes fields widths keys arows acells (results sr items icells) k l request u) → Fit (node_walk s b).kept (fields_of b.standing.C (plan_at (lent cells rows nodes) k))
       node-fit b = node_kept b.standing s k b.within false (used-fit (map item_expr (select b.R (pending_items l rows cells arows acells))) (fields_of b.standing.C (plan_at (lent cells rows nodes) k)))
 
-      pub list-fields : BeforeList cells rows nodes fields widths keys arows acells (results sr items icells) k l request u → FieldsFor fields (first_at widths k) (width_at widths k) w w.end
-      list-fields b = by w.end (node_end b)
-        where
-          by : (e : End) → EndIs b.standing.C (lent cells rows nodes) b.standing.count (results sr items₁ icells₁) (results sr₂ items₂ icells₂) c.used (node_walk b) w.kept e → FieldsFor fields (first_at widths k) (width_at widths k) w e
-          by (Done rec n) y = fields_in b.standing k b.within y.1 (Fit-length (node-fit b))
-          by Large y = tt
-
-      -- how the kept items are put
-      list-is : (b : BeforeList cells rows nodes fields widths keys arows acells (results sr items icells) k l request u) (rec : ℕ) (n : Used)
-          → Stands b.standing.C (lent cells rows nodes) b.standing.count (results sr items₁ icells₁) (results sr₂ items₂ icells₂) c.used (node_walk b).plan rec n
-          → (t : Selection) → SelectionIs (select b.R (pending_items l rows cells arows acells)) u items icells items₁ icells₁ c.used t
-          → ListIs b.standing.C (lent cells rows nodes) b.standing.count (results sr₂ items₂ icells₂) n.rows n.cells fields l.top (first_at widths l.top) (width_at widths l.top) k (first_at widths k) (width_at widths k)
-          (pending_items l rows cells arows acells) (select b.R (pending_items l rows cells arows acells)) t
-      list-is b rec n y selection.Columns d =
-          record { bare = d.0; node = b.top; fields_are = b.pairs; row = row_is b.standing l.top b.top refl refl; input_row = row_is b.standing k b.within refl refl }
-      list-is b rec n y (selection.Items row m) d =
-          let ks : List Item = select b.R (pending_items l rows cells arows acells) in
-          let long : length (pending_items l rows cells arows acells) ≡ l.n = items-length (side l.scratch arows rows) (side l.scratch acells cells) l.first l.n in
-          let e = ap (λ (v : Used). v.rows) d.2 in
-          record {
-            named = d.0;
-            held =
-                held_more
-                (held_grown
-                (subst⁻¹ (λ (x : ℕ). Held b.standing.C.version (results sr items₁ icells₁) x c.used.cells row m ks) e
-                (copies_held b.standing.C.version sr d.3 (omega (arith, select_short b.R (pending_items l rows cells arows acells), items-few b.items)) (omega (arith, select_sum item_tags b.R (pending_items l rows cells arows acells), b.list.tags))))
-                y.grown)
-                n.rows n.cells y.more.rows y.more.cells;
-          }
-
-      pub put_after : {sr₃ : List ℕ} (v : Walked) → ListPut sr₂ sr₃ c.list fields l.top (first_at widths l.top) (width_at widths l.top) request (first_at widths k) (width_at widths k) w v w.end
-          → PutAfter s cells rows nodes fields widths keys arows acells (results sr items icells) (results sr₃ items₂ icells₂) k l request u v
-      put_after {sr₃} v d = record {
-        is = λ b. subst⁻¹ (λ (p : rules.Walked). WalkIs b.standing.C (lent cells rows nodes) b.standing.count (results sr items icells) (results sr₃ items₂ icells₂) u p v) (list-walk b) (by b w.end (node_end b) d);
+      -- the node beneath is too large
+      pub put_large : {sr₂ items₂ icells₂ : List ℕ} {g h : Full} → After s cells rows nodes fields widths keys (results sr items₁ icells₁) (results sr₂ items₂ icells₂) k c.ask c.used (Err g)
+          → PutAfter s cells rows nodes fields widths keys arows acells (results sr items icells) (results sr₂ items₂ icells₂) k l request u (Err h)
+      put_large {sr₂} {items₂} {icells₂} {g} {h} x = record {
+        is = λ b.
+            let ks : List Item = select b.R (pending_items l rows cells arows acells) in
+            let m = taken-records b.ready ks items₁ icells₁ c.used c.list (chosen b) in
+            let t = taken-cells b.ready ks items₁ icells₁ c.used c.list (chosen b) b.standing.C (node_walk s b).plan in
+            subst⁻¹ (λ (p : rules.Walked). WalkIs b.standing.C (lent cells rows nodes) b.standing.count (results sr items icells) (results sr₂ items₂ icells₂) u p (Err h)) (list-walk s b)
+            (shift c.used u (node_walk s b).overlong _ _ _ _ m t (child_nodes b.standing.C ks (node_walk s b).plan) (node_asked x b));
       }
-        where
-          by : (b : BeforeList cells rows nodes fields widths keys arows acells (results sr items icells) k l request u) (e : End)
-              → EndIs b.standing.C (lent cells rows nodes) b.standing.count (results sr items₁ icells₁) (results sr₂ items₂ icells₂) c.used (node_walk b) w.kept e
-              → ListPut sr₂ sr₃ c.list fields l.top (first_at widths l.top) (width_at widths l.top) request (first_at widths k) (width_at widths k) w v e
-              → WalkIs b.standing.C (lent cells rows nodes) b.standing.count (results sr items icells) (results sr₃ items₂ icells₂) u
-              (record { plan = over_child b.standing.C (select b.R (pending_items l rows cells arows acells)) (node_walk b).plan; kept = b.R; overlong = (node_walk b).overlong }) v
-          by b (Done rec n) y p =
+
+      module _ {sr₂ items₂ icells₂ : List ℕ} {w : Walked} (x : After s cells rows nodes fields widths keys (results sr items₁ icells₁) (results sr₂ items₂ icells₂) k c.ask c.used (Ok w)) where
+        pub list-fields : BeforeList cells rows nodes fields widths keys arows acells (results sr items icells) k l request u → FieldsIn fields (first_at widths k) (width_at widths k) w.kept
+        list-fields b = fields_in b.standing k b.within (node_asked x b).1 (Fit-length (node-fit b))
+
+        -- how the kept items are put
+        list-is : (b : BeforeList cells rows nodes fields widths keys arows acells (results sr items icells) k l request u) (rec : ℕ) (n : Used)
+            → Stands b.standing.C (lent cells rows nodes) b.standing.count (results sr items₁ icells₁) (results sr₂ items₂ icells₂) c.used (node_walk s b).plan rec n
+            → (t : Selection) → SelectionIs (select b.R (pending_items l rows cells arows acells)) u items icells items₁ icells₁ c.used t
+            → ListIs b.standing.C (lent cells rows nodes) b.standing.count (results sr₂ items₂ icells₂) n.rows n.cells fields l.top (first_at widths l.top) (width_at widths l.top) k (first_at widths k) (width_at widths k)
+            (pending_items l rows cells arows acells) (select b.R (pending_items l rows cells arows acells)) t
+        list-is b rec n y selection.Columns d =
+            record { bare = d.0; node = b.top; fields_are = b.pairs; row = row_is b.standing l.top b.top refl refl; input_row = row_is b.standing k b.within refl refl }
+        list-is b rec n y (selection.Items row m) d =
+            let ks : List Item = select b.R (pending_items l rows cells arows acells) in
+            let long : length (pending_items l rows cells arows acells) ≡ l.n = items-length (side l.scratch arows rows) (side l.scratch acells cells) l.first l.n in
+            let e = ap (λ (v : Used). v.rows) d.2 in
+            record {
+              named = d.0;
+              held =
+                  held_more
+                  (held_grown
+                  (subst⁻¹ (λ (x : ℕ). Held b.standing.C.version (results sr items₁ icells₁) x c.used.cells row m ks) e
+                  (copies_held b.standing.C.version sr d.3 (omega (arith, select_short b.R (pending_items l rows cells arows acells), items-few b.items)) (omega (arith, select_sum item_tags b.R (pending_items l rows cells arows acells), b.list.tags))))
+                  y.grown)
+                  n.rows n.cells y.more.rows y.more.cells;
+            }
+
+        pub put_after : {sr₃ : List ℕ} (v : Result Walked Full) → Putting sr₂ sr₃ c.list fields l.top (first_at widths l.top) (width_at widths l.top) request (first_at widths k) (width_at widths k) w v
+            → PutAfter s cells rows nodes fields widths keys arows acells (results sr items icells) (results sr₃ items₂ icells₂) k l request u v
+        put_after {sr₃} v p = record {
+          is = λ b.
               let ks : List Item = select b.R (pending_items l rows cells arows acells) in
               let g = node_good b.standing s k b.within false (used-fit (map item_expr ks) (fields_of b.standing.C (plan_at (lent cells rows nodes) k))) in
-              over-walk (based (taken_more b.ready ks items₁ icells₁ c.used c.list (chosen b fine)) (taken-records b.ready ks items₁ icells₁ c.used c.list (chosen b fine))
-              (taken-grown b.ready ks items₁ icells₁ c.used c.list (chosen b fine)) y.0) sr₃ (over_child b.standing.C ks) p.t v
-              (omega (arith, y.0.tags, taken-cells b.ready ks items₁ icells₁ c.used c.list (chosen b fine) b.standing.C (node_walk b).plan)) b.asks y.2
-              (p.on_top.covers b.standing.C (lent cells rows nodes) b.standing.count items₂ icells₂ n.rows n.cells k (node_walk b).kept b.R (pending_items l rows cells arows acells)
-              (narrowed (node_walk b) y.0 b.within (node-fit b) g.kept.fields) y.1 b.asks b.fit (list-is b rec n y.0 c.list (chosen b fine))) p.over
-          by b Large y p =
-              let ks : List Item = select b.R (pending_items l rows cells arows acells) in
-              let m = taken-records b.ready ks items₁ icells₁ c.used c.list (chosen b fine) in
-              let t = taken-cells b.ready ks items₁ icells₁ c.used c.list (chosen b fine) b.standing.C (node_walk b).plan in
-              rw p (shift c.used u (node_walk b).overlong _ _ _ _ m t (child_nodes b.standing.C ks (node_walk b).plan) y)
+              let y = node_asked x b in
+              subst⁻¹ (λ (o : rules.Walked). WalkIs b.standing.C (lent cells rows nodes) b.standing.count (results sr items icells) (results sr₃ items₂ icells₂) u o v) (list-walk s b)
+              (over-walk (based (taken_more b.ready ks items₁ icells₁ c.used c.list (chosen b)) (taken-records b.ready ks items₁ icells₁ c.used c.list (chosen b))
+              (taken-grown b.ready ks items₁ icells₁ c.used c.list (chosen b)) y.0) sr₃ (over_child b.standing.C ks) p.t v
+              (omega (arith, y.0.tags, taken-cells b.ready ks items₁ icells₁ c.used c.list (chosen b) b.standing.C (node_walk s b).plan)) b.asks y.2
+              (p.on_top.covers b.standing.C (lent cells rows nodes) b.standing.count items₂ icells₂ w.used.rows w.used.cells k (node_walk s b).kept b.R (pending_items l rows cells arows acells)
+              (narrowed (node_walk s b) y.0 b.within (node-fit b) g.kept.fields) y.1 b.asks b.fit (list-is b w.root w.used y.0 c.list (chosen b))) p.over);
+        }

@@ -43,9 +43,10 @@ use Rattle.merge.specs.Step as merge
 use Rattle.jobs.specs.Asked.{Other}
 use Rattle.jobs.specs.Job.{NoProjection}
 use Rattle.walk_steps.specs.Steps.{ListOk, pending_items}
-use Rattle.walk_steps.specs.declared.End.TheVariants.{Large}
 use Rattle.walk_steps.specs.declared.Pending.{Pending}
 use Rattle.walk_steps.specs.declared.Used.{Used}
+use Rattle.std.proofs.Common.{Result, Err}
+use Rattle.arena.specs.declared.Full.{Full}
 use Rattle.walk_steps.specs.declared.Walked.{Walked}
 use Rattle.optimize_projections.specs.Walk.{After, Before, BeforeList, ListAfter, PutAfter, WalkIs, merge_by}
 use Rattle.optimize_projections.specs.declared.Settings.{Settings}
@@ -138,7 +139,7 @@ module _ {cells rows nodes fields widths keys : List ℕ} (arows acells : List �
   unfolding walk unary_walk
   load_walk M b = ap (λ (p : Plan). walk M b.standing.C p none (flag_of request) b.R) (lower_plan b.standing k b.within first n e)
 
-  pub load_after : {s : Settings} {r' : Results} {w : Walked} → ListAfter s cells rows nodes fields widths keys arows acells r r' (k + 1) (filed k first n) request u w
+  pub load_after : {s : Settings} {r' : Results} {w : Result Walked Full} → ListAfter s cells rows nodes fields widths keys arows acells r r' (k + 1) (filed k first n) request u w
       → After s cells rows nodes fields widths keys r r' k request u w
   load_after {s} {r'} {w} x = record {
     is = λ b. subst (λ (v : rules.Walked). WalkIs b.standing.C (lent cells rows nodes) b.standing.count r r' u v w) (sym (load_walk (merge_by s) b)) (x.is (file_list b));
@@ -219,10 +220,10 @@ module _ (s : Settings) {cells rows nodes fields widths keys arows acells : List
   -- what is said of the list put over the plan as it is, is said of the pending list
   over-after : ((b : BeforeList cells rows nodes fields widths keys arows acells r k l request u) →
       Over (merge_by s) b.standing.C (pending_items l rows cells arows acells) (flag_of request) b.R (plan_at (lent cells rows nodes) k))
-      → {r' : Results} {w : Walked} → PutAfter s cells rows nodes fields widths keys arows acells r r' k l request u w → ListAfter s cells rows nodes fields widths keys arows acells r r' k l request u w
+      → {r' : Results} {w : Result Walked Full} → PutAfter s cells rows nodes fields widths keys arows acells r r' k l request u w → ListAfter s cells rows nodes fields widths keys arows acells r r' k l request u w
   over-after e {r'} {w} x = record { is = λ b. subst (λ (v : rules.Walked). WalkIs b.standing.C (lent cells rows nodes) b.standing.count r r' u v w) (sym (e b)) (x.is b) }
 
-  pub other_after : {n : Node} → n ≡ node_at nodes k → Other n → {r' : Results} {w : Walked} → PutAfter s cells rows nodes fields widths keys arows acells r r' k l request u w
+  pub other_after : {n : Node} → n ≡ node_at nodes k → Other n → {r' : Results} {w : Result Walked Full} → PutAfter s cells rows nodes fields widths keys arows acells r r' k l request u w
       → ListAfter s cells rows nodes fields widths keys arows acells r r' k l request u w
   other_after {n} e o =
       over-after (λ b. over-other (merge_by s) b.standing.C (pending_items l rows cells arows acells) (flag_of request) b.R cells rows nodes b.standing.count k n o ((taken e).shows b.standing.C cells rows b.standing.count b.standing.tree b.within))
@@ -231,19 +232,18 @@ module _ (s : Settings) {cells rows nodes fields widths keys arows acells : List
 
   module _ (first n : ℕ) (e : Projection first n ≡ node_at nodes k) where
     pub stop_after : merge_step s.house s.mask (pending_items l rows cells arows acells) (items_at rows cells first n) ≡ none
-        → {r' : Results} {w : Walked} → PutAfter s cells rows nodes fields widths keys arows acells r r' k l request u w → ListAfter s cells rows nodes fields widths keys arows acells r r' k l request u w
+        → {r' : Results} {w : Result Walked Full} → PutAfter s cells rows nodes fields widths keys arows acells r r' k l request u w → ListAfter s cells rows nodes fields widths keys arows acells r r' k l request u w
     stop_after q =
         over-after (λ b.
         subst⁻¹ (Over (merge_by s) b.standing.C (pending_items l rows cells arows acells) (flag_of request) b.R) (lower_plan b.standing k b.within first n e)
         (over_stop (merge_by s) b.standing.C (pending_items l rows cells arows acells) (flag_of request) b.R (items_at rows cells first n) q (plan_at (lent cells rows nodes) (k + 1))))
 
-    pub over-large : merge.Over s.house s.mask (pending_items l rows cells arows acells) (items_at rows cells first n) → {w : Walked} → w.end ≡ Large → {r' : Results}
-        → ListAfter s cells rows nodes fields widths keys arows acells r r' k l request u w
-    over-large o {w} q {r'} = record {
+    pub over-large : merge.Over s.house s.mask (pending_items l rows cells arows acells) (items_at rows cells first n) → {h : Full} {r' : Results}
+        → ListAfter s cells rows nodes fields widths keys arows acells r r' k l request u (Err h)
+    over-large o {h} {r'} = record {
       is = λ b.
-          rw q
-          (inl (ap (λ (p : Plan). (walk (merge_by s) b.standing.C p (some (pending_items l rows cells arows acells)) (flag_of request) b.R).overlong) (lower_plan b.standing k b.within first n e)
-          ∙ long-walk (merge_by s) b.standing.C (pending_items l rows cells arows acells) (flag_of request) b.R (items_at rows cells first n) o.list o.step o.long (plan_at (lent cells rows nodes) (k + 1))));
+          inl (ap (λ (p : Plan). (walk (merge_by s) b.standing.C p (some (pending_items l rows cells arows acells)) (flag_of request) b.R).overlong) (lower_plan b.standing k b.within first n e)
+          ∙ long-walk (merge_by s) b.standing.C (pending_items l rows cells arows acells) (flag_of request) b.R (items_at rows cells first n) o.list o.step o.long (plan_at (lent cells rows nodes) (k + 1)));
     }
 
     -- the list ks goes on down, standing as l' says
@@ -266,7 +266,7 @@ module _ (s : Settings) {cells rows nodes fields widths keys arows acells : List
             asks = b.asks;
           }
 
-      pub down_after : {r' : Results} {w : Walked} → ListAfter s cells rows nodes fields widths keys arows' acells' r r' (k + 1) l' request u w
+      pub down_after : {r' : Results} {w : Result Walked Full} → ListAfter s cells rows nodes fields widths keys arows' acells' r r' (k + 1) l' request u w
           → ListAfter s cells rows nodes fields widths keys arows acells r r' k l request u w
       down_after {r'} {w} x = record {
         is = λ b.

@@ -15,9 +15,12 @@ use Rattle.rules.specs.Mask.{Mask}
 use Rattle.rules.specs.Merge.{Merge}
 use Rattle.rules.specs.Rules as rules
 use Rattle.rules.specs.Rules.{Job, binary_kept, leaf_kept, leaf_rule, left_ask, right_ask, unary_job}
-use Rattle.rules.specs.Rewrite.{Walked, binary_walk, input, leaf_walk, node_walk, pend, run_job, unary_walk, walk}
+use Rattle.rules.specs.Rewrite as rewriting
+use Rattle.rules.specs.Rewrite.{binary_walk, input, leaf_walk, node_walk, pend, run_job, unary_walk, walk}
 use Rattle.required_indices.specs.Request.{Asks}
 use Rattle.required_indices.specs.declared.RequiredIndices.{RequiredIndices}
+use Rattle.std.proofs.Common.{Result, Ok, Err}
+use Rattle.arena.specs.declared.Full.{Full}
 use Rattle.tree.specs.Tree.{Arrays}
 use Rattle.result.specs.Result.{Results, record_n, result_at}
 use Rattle.result.specs.Records.{Grown, RecordOk, first_of, results, second_of, stands_for}
@@ -25,10 +28,9 @@ use Rattle.result.specs.declared.Record.{Record}
 use Rattle.result.proofs.Grow.{pushed_grown, pushed_result, pushed_wf}
 use Rattle.jobs.specs.Job.{NoProjection}
 use Rattle.walk_steps.specs.Steps.{PutAs}
-use Rattle.walk_steps.specs.declared.End.{End}
-use Rattle.walk_steps.specs.declared.End.TheVariants.{Done, Large}
 use Rattle.walk_steps.specs.declared.Used.{Used}
-use Rattle.optimize_projections.specs.Walk.{EndIs, More, Ready, input_walk}
+use Rattle.walk_steps.specs.declared.Walked.{Walked}
+use Rattle.optimize_projections.specs.Walk.{More, Ready, WalkIs, input_walk}
 use Rattle.optimize_projections.proofs.Ends.{grown_trans}
 
 -- ── a record put behind n records and at most t cells that were taken for its inputs ────────
@@ -41,23 +43,23 @@ pub record Behind (C : Catalogue) (a : Arrays) (count : ℕ) (r : Results) (s it
   pub ready : Ready C a count (results s items cells) v
 
 module _ (C : Catalogue) (a : Arrays) (count : ℕ) (r : Results) (s items cells : List ℕ) (u v : Used) (n t : ℕ) (b : Behind C a count r s items cells u v n t)
-    (x : Record) (set : ℕ) (ok : RecordOk C a count (results s items cells) v.rows v.cells v.records set x) (w : Walked)
+    (x : Record) (set : ℕ) (ok : RecordOk C a count (results s items cells) v.rows v.cells v.records set x) (w : rewriting.Walked)
     (means : stands_for C a (results s items cells) set x (result_at C a (results s items cells) (first_of x)) (result_at C a (results s items cells) (second_of x)) ≡ w.plan)
     (one_more : plan_nodes w.plan ≡ suc n) (no_less : t ≤ plan_tags w.plan) (fine : w.overlong ≡ false) {kept : RequiredIndices} (asks : Asks kept w.kept) (s' : List ℕ) where
-  pub put_walk : (end : End) → PutAs s s' v x set end → EndIs C a count r (results s' items cells) u w kept end
-  put_walk (Done i m) p =
-      let room : v.records * record_n + record_n ≤ length s = omega (arith, b.ready.records_long, p.2) in
-      rw (p.0, p.1) (
+  pub put_walk : (end : Result Walked Full) → PutAs s s' v x set kept end → WalkIs C a count r (results s' items cells) u w end
+  put_walk (Ok i) p =
+      let room : v.records * record_n + record_n ≤ length s = omega (arith, b.ready.records_long, p.3) in
+      rw (p.0, p.1, p.2) (
         record {
-          plan = pushed_result b.ready.wf room p.3 ok ∙ means;
+          plan = pushed_result b.ready.wf room p.4 ok ∙ means;
           below = omega arith;
           nodes = omega (arith, b.nodes);
           tags = omega (arith, b.tags);
           more = record { records = omega (arith, b.more.records); rows = b.more.rows; cells = b.more.cells };
-          grown = grown_trans b.more.records b.more.rows b.more.cells b.grown (pushed_grown b.ready.wf room p.3 ok);
+          grown = grown_trans b.more.records b.more.rows b.more.cells b.grown (pushed_grown b.ready.wf room p.4 ok);
           ready = record {
-            wf = pushed_wf b.ready.wf room p.3 ok;
-            records_long = omega (arith, b.ready.records_long, p.3.kept.long);
+            wf = pushed_wf b.ready.wf room p.4 ok;
+            records_long = omega (arith, b.ready.records_long, p.4.kept.long);
             cells_long = b.ready.cells_long;
             room = b.ready.room;
           };
@@ -65,7 +67,7 @@ module _ (C : Catalogue) (a : Arrays) (count : ℕ) (r : Results) (s items cells
         asks,
         fine,
       )
-  put_walk Large p = inr (inl (omega (arith, b.nodes, p.0)))
+  put_walk (Err e) p = inr (inl (omega (arith, b.nodes, p.0)))
 
 -- ── the rules at a node ─────────────────────────────────────────────────────────────────────
 

@@ -1,5 +1,5 @@
 -- What the walk says: the plan that it makes is the one that the rules give, or the result is too large.
-use Rattle.std.specs.Prelude.{◌≡◌, ◌⊎◌, Bool, true, false, cond, ◌||◌, List, map, ℕ, ◌+◌, ◌*◌, ◌<◌, ◌≤◌, length}
+use Rattle.std.specs.Prelude.{◌≡◌, ◌⊎◌, Result, Ok, Err, Bool, true, false, cond, ◌||◌, List, map, ℕ, ◌+◌, ◌*◌, ◌<◌, ◌≤◌, length}
 use Rattle.std.proofs.Math.Option.{none, some}
 use Rattle.cpl.specs.Exprs.{plan_nodes, plan_tags}
 use Rattle.cpl.specs.Fields.{fields_of}
@@ -13,6 +13,7 @@ use Rattle.rules.specs.Rewrite.{input, walk}
 use Rattle.rules.specs.Items.{Items}
 use Rattle.required_indices.specs.Request.{Asks, flag_of}
 use Rattle.required_indices.specs.declared.RequiredIndices.{RequiredIndices}
+use Rattle.arena.specs.declared.Full.{Full}
 use Rattle.tree.specs.Tree.{Arrays, lent, plan_at}
 use Rattle.lookup.specs.Standing.{Standing}
 use Rattle.result.specs.Result.{Results, record_n, result_at}
@@ -23,10 +24,6 @@ use Rattle.jobs.specs.declared.Todo.{Todo}
 use Rattle.jobs.specs.declared.Todo.TheVariants as todos
 use Rattle.projections.specs.Lists.{Room}
 use Rattle.walk_steps.specs.Steps.{ListOk, pending_items}
-use Rattle.walk_steps.specs.declared.End.{End}
-use Rattle.walk_steps.specs.declared.End.TheVariants.{Done, Large}
-use Rattle.walk_steps.specs.declared.Ends.{Ends}
-use Rattle.walk_steps.specs.declared.Ends.TheVariants as inputs
 use Rattle.walk_steps.specs.declared.Inputs.{Inputs}
 use Rattle.walk_steps.specs.declared.Pending.{Pending}
 use Rattle.walk_steps.specs.declared.Used.{Used}
@@ -69,12 +66,9 @@ abbrev pub TooLarge : (u : Used) (overlong : Bool) (nodes tags : ℕ) → Type 0
 TooLarge u overlong nodes tags = (overlong ≡ true) ⊎ ((max_nodes < u.records + nodes) ⊎ (max_tags < u.cells + tags))
 
 -- the plan w of the rules, with the fields that are left
-abbrev pub EndIs : (C : Catalogue) (a : Arrays) (count : ℕ) (r r' : Results) (u : Used) (w : rules.Walked) (kept : RequiredIndices) → End → Type 0
-EndIs C a count r r' u w kept (Done rec v) = Stands C a count r r' u w.plan rec v × Asks kept w.kept × (w.overlong ≡ false)
-EndIs C a count r r' u w kept Large = TooLarge u w.overlong (plan_nodes w.plan) (plan_tags w.plan)
-
-abbrev pub WalkIs : (C : Catalogue) (a : Arrays) (count : ℕ) (r r' : Results) (u : Used) (w : rules.Walked) → Walked → Type 0
-WalkIs C a count r r' u w v = EndIs C a count r r' u w v.kept v.end
+abbrev pub WalkIs : (C : Catalogue) (a : Arrays) (count : ℕ) (r r' : Results) (u : Used) (w : rules.Walked) → Result Walked Full → Type 0
+WalkIs C a count r r' u w (Ok v) = Stands C a count r r' u w.plan v.root v.used × Asks v.kept w.kept × (w.overlong ≡ false)
+WalkIs C a count r r' u w (Err e) = TooLarge u w.overlong (plan_nodes w.plan) (plan_tags w.plan)
 
 -- ── a node, asked for R ─────────────────────────────────────────────────────────────────────
 
@@ -88,7 +82,7 @@ pub record Before (cells rows nodes fields widths keys : List ℕ) (r : Results)
   pub asks : Asks request R
 
 -- as the rules say of the plan at node k
-pub record After (s : Settings) (cells rows nodes fields widths keys : List ℕ) (r r' : Results) (k : ℕ) (request : RequiredIndices) (u : Used) (w : Walked) : Type 0 where
+pub record After (s : Settings) (cells rows nodes fields widths keys : List ℕ) (r r' : Results) (k : ℕ) (request : RequiredIndices) (u : Used) (w : Result Walked Full) : Type 0 where
   pub is : (b : Before cells rows nodes fields widths keys r k request u)
       → WalkIs b.standing.C (lent cells rows nodes) b.standing.count r r' u
       (walk (merge_by s) b.standing.C (plan_at (lent cells rows nodes) k) none (flag_of request) b.R) w
@@ -100,7 +94,7 @@ input_walk M C p b topped R =
     let w = walk M C p none b R in
     record { plan = input C (fields_of C p) topped R w.plan; kept = cond topped R w.kept; overlong = w.overlong }
 
-pub record InputAfter (s : Settings) (cells rows nodes fields widths keys : List ℕ) (r r' : Results) (k : ℕ) (request : RequiredIndices) (topped : Bool) (u : Used) (w : Walked) : Type 0 where
+pub record InputAfter (s : Settings) (cells rows nodes fields widths keys : List ℕ) (r r' : Results) (k : ℕ) (request : RequiredIndices) (topped : Bool) (u : Used) (w : Result Walked Full) : Type 0 where
   pub is : (b : Before cells rows nodes fields widths keys r k request u)
       → WalkIs b.standing.C (lent cells rows nodes) b.standing.count r r' u
       (input_walk (merge_by s) b.standing.C (plan_at (lent cells rows nodes) k) (flag_of request) topped b.R) w
@@ -120,13 +114,13 @@ pub record BeforeList (cells rows nodes fields widths keys arows acells : List �
   pub fit : Fit R (pending_items l rows cells arows acells)
   pub asks : Asks request R
 
-pub record ListAfter (s : Settings) (cells rows nodes fields widths keys arows acells : List ℕ) (r r' : Results) (k : ℕ) (l : Pending) (request : RequiredIndices) (u : Used) (w : Walked) : Type 0 where
+pub record ListAfter (s : Settings) (cells rows nodes fields widths keys arows acells : List ℕ) (r r' : Results) (k : ℕ) (l : Pending) (request : RequiredIndices) (u : Used) (w : Result Walked Full) : Type 0 where
   pub is : (b : BeforeList cells rows nodes fields widths keys arows acells r k l request u)
       → WalkIs b.standing.C (lent cells rows nodes) b.standing.count r r' u
       (walk (merge_by s) b.standing.C (plan_at (lent cells rows nodes) k) (some (pending_items l rows cells arows acells)) (flag_of request) b.R) w
 
 -- put over node k as it is: no step of merging applies
-pub record PutAfter (s : Settings) (cells rows nodes fields widths keys arows acells : List ℕ) (r r' : Results) (k : ℕ) (l : Pending) (request : RequiredIndices) (u : Used) (w : Walked) : Type 0 where
+pub record PutAfter (s : Settings) (cells rows nodes fields widths keys arows acells : List ℕ) (r r' : Results) (k : ℕ) (l : Pending) (request : RequiredIndices) (u : Used) (w : Result Walked Full) : Type 0 where
   pub is : (b : BeforeList cells rows nodes fields widths keys arows acells r k l request u)
       → WalkIs b.standing.C (lent cells rows nodes) b.standing.count r r' u
       (rules.pend b.standing.C (some (pending_items l rows cells arows acells)) (fields_of b.standing.C (plan_at (lent cells rows nodes) k))
@@ -156,15 +150,18 @@ pub record BeforeInputs (cells rows nodes fields widths keys : List ℕ) (r : Re
   pub P : Mask
   pub asked : InputsAsked standing.C (lent cells rows nodes) standing.count k j Q P j.todo
 
--- one input
-abbrev pub one_end : Ends → End
-one_end (inputs.Done f g v) = Done f v
-one_end inputs.Large = Large
+-- no input
+abbrev pub NoInputs : Used → Result Inputs Full → Type 0
+NoInputs u (Ok i) = (i.first ≡ 0) × (i.second ≡ 0) × (i.used ≡ u)
+NoInputs u (Err e) = ⊥
 
--- the first input's record, and the second's
-abbrev pub two_end : ℕ → End → Ends
-two_end f (Done g v) = inputs.Done f g v
-two_end f Large = inputs.Large
+-- one input
+abbrev pub one_walked : Inputs → Walked
+one_walked i = record { root = i.first; used = i.used; kept = i.kept }
+
+abbrev pub one_end : Result Inputs Full → Result Walked Full
+one_end (Ok i) = Ok (one_walked i)
+one_end (Err e) = Err e
 
 -- both inputs' plans, w₁ and w₂
 pub record StandTwo (C : Catalogue) (a : Arrays) (count : ℕ) (r r' : Results) (u : Used) (p q : Plan) (f g : ℕ) (v : Used) : Type 0 where
@@ -178,20 +175,20 @@ pub record StandTwo (C : Catalogue) (a : Arrays) (count : ℕ) (r r' : Results) 
   pub grown : Grown u.records u.rows u.cells r r'
   pub ready : Ready C a count r' v
 
-abbrev pub TwoIs : (C : Catalogue) (a : Arrays) (count : ℕ) (r r' : Results) (u : Used) (w₁ w₂ : rules.Walked) → Ends → Type 0
-TwoIs C a count r r' u w₁ w₂ (inputs.Done f g v) = StandTwo C a count r r' u w₁.plan w₂.plan f g v × (w₁.overlong || w₂.overlong ≡ false)
-TwoIs C a count r r' u w₁ w₂ inputs.Large =
+abbrev pub TwoIs : (C : Catalogue) (a : Arrays) (count : ℕ) (r r' : Results) (u : Used) (w₁ w₂ : rules.Walked) → Result Inputs Full → Type 0
+TwoIs C a count r r' u w₁ w₂ (Ok i) = StandTwo C a count r r' u w₁.plan w₂.plan i.first i.second i.used × (w₁.overlong || w₂.overlong ≡ false)
+TwoIs C a count r r' u w₁ w₂ (Err e) =
     TooLarge u (w₁.overlong || w₂.overlong) (plan_nodes w₁.plan + plan_nodes w₂.plan) (plan_tags w₁.plan + plan_tags w₂.plan)
 
 -- what is answered of the inputs of node k, by what is to be done
-abbrev pub InputsIs : (M : Merge) (C : Catalogue) (a : Arrays) (count : ℕ) (r r' : Results) (u : Used) (k : ℕ) (j : Job) (Q P : Mask) (i : Inputs) → Todo → Type 0
-InputsIs M C a count r r' u k j Q P i todos.Leaf = (i.end ≡ inputs.Done 0 0 u) × (r' ≡ r)
-InputsIs M C a count r r' u k j Q P i todos.Nothing = (i.end ≡ inputs.Done 0 0 u) × (r' ≡ r)
-InputsIs M C a count r r' u k j Q P i todos.Same = EndIs C a count r r' u (input_walk M C (plan_at a (k + 1)) (flag_of j.ask) false Q) i.kept (one_end i.end)
-InputsIs M C a count r r' u k j Q P i (todos.One topped) = EndIs C a count r r' u (input_walk M C (plan_at a (k + 1)) (flag_of j.ask) topped Q) i.kept (one_end i.end)
+abbrev pub InputsIs : (M : Merge) (C : Catalogue) (a : Arrays) (count : ℕ) (r r' : Results) (u : Used) (k : ℕ) (j : Job) (Q P : Mask) (i : Result Inputs Full) → Todo → Type 0
+InputsIs M C a count r r' u k j Q P i todos.Leaf = NoInputs u i × (r' ≡ r)
+InputsIs M C a count r r' u k j Q P i todos.Nothing = NoInputs u i × (r' ≡ r)
+InputsIs M C a count r r' u k j Q P i todos.Same = WalkIs C a count r r' u (input_walk M C (plan_at a (k + 1)) (flag_of j.ask) false Q) (one_end i)
+InputsIs M C a count r r' u k j Q P i (todos.One topped) = WalkIs C a count r r' u (input_walk M C (plan_at a (k + 1)) (flag_of j.ask) topped Q) (one_end i)
 InputsIs M C a count r r' u k j Q P i (todos.Two right) =
-    TwoIs C a count r r' u (input_walk M C (plan_at a (k + 1)) (flag_of j.ask) true Q) (input_walk M C (plan_at a right) (flag_of j.second) true P) i.end
+    TwoIs C a count r r' u (input_walk M C (plan_at a (k + 1)) (flag_of j.ask) true Q) (input_walk M C (plan_at a right) (flag_of j.second) true P) i
 
-pub record InputsAfter (s : Settings) (cells rows nodes fields widths keys : List ℕ) (r r' : Results) (k : ℕ) (j : Job) (u : Used) (i : Inputs) : Type 0 where
+pub record InputsAfter (s : Settings) (cells rows nodes fields widths keys : List ℕ) (r r' : Results) (k : ℕ) (j : Job) (u : Used) (i : Result Inputs Full) : Type 0 where
   pub is : (b : BeforeInputs cells rows nodes fields widths keys r k j u)
       → InputsIs (merge_by s) b.standing.C (lent cells rows nodes) b.standing.count r r' u k j b.Q b.P i j.todo

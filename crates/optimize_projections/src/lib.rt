@@ -2,18 +2,19 @@
 //!
 //! One function for a node, one for its inputs, calling each other downwards. A projection on its way down is a pending list (`Pending` of crate
 //! `walk_steps`): a step of merging reads it in the file's rows or in the first scratch arrays and writes the merged list into the second, and the two
-//! change places on the call. The old plan is read only, with the keys of its nodes in the slots of `keys`; the rewritten plan grows behind what is in
-//! use of the result's arrays.
+//! change places on the call. The old plan (`Plan`) is read only; the rewritten plan grows behind what is in use of the result's arrays.
 #![tactic(auto)]
 
-ghost use Rattle.std.specs.Prelude.{◌≡◌};
-ghost use Rattle.result.specs.Records.{results};
-ghost use Rattle.optimize_projections.specs.Walk.{After, Before, BeforeInputs, BeforeList, InputAfter, InputsAfter, ListAfter, PutAfter, one_end, two_end};
+ghost use Rattle.std.specs.Prelude.{◌≡◌, Ok};
+ghost use Rattle.optimize_projections.specs.Plans.{PlanAfter, PlanBefore, PlanBeforeInputs, PlanBeforeList, PlanInputAfter, PlanInputsAfter, PlanListAfter, PlanPutAfter};
+ghost use Rattle.optimize_projections.specs.Walk.{NoInputs, one_walked};
 
-use jobs::{Job, Kind, Todo};
+use arena::Full;
+use jobs::{Job, Todo};
 use merge::Step;
 use required_indices::RequiredIndices;
-use walk_steps::{End, Ends, Inputs, Pending, Used, Walked};
+use tree::Node;
+use walk_steps::{Inputs, Pending, Used, Walked};
 
 /// The mode and the push mask.
 #[derive(Clone, Copy)]
@@ -22,128 +23,96 @@ pub struct Settings {
     pub mask: u16,
 }
 
+/// An accepted plan in lent arrays, with the keys of its nodes in their slots.
+#[derive(Clone, Copy)]
+pub struct Plan<'a> {
+    pub cells: &'a [u64],
+    pub rows: &'a [u16],
+    pub nodes: &'a [u64],
+    pub fields: &'a [u16],
+    pub widths: &'a [u64],
+    pub keys: &'a [u64],
+}
+
+/// Lent arrays for a merged list: its rows and their cells.
+#[derive(Drop)]
+pub struct Scratch<'a> {
+    pub rows: &'a mut [u16; 2048],
+    pub cells: &'a mut [u64; 12288],
+}
+
+/// The rewritten plan in lent arrays, as in crate `result`: its records, and the rows and cells of the items that it does not take from the old plan.
+#[derive(Drop)]
+pub struct Rewriting<'a> {
+    pub records: &'a mut [u64; 3328],
+    pub items: &'a mut [u16; 16896],
+    pub icells: &'a mut [u64; 12288],
+}
+
 // A node without inputs.
 fn no_input(kept: RequiredIndices, used: Used) -> Inputs
-    ensures { result ≡ record { end = Ends.Done 0 0 used; kept = kept } }
+    ensures { NoInputs used (Ok result) }
 {
-    let end = Ends::Done {
+    Inputs {
         first: 0,
         second: 0,
         used,
-    };
-    Inputs { end, kept }
+        kept,
+    }
 }
 
 // A node with one input.
 fn one_input(w: Walked) -> Inputs
-    ensures { (one_end result.end ≡ w.end) × (result.kept ≡ w.kept) }
+    ensures { one_walked result ≡ w }
 {
-    let end = w.end;
-    let kept = w.kept;
-    let End::Done {
-        record: first,
-        used,
-    } = end
-    else {
-        return Inputs {
-            end: Ends::Large,
-            kept,
-        };
-    };
-    let one = Ends::Done {
-        first,
+    Inputs {
+        first: w.root,
         second: 0,
-        used,
-    };
-    Inputs { end: one, kept }
+        used: w.used,
+        kept: w.kept,
+    }
 }
 
-// A node with two inputs: the first became record `first`, of which the fields `kept` are left.
-fn two_inputs(first: usize, kept: RequiredIndices, w: Walked) -> Inputs
-    ensures { (result.end ≡ two_end first w.end) × (result.kept ≡ kept) }
-{
-    let end = w.end;
-    let End::Done {
-        record: second,
-        used,
-    } = end
-    else {
-        return Inputs {
-            end: Ends::Large,
-            kept,
-        };
-    };
-    let two = Ends::Done {
-        first,
-        second,
-        used,
-    };
-    Inputs { end: two, kept }
-}
-
-/// The pass over node `k`, asked for `request`: its job says what is asked of its inputs; a projection goes on down as a pending list. Rust:
-/// `optimize_projections`.
+/// The pass over node `k`, asked for `request`: its job says what is asked of its inputs; a projection goes on down as a pending list. Its error
+/// is `Full` where the result is too large. Rust: `optimize_projections`.
 #[cycle(merge_projections_optimize_input_optimize_inputs_optimize_projections_rewrite_projection_given_requirements)]
 pub fn optimize_projections(
-    cells: &[u64; 12288],
-    rows: &[u16],
-    nodes: &[u64; 1792],
-    fields: &[u16],
-    widths: &[u64; 512],
-    keys: &[u64; 2448],
+    plan: &Plan,
     settings: Settings,
     k: usize,
     request: RequiredIndices,
-    arows: &mut [u16; 2048],
-    acells: &mut [u64; 12288],
-    brows: &mut [u16; 2048],
-    bcells: &mut [u64; 12288],
-    records: &mut [u64; 3328],
-    items: &mut [u16; 16896],
-    icells: &mut [u64; 12288],
+    a: &mut Scratch,
+    b: &mut Scratch,
+    out: &mut Rewriting,
     used: Used,
-) -> Walked
-    requires { Before cells.now rows.now nodes.now fields.now widths.now keys.now (results records.old items.old icells.old) k request used }
-    ensures { After settings cells.now rows.now nodes.now fields.now widths.now keys.now (results records.old items.old icells.old) (results records.new items.new icells.new) k request used result }
+) -> Result<Walked, Full>
+    requires { PlanBefore plan.now out.old k request used }
+    ensures { PlanAfter settings plan.now out.old out.new k request used result }
 {
-    let node = tree::node_at(nodes, k);
-    let kind = jobs::kind_of(node);
-    match kind {
-        Kind::Projection { first, n } => {
+    let node = tree::node_at(plan.nodes, k);
+    match node {
+        Node::Projection { first, n } => {
             let list = Pending {
                 top: k,
                 first,
                 n,
                 scratch: false,
             };
-            merge_projections(
-                cells,
-                rows,
-                nodes,
-                fields,
-                widths,
-                keys,
-                settings,
-                k + 1,
-                list,
-                request,
-                arows,
-                acells,
-                brows,
-                bcells,
-                records,
-                items,
-                icells,
-                used,
-            )
+            merge_projections(plan, settings, k + 1, list, request, a, b, out, used)
         }
-        Kind::Other => {
-            let job = jobs::job_at(node, k, request, cells, rows, fields, widths, keys);
-            let inputs = optimize_inputs(
-                cells, rows, nodes, fields, widths, keys, settings, k, job, arows, acells, brows,
-                bcells, records, items, icells, used,
+        _ => {
+            let job = jobs::job_at(
+                node,
+                k,
+                request,
+                plan.cells,
+                plan.rows,
+                plan.fields,
+                plan.widths,
+                plan.keys,
             );
-            walk_steps::put_node(records, k, job, inputs)
+            let inputs = optimize_inputs(plan, settings, k, job, a, b, out, used)?;
+            walk_steps::put_node(out.records, k, job, inputs)
         }
     }
 }
@@ -151,107 +120,38 @@ pub fn optimize_projections(
 /// The inputs of node `k`, each asked as its job says.
 #[cycle(merge_projections_optimize_input_optimize_inputs_optimize_projections_rewrite_projection_given_requirements)]
 pub fn optimize_inputs(
-    cells: &[u64; 12288],
-    rows: &[u16],
-    nodes: &[u64; 1792],
-    fields: &[u16],
-    widths: &[u64; 512],
-    keys: &[u64; 2448],
+    plan: &Plan,
     settings: Settings,
     k: usize,
     job: Job,
-    arows: &mut [u16; 2048],
-    acells: &mut [u64; 12288],
-    brows: &mut [u16; 2048],
-    bcells: &mut [u64; 12288],
-    records: &mut [u64; 3328],
-    items: &mut [u16; 16896],
-    icells: &mut [u64; 12288],
+    a: &mut Scratch,
+    b: &mut Scratch,
+    out: &mut Rewriting,
     used: Used,
-) -> Inputs
-    requires { BeforeInputs cells.now rows.now nodes.now fields.now widths.now keys.now (results records.old items.old icells.old) k job used }
-    ensures { InputsAfter settings cells.now rows.now nodes.now fields.now widths.now keys.now (results records.old items.old icells.old) (results records.new items.new icells.new) k job used result }
+) -> Result<Inputs, Full>
+    requires { PlanBeforeInputs plan.now out.old k job used }
+    ensures { PlanInputsAfter settings plan.now out.old out.new k job used result }
 {
-    let todo = job.todo;
-    let ask = job.ask;
-    match todo {
-        Todo::Leaf => no_input(ask, used),
-        Todo::Nothing => no_input(ask, used),
-        Todo::Same => one_input(optimize_input(
-            cells,
-            rows,
-            nodes,
-            fields,
-            widths,
-            keys,
-            settings,
-            k + 1,
-            ask,
-            false,
-            arows,
-            acells,
-            brows,
-            bcells,
-            records,
-            items,
-            icells,
-            used,
-        )),
-        Todo::One { topped } => one_input(optimize_input(
-            cells,
-            rows,
-            nodes,
-            fields,
-            widths,
-            keys,
-            settings,
-            k + 1,
-            ask,
-            topped,
-            arows,
-            acells,
-            brows,
-            bcells,
-            records,
-            items,
-            icells,
-            used,
-        )),
+    match job.todo {
+        Todo::Leaf => Ok(no_input(job.ask, used)),
+        Todo::Nothing => Ok(no_input(job.ask, used)),
+        Todo::Same => {
+            let w = optimize_input(plan, settings, k + 1, job.ask, false, a, b, out, used)?;
+            Ok(one_input(w))
+        }
+        Todo::One { topped } => {
+            let w = optimize_input(plan, settings, k + 1, job.ask, topped, a, b, out, used)?;
+            Ok(one_input(w))
+        }
         Todo::Two { right } => {
-            let w = optimize_input(
-                cells,
-                rows,
-                nodes,
-                fields,
-                widths,
-                keys,
-                settings,
-                k + 1,
-                ask,
-                true,
-                arows,
-                acells,
-                brows,
-                bcells,
-                records,
-                items,
-                icells,
-                used,
-            );
-            let end = w.end;
-            let kept = w.kept;
-            let End::Done { record, used: more } = end else {
-                return Inputs {
-                    end: Ends::Large,
-                    kept,
-                };
-            };
-            let other = job.second;
-            let v = optimize_input(
-                cells, rows, nodes, fields, widths, keys, settings, right, other, true, arows,
-                acells, brows, bcells, records, items, icells, more,
-            );
-            two_inputs(record, kept, v)
+            let w = optimize_input(plan, settings, k + 1, job.ask, true, a, b, out, used)?;
+            let v = optimize_input(plan, settings, right, job.second, true, a, b, out, w.used)?;
+            Ok(Inputs {
+                first: w.root,
+                second: v.root,
+                used: v.used,
+                kept: w.kept,
+            })
         }
     }
 }
@@ -259,103 +159,64 @@ pub fn optimize_inputs(
 /// The pass over node `k`, an input that was asked for `ask`, topped up where that is wanted.
 #[cycle(merge_projections_optimize_input_optimize_inputs_optimize_projections_rewrite_projection_given_requirements)]
 pub fn optimize_input(
-    cells: &[u64; 12288],
-    rows: &[u16],
-    nodes: &[u64; 1792],
-    fields: &[u16],
-    widths: &[u64; 512],
-    keys: &[u64; 2448],
+    plan: &Plan,
     settings: Settings,
     k: usize,
     ask: RequiredIndices,
     topped: bool,
-    arows: &mut [u16; 2048],
-    acells: &mut [u64; 12288],
-    brows: &mut [u16; 2048],
-    bcells: &mut [u64; 12288],
-    records: &mut [u64; 3328],
-    items: &mut [u16; 16896],
-    icells: &mut [u64; 12288],
+    a: &mut Scratch,
+    b: &mut Scratch,
+    out: &mut Rewriting,
     used: Used,
-) -> Walked
-    requires { Before cells.now rows.now nodes.now fields.now widths.now keys.now (results records.old items.old icells.old) k ask used }
-    ensures { InputAfter settings cells.now rows.now nodes.now fields.now widths.now keys.now (results records.old items.old icells.old) (results records.new items.new icells.new) k ask topped used result }
+) -> Result<Walked, Full>
+    requires { PlanBefore plan.now out.old k ask used }
+    ensures { PlanInputAfter settings plan.now out.old out.new k ask topped used result }
 {
-    let w = optimize_projections(
-        cells, rows, nodes, fields, widths, keys, settings, k, ask, arows, acells, brows, bcells,
-        records, items, icells, used,
-    );
-    walk_steps::top_up(records, topped, k, ask, w)
+    let w = optimize_projections(plan, settings, k, ask, a, b, out, used)?;
+    walk_steps::top_up(out.records, topped, k, ask, w)
 }
 
 /// The pass over node `k` with a projection still to be put on top: merged with the next one as long as a step applies. Rust:
 /// `merge_consecutive_projections`.
 #[cycle(merge_projections_optimize_input_optimize_inputs_optimize_projections_rewrite_projection_given_requirements)]
 pub fn merge_projections(
-    cells: &[u64; 12288],
-    rows: &[u16],
-    nodes: &[u64; 1792],
-    fields: &[u16],
-    widths: &[u64; 512],
-    keys: &[u64; 2448],
+    plan: &Plan,
     settings: Settings,
     k: usize,
     list: Pending,
     request: RequiredIndices,
-    arows: &mut [u16; 2048],
-    acells: &mut [u64; 12288],
-    brows: &mut [u16; 2048],
-    bcells: &mut [u64; 12288],
-    records: &mut [u64; 3328],
-    items: &mut [u16; 16896],
-    icells: &mut [u64; 12288],
+    a: &mut Scratch,
+    b: &mut Scratch,
+    out: &mut Rewriting,
     used: Used,
-) -> Walked
-    requires { BeforeList cells.now rows.now nodes.now fields.now widths.now keys.now arows.old acells.old (results records.old items.old icells.old) k list request used }
-    ensures { ListAfter settings cells.now rows.now nodes.now fields.now widths.now keys.now arows.old acells.old (results records.old items.old icells.old) (results records.new items.new icells.new) k list request used result }
+) -> Result<Walked, Full>
+    requires { PlanBeforeList plan.now a.old out.old k list request used }
+    ensures { PlanListAfter settings plan.now a.old out.old out.new k list request used result }
 {
-    let node = tree::node_at(nodes, k);
-    let kind = jobs::kind_of(node);
-    let Kind::Projection { first, n } = kind else {
+    let Node::Projection { first, n } = tree::node_at(plan.nodes, k) else {
         return rewrite_projection_given_requirements(
-            cells, rows, nodes, fields, widths, keys, settings, k, list, request, arows, acells,
-            brows, bcells, records, items, icells, used,
+            plan, settings, k, list, request, a, b, out, used,
         );
     };
+    let arows = &*a.rows;
+    let acells = &*a.cells;
+    let brows = &mut *b.rows;
+    let bcells = &mut *b.cells;
     let step = walk_steps::merge_step(
         settings.house,
         settings.mask,
         list,
-        cells,
-        rows,
+        plan.cells,
+        plan.rows,
         arows,
         acells,
         first,
         n,
         brows,
         bcells,
-    );
+    )?;
     match step {
-        Step::Same => merge_projections(
-            cells,
-            rows,
-            nodes,
-            fields,
-            widths,
-            keys,
-            settings,
-            k + 1,
-            list,
-            request,
-            arows,
-            acells,
-            brows,
-            bcells,
-            records,
-            items,
-            icells,
-            used,
-        ),
+        Step::Same => merge_projections(plan, settings, k + 1, list, request, a, b, out, used),
         Step::Merged => {
             let merged = Pending {
                 top: list.top,
@@ -363,35 +224,11 @@ pub fn merge_projections(
                 n: list.n,
                 scratch: true,
             };
-            merge_projections(
-                cells,
-                rows,
-                nodes,
-                fields,
-                widths,
-                keys,
-                settings,
-                k + 1,
-                merged,
-                request,
-                brows,
-                bcells,
-                arows,
-                acells,
-                records,
-                items,
-                icells,
-                used,
-            )
+            merge_projections(plan, settings, k + 1, merged, request, b, a, out, used)
         }
         Step::Stop => rewrite_projection_given_requirements(
-            cells, rows, nodes, fields, widths, keys, settings, k, list, request, arows, acells,
-            brows, bcells, records, items, icells, used,
+            plan, settings, k, list, request, a, b, out, used,
         ),
-        Step::Large => Walked {
-            end: End::Large,
-            kept: request,
-        },
     }
 }
 
@@ -399,50 +236,53 @@ pub fn merge_projections(
 /// `rewrite_projection_given_requirements`.
 #[cycle(merge_projections_optimize_input_optimize_inputs_optimize_projections_rewrite_projection_given_requirements)]
 pub fn rewrite_projection_given_requirements(
-    cells: &[u64; 12288],
-    rows: &[u16],
-    nodes: &[u64; 1792],
-    fields: &[u16],
-    widths: &[u64; 512],
-    keys: &[u64; 2448],
+    plan: &Plan,
     settings: Settings,
     k: usize,
     list: Pending,
     request: RequiredIndices,
-    arows: &mut [u16; 2048],
-    acells: &mut [u64; 12288],
-    brows: &mut [u16; 2048],
-    bcells: &mut [u64; 12288],
-    records: &mut [u64; 3328],
-    items: &mut [u16; 16896],
-    icells: &mut [u64; 12288],
+    a: &mut Scratch,
+    b: &mut Scratch,
+    out: &mut Rewriting,
     used: Used,
-) -> Walked
-    requires { BeforeList cells.now rows.now nodes.now fields.now widths.now keys.now arows.old acells.old (results records.old items.old icells.old) k list request used }
-    ensures { PutAfter settings cells.now rows.now nodes.now fields.now widths.now keys.now arows.old acells.old (results records.old items.old icells.old) (results records.new items.new icells.new) k list request used result }
+) -> Result<Walked, Full>
+    requires { PlanBeforeList plan.now a.old out.old k list request used }
+    ensures { PlanPutAfter settings plan.now a.old out.old out.new k list request used result }
 {
-    let start = lookup::first_at(widths, k);
-    let width = lookup::width_at(widths, k);
-    let c = walk_steps::get_at_indices(
-        list, cells, rows, arows, acells, request, fields, start, width, items, icells, used,
-    );
-    let ask = c.ask;
-    let selection = c.list;
-    let more = c.used;
-    if c.large {
-        return Walked {
-            end: End::Large,
-            kept: request,
-        };
-    }
-    let w = optimize_projections(
-        cells, rows, nodes, fields, widths, keys, settings, k, ask, arows, acells, brows, bcells,
-        records, items, icells, more,
-    );
+    let start = lookup::first_at(plan.widths, k);
+    let width = lookup::width_at(plan.widths, k);
+    let arows = &*a.rows;
+    let acells = &*a.cells;
+    let items = &mut *out.items;
+    let icells = &mut *out.icells;
+    let chosen = walk_steps::get_at_indices(
+        list,
+        plan.cells,
+        plan.rows,
+        arows,
+        acells,
+        request,
+        plan.fields,
+        start,
+        width,
+        items,
+        icells,
+        used,
+    )?;
+    let w = optimize_projections(plan, settings, k, chosen.ask, a, b, out, chosen.used)?;
     let top = list.top;
-    let upper = lookup::first_at(widths, top);
-    let wide = lookup::width_at(widths, top);
+    let upper = lookup::first_at(plan.widths, top);
+    let wide = lookup::width_at(plan.widths, top);
     walk_steps::put_list(
-        records, selection, fields, top, upper, wide, request, start, width, w,
+        out.records,
+        chosen.list,
+        plan.fields,
+        top,
+        upper,
+        wide,
+        request,
+        start,
+        width,
+        w,
     )
 }

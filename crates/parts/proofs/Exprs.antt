@@ -8,6 +8,7 @@ use borrow.Author.Tests.{eq-eqb, ne_eqb}
 use lib.ListN.{length}
 use Rattle.cpl.specs.Accept.{each_passes, on_passes}
 use Rattle.cpl.specs.Exprs.{agg_exprs, call_exprs, definite, known, win_exprs}
+use Rattle.std.specs.Prelude.{Ok}
 use Rattle.cpl.specs.Plan.{Pair, Expr, item_expr, key_expr}
 use Rattle.cpl.specs.Tests.{all_b, concat_map}
 use Rattle.arena.specs.Cells.{expr_at}
@@ -15,9 +16,7 @@ use Rattle.arena.specs.Rows.{RowsOk, item_at, items_at}
 use Rattle.arena.proofs.Rows.{item_expr_lem}
 use Rattle.tree.specs.Rows.{EachOk, ExprOk, KeyOk, agg_at, call_of, exprs_at, key_at, key_of, keys_at, list_at, one, on_at, win_at}
 use Rattle.tree.specs.Shows.{AggIs, OnIs, WinIs}
-use Rattle.lookup.specs.Answers.{resolved_of, resolving, worse}
-use Rattle.lookup.specs.declared.Resolved.{Resolved}
-use Rattle.lookup.specs.declared.Resolved.TheVariants.{Fine}
+use Rattle.lookup.specs.Answers.{Resolved, resolved_of, resolving, worse}
 use Rattle.lookup.proofs.Lists.{list-map, list_same}
 use Rattle.lookup.proofs.Resolving.{all_seen, seen, worse-both}
 
@@ -89,7 +88,7 @@ module _ (fs : List Pair) where
   pub seen_concat : {A : Type 0} (E : A → List Expr) (xs : List A) → all_seen (λ x. each_passes (E x) fs) xs ≡ resolving (each_passes (concat_map E xs) fs)
   seen_concat E xs = ap₂ resolved_of (all_concat (known fs) E xs) (all_concat (definite fs) E xs)
 
-  pub call_none : (f : ℕ) (e : Expr) → f ≡ 0 → Fine ≡ resolving (each_passes (call_exprs (call_of f e)) fs)
+  pub call_none : (f : ℕ) (e : Expr) → f ≡ 0 → Ok tt ≡ resolving (each_passes (call_exprs (call_of f e)) fs)
   unfolding call_of call_exprs all_b
   call_none f e h = rw (eq-eqb f 0 h)
 

@@ -1,14 +1,18 @@
 -- Things that take several rows each, one after the other. Assumes nothing.
-use mathlib.Core.Path.{◌≡◌, sym, ap, ap₂, ◌∙◌, subst}
-use mathlib.Core.List.{List, [], ◌∷◌, ◌++◌}
+use mathlib.Core.Bool.{Bool, ◌&&◌}
+use mathlib.Core.Path.{◌≡◌, refl, sym, ap, ap₂, ◌∙◌, subst}
+use mathlib.Core.List.{List, [], ◌∷◌, ◌++◌, map}
 use Prim.Native.Nat.{ℕ, suc, ◌+◌, ◌-◌, ◌<◌, ◌≤◌}
 use native.Mathlib.Omega.{arith}
+use Rattle.std.specs.Prelude
+use Rattle.cpl.specs.Accept.{Test}
+use Rattle.cpl.specs.Exprs.{definite, known}
+use Rattle.cpl.specs.Tests.{all_b}
 use Rattle.cpl.specs.Plan.{Pair}
-use Rattle.tree.specs.Rows.{AllAt, list_at}
-use Rattle.lookup.specs.Answers.{resolving, worse}
+use Rattle.tree.specs.Rows.{AllAt, list_at, one}
+use Rattle.lookup.specs.Answers.{Resolved, resolved_of, resolving, worse}
 use Rattle.lookup.specs.Fields.{Filled, Kept, field_at, row_at}
-use Rattle.lookup.specs.declared.Resolved.{Resolved}
-use Rattle.lookup.specs.declared.Resolved.TheVariants.{Fine}
+use Rattle.lookup.proofs.Lists.{list-map, list-moved}
 use Rattle.lookup.proofs.Resolving.{Tests, all_seen, seen_next, seen_none, worse_assoc, worse-fine}
 use Rattle.lookup.proofs.Rows.{Filling, fill_all, fill_more, fill_none}
 
@@ -35,13 +39,22 @@ pub list-end : {A : Type 0} (read : ℕ → A) (size : ℕ → ℕ) (r n i : ℕ
 unfolding list_at
 list-end read size r n i h = let e : n - i ≡ 0 = omega arith in ap (list_at read size r) e
 
+-- things from thing `first` on, counted from 0
+pub list-from : {A : Type 0} (read : ℕ → A) (first n : ℕ) → list_at (λ i. read (first + i)) one 0 n ≡ list_at read one first n
+list-from read first n = list-moved (λ i. read (first + i)) read 0 first n (λ i h. let e : first + (0 + i) ≡ first + i = omega arith in ap read e)
+
+all-map : {A B : Type 0} (p : B → Bool) (g : A → B) (xs : List A) → all_b (λ x. p (g x)) xs ≡ all_b p (map g xs)
+unfolding all_b
+all-map p g [] = refl
+all-map p g (x ∷ xs) = ap (p (g x) &&◌) (all-map p g xs)
+
 -- x is what the first i things find; the next is at row r
 pub record Told {A : Type 0} (F : Tests A) (read : ℕ → A) (size : ℕ → ℕ) (f n r i : ℕ) (x : Resolved) : Type 0 where
   pub upto : i ≤ n
   pub same : worse x (all_seen F (list_at read size r (n - i))) ≡ all_seen F (list_at read size f n)
 
 module _ {A : Type 0} (F : Tests A) (read : ℕ → A) (size : ℕ → ℕ) (f n : ℕ) where
-  pub told_none : (r : ℕ) → r ≡ f → Told F read size f n r 0 Fine
+  pub told_none : (r : ℕ) → r ≡ f → Told F read size f n r 0 (Prelude.Ok tt)
   told_none r e = let d : n - 0 ≡ n = omega arith in record { upto = omega arith; same = ap₂ (λ a b. all_seen F (list_at read size a b)) e d }
 
   module _ (r i : ℕ) {x : Resolved} (t : Told F read size f n r i x) where
@@ -57,6 +70,16 @@ module _ {A : Type 0} (F : Tests A) (read : ℕ → A) (size : ℕ → ℕ) (f n
 
     pub told_all : n ≤ i → x ≡ all_seen F (list_at read size f n)
     told_all h = sym (ap (worse x) (ap (all_seen F) (list-end read size r n i h) ∙ seen_none F) ∙ worse-fine x) ∙ t.same
+
+-- what things from thing `first` on find, counted from 0
+pub seen-from : {A : Type 0} (F : Tests A) (read : ℕ → A) (first n : ℕ) → resolving (λ test. all_b (λ i. F (read (first + i)) test) (list_at (λ i. i) one 0 n)) ≡ all_seen F (list_at read one first n)
+seen-from F read first n =
+    ap₂ resolved_of (by known) (by definite)
+  where
+    by : (test : Test) → all_b (λ i. F (read (first + i)) test) (list_at (λ i. i) one 0 n) ≡ all_b (λ x. F x test) (list_at read one first n)
+    by test =
+        all-map (λ x. F x test) (λ i. read (first + i)) (list_at (λ i. i) one 0 n)
+        ∙ ap (all_b (λ x. F x test)) (list-map (λ i. read (first + i)) (λ i. i) one 0 n ∙ list-from read first n)
 
 -- the fields from field `to` on are filled, up to thing i
 pub record Strode (Ok : ℕ → Type 0) (read : ℕ → Pair) (size : ℕ → ℕ) (n to r i : ℕ) (fs : List Pair) (s s' : List ℕ) : Type 0 where

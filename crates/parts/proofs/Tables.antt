@@ -43,15 +43,6 @@ unfolding list_at iota
 iota-list g f zero = refl
 iota-list g f (suc n) = let e : f + 1 ≡ suc f = omega arith in ap (g f ∷◌) (ap (λ x. list_at g one x n) e ∙ iota-list g (suc f) n)
 
--- the field of a column whose name was read
-pub scan-first : (T : List ℕ) (q i : ℕ) {x : ℕ} → x ≡ get_or T i 0 → pair q x ≡ scan_field T q (0 + i)
-unfolding scan_field
-scan-first T q i h = let e : i ≡ 0 + i = omega arith in ap (pair q) (h ∙ ap (λ j. get_or T j 0) e)
-
-pub scan_read : (T : List ℕ) (q : ℕ) {x c j : ℕ} → x ≡ get_or T c 0 → c ≡ j → pair q x ≡ scan_field T q j
-unfolding scan_field
-scan_read T q h e = ap (pair q) (h ∙ ap (λ j. get_or T j 0) e)
-
 -- all columns of a table, name by name
 names_from : (g : ℕ → ℕ) (T : List ℕ) (f : ℕ) → ((i : ℕ) → i < length T → g (f + i) ≡ get_or T i 0) → (q : ℕ) → map (λ i. pair q (g i)) (iota f (length T)) ≡ map (pair q) T
 unfolding iota

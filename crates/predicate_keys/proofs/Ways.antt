@@ -28,12 +28,12 @@ use Rattle.join_keys.proofs.Promises.{keys_promise, left_promise}
 use Rattle.join_keys.proofs.Sets.{extracted-few, extracted-tags, keys_short, left_shorter}
 use Rattle.join_keys.proofs.Sets as sets
 use Rattle.join_key_set.specs.Pairs.{KeysIn, keys_at}
-use Rattle.join_key_set.specs.Answers.{Grown, Leaves, joints}
+use Rattle.join_key_set.specs.Answers.{Grown, LeavesNode, joints}
 use Rattle.join_key_set.specs.declared.JoinKeySet as code
-use Rattle.join_key_set.proofs.Pairs.{keys_length}
+use Rattle.join_key_set.proofs.Laws.{keys_length}
 use Rattle.join_key_set.proofs.Remove.{joint_tags}
-use Rattle.join_key_set.specs.declared.Left.{Left}
-use Rattle.join_key_set.specs.declared.Left.TheVariants.{Nothing, Node}
+use Rattle.std.specs.Prelude as std
+use Rattle.std.specs.Prelude.{Some, None}
 use Rattle.predicate_reader.specs.Arguments.{TookKeys, TookPredicate}
 use Rattle.answers.specs.Answers.{AnswerIs}
 use Rattle.answers.specs.declared.Answer.{Answer}
@@ -161,22 +161,22 @@ module _ {cells pairs : List ℕ} {node used n : ℕ} (d : Given cells node used
     left = remove_join_expressions (keys_at cells pairs' k.start k.size) (expr_at cells node)
 
     -- what is left can be written
-    pub left-ok : (l : Left) (more : ℕ) (cells' : List ℕ) → Leaves left cells used more l cells' → LeftOk cells' l
-    left-ok (Nothing a) more cells' v = tt
-    left-ok (Node i a) more cells' v =
+    pub left-ok : (l : std.Option ℕ) (a more : ℕ) (cells' : List ℕ) → LeavesNode left cells used more a l cells' → LeftOk cells' l
+    left-ok None a more cells' v = tt
+    left-ok (Some i) a more cells' v =
         let z : sets.Left (expr_at cells node) (some (expr_at cells' i)) = rw v.1.is at (left_shorter (keys_at cells pairs' k.start k.size) (expr_at cells node)) in (
           wf_less cells' (i + 1) a (omega (arith, v.0)) v.1.wf,
           record { bytes_fit = omega (arith, z.short, expr_short (expr_at cells node), d.few); tags_fit = omega (arith, z.tags, d.few) },
         )
 
-    left_is : (l : Left) (more : ℕ) (cells' : List ℕ) → Leaves left cells used more l cells' → left ≡ left_of cells' l
-    left_is (Nothing a) more cells' v = v.is
-    left_is (Node i a) more cells' v = v.1.is
+    left_is : (l : std.Option ℕ) (a more : ℕ) (cells' : List ℕ) → LeavesNode left cells used more a l cells' → left ≡ left_of cells' l
+    left_is None a more cells' v = v.is
+    left_is (Some i) a more cells' v = v.1.is
 
     set_is : insert_all (keys_at cells pairs 0 n) [] ≡ some (keys_at cells pairs' k.start k.size)
     set_is = rw (keys_none cells pairs) at (g.is ∙ ap (λ (j : ℕ). some (keys_at cells pairs' j k.size)) (sym g.starts))
 
-    pub left_out : {r : Answer} {out' : List ℕ} (out : List ℕ) (l : Left) (more : ℕ) (cells' : List ℕ) → Leaves left cells used more l cells' → AnswerIs (written (left_bytes (left_of cells' l)) out) r out'
+    pub left_out : {r : Answer} {out' : List ℕ} (out : List ℕ) (l : std.Option ℕ) (a more : ℕ) (cells' : List ℕ) → LeavesNode left cells used more a l cells' → AnswerIs (written (left_bytes (left_of cells' l)) out) r out'
         → AnswerIs (without (keys_at cells pairs 0 n) (expr_at cells node) out) r out'
     unfolding without answered
-    left_out out l more cells' v h = rw set_is (rw (← left_is l more cells' v) at h)
+    left_out out l a more cells' v h = rw set_is (rw (← left_is l a more cells' v) at h)

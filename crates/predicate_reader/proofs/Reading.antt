@@ -5,18 +5,16 @@ use mathlib.Core.List.{List, [], ◌∷◌}
 use Prim.Native.Nat.{ℕ, suc, ◌+◌, ◌*◌, ◌<◌, ◌≤◌}
 use native.Mathlib.Decide.{ℕ_discrete}
 use native.Mathlib.Omega.{arith}
-use borrow.Author.Tests.{eq-eqb, ne_eqb}
 use lib.Dec.{eqb}
 use lib.ListN.{length, get_or, set}
 use lib.Seq.{get_or-set_other, length-sets, sets}
 use Rattle.cpl.specs.AreBytes.{AreBytes}
-use Rattle.cpl.specs.Codes.{TAIL}
 use Rattle.cpl.specs.Exprs.{expr_tags}
 use Rattle.cpl.specs.Limits.{max_tags}
 use Rattle.cpl.specs.Lists.{a[], ◌a∷◌}
 use Rattle.cpl.specs.Plan.{On, on}
 use Rattle.cpl.specs.Read.{Reader, any, bad, counted, ok, pick}
-use Rattle.cpl.specs.ReadExpr.{read_expr, read_on}
+use Rattle.cpl.specs.ReadExpr.{expr_to, read_expr, read_on}
 use Rattle.cpl.specs.ReadPlan.{read_end}
 use Rattle.cpl.specs.Writable.{FitList}
 use Rattle.cpl.proofs.ExprTrip.{expr_codec}
@@ -32,8 +30,10 @@ use Rattle.tree.proofs.Held.{Held, held-left, held-right, held-sets, moved}
 use Rattle.tree.proofs.Lists.{all-cells-long, all-rows-long, one_each}
 use Rattle.tree.proofs.Stores.{on-sized, ons_back, row}
 use Rattle.reader_fields.specs.Answers.{Reads, Right, bare_store, spot}
-use Rattle.reader_fields.specs.declared.Parsed.{Parsed}
-use Rattle.reader_fields.specs.declared.Parsed.TheVariants.{Done, Bad}
+use Rattle.std.specs.Prelude.{Result, Ok, Err}
+use Rattle.refusals.specs.Codes.{code_of}
+use Rattle.refusals.specs.declared.Reason.TheVariants.{Tail}
+use Rattle.refusals.specs.declared.Refusal.{Refusal}
 use Rattle.reader_fields.specs.declared.Spot.{Spot}
 use Rattle.reader_fields.proofs.Sets.{right_as}
 use Rattle.reader_parts.specs.Parts.{RightAt}
@@ -58,37 +58,26 @@ kept_sets xs s at = record { same = λ k h. before xs s at k h; long = length-se
 
 -- ── the end ─────────────────────────────────────────────────────────────────────────────────
 
-module _ {A : Type 0} (s : Store A) (p : Reader A) (bytes : List ℕ) (from : Spot) (c c' w w' : List ℕ) where
-  whole-right : (r : Parsed) → Right s from c c' w w' 0 (p bytes 0 0 0) r → Right s from c c' w w' 0 (whole p bytes 0 0 0) (all_of (length bytes) r)
-  unfolding whole read_end all_of
-  whole-right (Bad code place) h = rw h
-  whole-right (Done t) h = go (eqb t.at (length bytes)) refl
-    where
-      go : (b : Bool) → eqb t.at (length bytes) ≡ b → Right s from c c' w w' 0 (whole p bytes 0 0 0) (pick b (Done t) (Bad TAIL t.at))
-      go true e = right_as s from from c c' w w' 0 (Done t) refl refl (omega arith) (rw (h.is, e)) h
-      go false e = rw (h.is, e)
+whole-bad : {A : Type 0} (p : Reader A) (bytes : List ℕ) {code place : ℕ} → p bytes 0 0 0 ≡ bad code place → whole p bytes 0 0 0 ≡ bad code place
+unfolding whole read_end
+whole-bad p bytes h = rw h
 
--- the three ways to the end
-pub all-bad : (size : ℕ) {r : Parsed} {code place : ℕ} → r ≡ Bad code place → r ≡ all_of size r
-unfolding all_of
-all-bad size e = rw e
-
-module _ (size : ℕ) {r : Parsed} {s : Spot} (e : r ≡ Done s) where
-  pub all_tail : (s.at ≡ size → ⊥) → Bad TAIL s.at ≡ all_of size r
-  unfolding all_of
-  all_tail h = rw (e, ne_eqb s.at size h)
-
-  pub all_end : s.at ≡ size → Done s ≡ all_of size r
-  unfolding all_of
-  all_end h = rw (e, eq-eqb s.at size h)
+whole-right : {A : Type 0} (s : Store A) (p : Reader A) (bytes : List ℕ) (from : Spot) (c c' w w' : List ℕ) (t : Spot)
+    → Right s from c c' w w' 0 (p bytes 0 0 0) (Ok t) → Right s from c c' w w' 0 (whole p bytes 0 0 0) (all_of (length bytes) t)
+unfolding whole read_end all_of
+whole-right s p bytes from c c' w w' t h = go (eqb t.at (length bytes)) refl
+  where
+    go : (b : Bool) → eqb t.at (length bytes) ≡ b → Right s from c c' w w' 0 (whole p bytes 0 0 0) (pick b (Ok t) (Err (record { reason = Tail; place = t.at })))
+    go true e = right_as s from from c c' w w' 0 (Ok t) refl refl (omega arith) (rw (h.is, e)) h
+    go false e = rw (h.is, e)
 
 -- ── a predicate ─────────────────────────────────────────────────────────────────────────────
 
 module _ (bytes cells cells' : List ℕ) (b : AreBytes bytes) (l : 12288 ≤ length cells) where
-  predicate_took : (r : Parsed) → Right bare_store (spot 0 0 0 0) cells cells' [] [] 0 (read_predicate bytes) r → PredicateIs bytes cells' r
+  predicate_took : (r : Result Spot Refusal) → Right bare_store (spot 0 0 0 0) cells cells' [] [] 0 (read_predicate bytes) r → PredicateIs bytes cells' r
   unfolding root_of
-  predicate_took (Bad code place) x = x
-  predicate_took (Done t) x =
+  predicate_took (Err e) x = x
+  predicate_took (Ok t) x =
       let s = whole_read expr_codec bytes b x.value t.at t.tags 0 x.is in
       let few : expr_tags x.value ≤ max_tags = s.few in
       let h : Held cells' 0 (expr_cells 0 x.value) = rw x.cells_are (held-sets cells 0 (expr_cells 0 x.value) (omega (arith, cells_long 0 x.value))) in
@@ -103,9 +92,12 @@ module _ (bytes cells cells' : List ℕ) (b : AreBytes bytes) (l : 12288 ≤ len
         wf = subst (Wf cells') (omega (arith, x.made_is)) v.wf;
       }
 
-  pub predicate_read : (r : Parsed) → Reads bytes (spot 0 0 0 0) cells cells' r → PredicateIs bytes cells' (all_of (length bytes) r)
-  predicate_read r h =
-      predicate_took (all_of (length bytes) r) (whole-right bare_store read_expr bytes (spot 0 0 0 0) cells cells' [] [] r (h (suc max_tags) (omega arith) 0))
+  pub predicate_read : (t : Spot) → Reads bytes (spot 0 0 0 0) cells cells' (Ok t) → PredicateIs bytes cells' (all_of (length bytes) t)
+  predicate_read t h =
+      predicate_took (all_of (length bytes) t) (whole-right bare_store read_expr bytes (spot 0 0 0 0) cells cells' [] [] t (h (suc max_tags) (omega arith) 0))
+
+pub predicate_bad : (bytes : List ℕ) {code place : ℕ} → ((deep : ℕ) → max_tags < 0 + deep → (n : ℕ) → expr_to deep bytes 0 0 n ≡ bad code place) → read_predicate bytes ≡ bad code place
+predicate_bad bytes h = whole-bad read_expr bytes (h (suc max_tags) (omega arith) 0)
 
 -- ── keys ────────────────────────────────────────────────────────────────────────────────────
 
@@ -136,15 +128,15 @@ pub record Listed (bytes : List ℕ) (made : ℕ) (cells cells' rows' : List ℕ
   pub few : t.made ≤ made + max_tags
   pub wf : Wf cells' t.made
 
-abbrev pub ListedAs : (bytes : List ℕ) (made : ℕ) (cells cells' rows' : List ℕ) → Parsed → Type 0
-ListedAs bytes made cells cells' rows' (Done t) = Listed bytes made cells cells' rows' t
-ListedAs bytes made cells cells' rows' (Bad code place) = read_keys bytes ≡ bad code place
+abbrev pub ListedAs : (bytes : List ℕ) (made : ℕ) (cells cells' rows' : List ℕ) → Result Spot Refusal → Type 0
+ListedAs bytes made cells cells' rows' (Ok t) = Listed bytes made cells cells' rows' t
+ListedAs bytes made cells cells' rows' (Err e) = read_keys bytes ≡ bad (code_of e.reason) e.place
 
 module _ (bytes : List ℕ) (made : ℕ) (cells cells' rows rows' : List ℕ) (b : AreBytes bytes) (w : Wf cells made) (l : 3 * made + 12288 ≤ length cells) (m : 1020 ≤ length rows) where
-  keys-took : (r : Parsed) → Right (list_store on_store) (spot 0 0 made 0) cells cells' rows rows' 0 (read_keys bytes) r → ListedAs bytes made cells cells' rows' r
+  keys-took : (r : Result Spot Refusal) → Right (list_store on_store) (spot 0 0 made 0) cells cells' rows rows' 0 (read_keys bytes) r → ListedAs bytes made cells cells' rows' r
   unfolding FitList
-  keys-took (Bad code place) x = x
-  keys-took (Done t) x =
+  keys-took (Err e) x = x
+  keys-took (Ok t) x =
       let os : List On = x.value in
       let s = whole_read keys_codec bytes b os t.at t.tags 0 x.is in
       let count : t.row ≡ length os = omega (arith, x.row_is, one_each on_store on-sized (λ o. refl) os) in
@@ -169,20 +161,16 @@ module _ (bytes : List ℕ) (made : ℕ) (cells cells' rows rows' : List ℕ) (b
         wf = subst (Wf cells') top v.0.wf;
       }
 
-  keys-listed : (r : Parsed) → RightAt (list_store on_store) (counted 1 any 255 read_on) bytes (spot 0 0 made 0) 0 cells cells' rows rows' r → ListedAs bytes made cells cells' rows' (all_of (length bytes) r)
-  keys-listed r h =
-      keys-took (all_of (length bytes) r) (whole-right (list_store on_store) (counted 1 any 255 read_on) bytes (spot 0 0 made 0) cells cells' rows rows' r (h 0))
+  pub keys_listed : (t : Spot) → RightAt (list_store on_store) (counted 1 any 255 read_on) bytes (spot 0 0 made 0) 0 cells cells' rows rows' (Ok t) → ListedAs bytes made cells cells' rows' (all_of (length bytes) t)
+  keys_listed t h =
+      keys-took (all_of (length bytes) t) (whole-right (list_store on_store) (counted 1 any 255 read_on) bytes (spot 0 0 made 0) cells cells' rows rows' t (h 0))
 
-  module _ (list : Parsed) {r : Parsed} (h : RightAt (list_store on_store) (counted 1 any 255 read_on) bytes (spot 0 0 made 0) 0 cells cells' rows rows' list) (e : r ≡ all_of (length bytes) list) where
-    pub keys-bad : {code place : ℕ} → r ≡ Bad code place → read_keys bytes ≡ bad code place
-    keys-bad d = rw (sym e ∙ d) at (keys-listed list h)
-
-    pub keys-done : {t : Spot} → r ≡ Done t → Listed bytes made cells cells' rows' t
-    keys-done d = rw (sym e ∙ d) at (keys-listed list h)
+pub keys_bad : (bytes : List ℕ) {code place : ℕ} → ((n : ℕ) → counted 1 any 255 read_on bytes 0 0 n ≡ bad code place) → read_keys bytes ≡ bad code place
+keys_bad bytes h = whole-bad (counted 1 any 255 read_on) bytes (h 0)
 
 -- the same keys, as pairs
 pub keys_read : {bytes : List ℕ} {made : ℕ} {cells cells' rows' pairs' : List ℕ} {t : Spot} → Listed bytes made cells cells' rows' t → 510 ≤ length pairs' → SameKeys t.row rows' pairs'
-    → KeysAre bytes made cells cells' pairs' (Done t)
+    → KeysAre bytes made cells cells' pairs' (Ok t)
 keys_read {cells' = cells'} {t = t} x l s = record {
   keys = x.keys;
   next = t.at;

@@ -3,7 +3,7 @@ use mathlib.Core.Path.{◌≡◌, refl, sym, ap, ◌∙◌}
 use mathlib.Core.Bool.{true}
 use mathlib.Core.List.{List, ◌++◌}
 use mathlib.Core.Option.{none, some}
-use Prim.Native.Nat.{ℕ, ◌+◌, ◌*◌, ◌-◌, ◌≤◌}
+use Prim.Native.Nat.{ℕ, ◌+◌, ◌*◌, ◌-◌, ◌<◌, ◌≤◌}
 use native.Mathlib.Omega.{arith}
 use lib.ListN.{drop, length, length-append, take}
 use Rattle.cpl.specs.Bytes.{bytes, cond_bytes, expr_bytes, on_bytes, pair_bytes}
@@ -15,7 +15,7 @@ use Rattle.rules.specs.Answer.{written}
 use Rattle.arena.specs.Cells.{Wf}
 use Rattle.tree.specs.Rows.{on_at}
 use Rattle.writer_parts.specs.Wrote.{Countable, Laid, Wrote, over}
-use Rattle.writer_parts.specs.Lists.{PartsOk, Which, counted_list, list_tags}
+use Rattle.writer_parts.specs.Lists.{Which, counted_list, list_tags}
 use Rattle.writer_parts.specs.declared.Part.TheVariants as part
 use Rattle.writer_parts.proofs.Lists.{after-count, all-row-tags, counted-all-rows}
 use Rattle.writer_parts.proofs.Exprs.{byte}
@@ -23,15 +23,22 @@ use Rattle.writer_parts.proofs.Over.{length-bytes, so, start, then}
 use Rattle.join_keys.specs.Entries.{keys_bytes}
 use Rattle.join_key_set.specs.Pairs.{KeysIn, KeysOk, keys_at, left_at, right_at}
 use Rattle.key_rows.specs.Rows.{SameKeys}
-use Rattle.key_rows.proofs.Rows.{rows_ok, same-list}
-use Rattle.answers.specs.Answers.{AnswerIs}
-use Rattle.answers.specs.declared.Answer.{Answer}
+use Rattle.key_rows.proofs.Rows.{same-list}
+use Rattle.std.specs.Prelude.{Ok, Err}
+use Rattle.refusals.specs.Codes.{code_of}
+use Rattle.refusals.specs.declared.Reason.TheVariants.{Room}
+use Rattle.refusals.specs.declared.Refusal.{Refusal}
+use Rattle.answers.specs.Answers.{Delivers}
 use Rattle.answers.proofs.Ends as ends
 
 -- "success is code 0 with the bytes written and place 0"
-pub written_out : {r : Answer} {n : ℕ} {out' : List ℕ} (bs out : List ℕ) → n ≤ length out → Wrote bs out n out' → r.code ≡ 0 → r.length ≡ n → r.place ≡ 0 → AnswerIs (written bs out) r out'
+pub written_out : {n : ℕ} {out' : List ℕ} (bs out : List ℕ) → n ≤ length out → Wrote bs out n out' → Delivers (written bs out) (Ok n) out'
 unfolding over
-written_out bs out l w c d p = ends.written_out bs out (omega (arith, w.long)) (c, d ∙ w.long, p) w.ends
+written_out bs out l w = ends.written_out bs out (omega (arith, w.long)) (refl, w.long, refl) w.ends
+
+-- "ROOM: output shorter than the result; length needed"
+pub no_room : {e : Refusal} {n : ℕ} (bs out : List ℕ) → n ≡ length bs → length out < n → (e.reason ≡ Room) × (e.place ≡ n) → Delivers (written bs out) (Err e) out
+no_room bs out l h e = ends.no_room bs out l h (ap code_of e.0, refl, e.1)
 
 -- ── how long ────────────────────────────────────────────────────────────────────────────────
 
@@ -64,9 +71,6 @@ module _ {n : ℕ} {rows pairs : List ℕ} (cells : List ℕ) (w : Which) (a : w
 
   pub rows_countable : Countable (length (keys_bytes (keys_at cells pairs 0 n))) (sum_of on_tags (keys_at cells pairs 0 n)) → Countable (length (counted_list 1 part.On rows cells 0 n w)) (list_tags part.On rows cells 0 n w)
   rows_countable c = record { bytes_fit = omega (arith, c.bytes_fit, ap length rows-bytes); tags_fit = omega (arith, c.tags_fit, rows-tags) }
-
-  pub rows-fine : n ≤ 64 → n * 4 ≤ length rows → KeysOk cells pairs 0 n → PartsOk part.On rows cells 0 n
-  rows-fine l h o = let e = rows_ok cells s h o in record { fits = omega arith; each = λ k b. e.each (0 + k) (omega arith) (omega arith) }
 
 -- ── what is left ────────────────────────────────────────────────────────────────────────────
 

@@ -8,8 +8,7 @@ use lib.ListN.{length}
 use Rattle.rules.specs.Mask.{Mask, select}
 use Rattle.required_indices.specs.Request.{Asks, IsNext, flag_of, request_mask, set_of}
 use Rattle.required_indices.specs.declared.RequiredIndices.{RequiredIndices}
-use Rattle.required_indices.specs.declared.Next.{Next}
-use Rattle.required_indices.specs.declared.Next.TheVariants.{At, Nothing}
+use Rattle.std.proofs.Common.{Option, Some, None}
 use Rattle.required_indices.proofs.Masks.{mask-length}
 use Rattle.required_indices.proofs.Methods.{asks}
 use Rattle.required_indices.proofs.Walk.{indices_at, indices_from, next-below, next-end, next_ge, next-step}
@@ -47,15 +46,15 @@ module _ {A : Type 0} (read : ℕ → A) (f : ℕ) where
     pub chosen_none : chosen 0 (request_mask n r) ≡ select (request_mask n r) (list_at read one f n)
     chosen_none = chosen-all n (request_mask n r) (mask-length n (set_of r))
 
-    module _ (from : ℕ) (out : Next) (g : IsNext (set_of r) from out) where
-      pub chosen-next : (i : ℕ) → out ≡ At i → chosen from (request_mask n r) ≡ read (f + i) ∷ chosen (i + 1) (request_mask n r)
+    module _ (from : ℕ) (out : Option ℕ) (g : IsNext (set_of r) from out) where
+      pub chosen-next : (i : ℕ) → out ≡ Some i → chosen from (request_mask n r) ≡ read (f + i) ∷ chosen (i + 1) (request_mask n r)
       chosen-next i e = ap (map (λ j. read (f + j))) (next-step (own-asks n r h) from out g i e)
 
-      pub chosen-end : out ≡ Nothing → chosen from (request_mask n r) ≡ []
+      pub chosen-end : out ≡ None → chosen from (request_mask n r) ≡ []
       chosen-end e = ap (map (λ j. read (f + j))) (next-end (own-asks n r h) from out g e)
 
 -- an index that was found is among the n, at or above `from`
-pub found : (n s : ℕ) → s < 2 ^ n → (from : ℕ) (out : Next) → IsNext s from out → (i : ℕ) → out ≡ At i → (from ≤ i) × (i < n)
+pub found : (n s : ℕ) → s < 2 ^ n → (from : ℕ) (out : Option ℕ) → IsNext s from out → (i : ℕ) → out ≡ Some i → (from ≤ i) × (i < n)
 found n s h from out g i e = (next_ge s from out g i e, next-below s from out g i e n h)
 
 -- the items that a request keeps

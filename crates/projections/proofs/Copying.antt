@@ -9,9 +9,7 @@ use Rattle.cpl.specs.Plan.{Item, item_expr}
 use Rattle.cpl.specs.Tests.{sum_of}
 use Rattle.required_indices.specs.Request.{IsNext, request_mask, set_of}
 use Rattle.required_indices.specs.declared.RequiredIndices.{RequiredIndices}
-use Rattle.required_indices.specs.declared.Next.{Next}
-use Rattle.required_indices.specs.declared.Next.TheVariants.{At, Nothing}
-use Rattle.arena.specs.Cells.{Wf}
+use Rattle.std.proofs.Common.{Option, Some, None}
 use Rattle.arena.specs.Rows.{item_at}
 use Rattle.arena.proofs.Kept.{kept_trans}
 use Rattle.arena.proofs.Laws.{wf-fits}
@@ -50,14 +48,8 @@ module _ (items cells : List ℕ) (first count : ℕ) (kept : RequiredIndices) (
     pub copying_room : (row + n) * 4 + 3 < length rows'
     copying_room = omega (arith, p.behind, wf-fits dst' more p.listing.wf, o.rows_fit, p.listing.kept.long, p.listing.rows_kept.long)
 
-    pub copying_few : row + n ≤ 65536
-    copying_few = omega (arith, p.behind, wf-fits dst' more p.listing.wf, o.few, p.listing.kept.long)
-
-    pub copying_dst : (length dst' ≤ 196608) × Wf dst' more
-    copying_dst = (omega (arith, o.few, p.listing.kept.long), p.listing.wf)
-
-    module _ (out : Next) (g : IsNext (set_of kept) from out) where
-      pub copying_all : out ≡ Nothing → Copies (kept_items items cells first count kept) row n rows dst used more rows' dst'
+    module _ (out : Option ℕ) (g : IsNext (set_of kept) from out) where
+      pub copying_all : out ≡ None → Copies (kept_items items cells first count kept) row n rows dst used more rows' dst'
       copying_all e =
           let all : p.done ≡ kept_items items cells first count kept =
           sym (append-nil p.done) ∙ sym (ap (p.done ++◌) (chosen-end (item_at items cells) first count kept h from out g e)) ∙ p.left in
@@ -67,7 +59,7 @@ module _ (items cells : List ℕ) (first count : ℕ) (kept : RequiredIndices) (
             behind = p.behind;
           }
 
-      module _ (i : ℕ) (e : out ≡ At i) where
+      module _ (i : ℕ) (e : out ≡ Some i) where
         abbrev it : Item
         it = item_at items cells (first + i)
 

@@ -38,7 +38,8 @@ use Rattle.projections.specs.Lists.{Copies, is_bare, kept_fields, kept_items, sa
 use Rattle.projections.specs.Tops.{TopAnswer, AsColumns, Held, Narrowed, ProjectionPut, PutIs, ToppedUp}
 use Rattle.projections.specs.declared.Selection.TheVariants as selection
 use Rattle.projections.specs.declared.Topped.{Topped}
-use Rattle.projections.specs.declared.Topped.TheVariants.{Done, Full}
+use Rattle.arena.specs.declared.Full.{Full}
+use Rattle.std.proofs.Common.{Result, Ok, Err}
 
 -- ── items ───────────────────────────────────────────────────────────────────────────────────
 
@@ -105,7 +106,7 @@ asks-within {r} a f = subst (λ (x : ℕ). set_of r < 2 ^ x) (Fit-length f) a.wi
 module _ {C : Catalogue} {a : Arrays} {count : ℕ} {s items cells : List ℕ} {used m n : ℕ} (w : WfResults C a count (results s items cells) used m n) where
   -- nothing is put
   stays : {rec : ℕ} {p : Plan} → rec < used → p ≡ result_at C a (results s items cells) rec
-      → TopAnswer C a count (results s items cells) (results s items cells) used m n p (result_at C a (results s items cells) rec) (Done rec used)
+      → TopAnswer C a count (results s items cells) (results s items cells) used m n p (result_at C a (results s items cells) rec) (Ok (record { «record» = rec; used = used }))
   stays h e = record {
     result = sym e;
     below = h;
@@ -117,8 +118,8 @@ module _ {C : Catalogue} {a : Arrays} {count : ℕ} {s items cells : List ℕ} {
   -- a record is put over what stood for p'
   puts : (x : Record) (set : ℕ) (p p' : Plan) (s' : List ℕ) → max_nodes * record_n ≤ length s → RecordOk C a count (results s items cells) m n used set x
       → stands_for C a (results s items cells) set x (result_at C a (results s items cells) (first_of x)) (result_at C a (results s items cells) (second_of x)) ≡ p
-      → plan_nodes p ≡ suc (plan_nodes p') → (t : Topped) → PutIs s s' used x set t → TopAnswer C a count (results s items cells) (results s' items cells) used m n p p' t
-  puts x set p p' s' room ok e z (Done i more) d =
+      → plan_nodes p ≡ suc (plan_nodes p') → (t : Result Topped Full) → PutIs s s' used x set t → TopAnswer C a count (results s items cells) (results s' items cells) used m n p p' t
+  puts x set p p' s' room ok e z (Ok t) d =
       let here : used * record_n + record_n ≤ length s = omega (arith, room, d.2) in
       record {
         result = ap (result_at C a (results s' items cells)) d.0 ∙ pushed_result w here d.3 ok ∙ e;
@@ -127,7 +128,7 @@ module _ {C : Catalogue} {a : Arrays} {count : ℕ} {s items cells : List ℕ} {
         grown = pushed_grown w here d.3 ok;
         nodes = omega (arith, d.1, z);
       }
-  puts x set p p' s' room ok e z Full d = record { same = ap (λ (y : List ℕ). results y items cells) d.1; tight = omega (arith, d.0, z) }
+  puts x set p p' s' room ok e z (Err full) d = record { same = ap (λ (y : List ℕ). results y items cells) d.1; tight = omega (arith, d.0, z) }
 
 -- ── top-up ──────────────────────────────────────────────────────────────────────────────────
 
@@ -136,7 +137,7 @@ module _ {C : Catalogue} {a : Arrays} {count : ℕ} {r : Results} {used m n rec 
   long b = ap length w.fields ∙ length-select w.fits ∙ sym (len_mask b)
 
 module _ {s : List ℕ} {used rec k : ℕ} {asked kept : RequiredIndices} where
-  pub topped_put : {s' : List ℕ} (t : Topped) → max_nodes * record_n ≤ length s → ones (set_of asked) < ones (set_of kept) → PutIs s s' used (Columns k rec) (set_of asked) t → ToppedUp s s' used rec k asked kept t
+  pub topped_put : {s' : List ℕ} (t : Result Topped Full) → max_nodes * record_n ≤ length s → ones (set_of asked) < ones (set_of kept) → PutIs s s' used (Columns k rec) (set_of asked) t → ToppedUp s s' used rec k asked kept t
   unfolding plan_nodes
   topped_put {s'} t room l d = record {
     covers = λ C a count items cells m n K Q w b c f.
@@ -146,7 +147,7 @@ module _ {s : List ℕ} {used rec k : ℕ} {asked kept : RequiredIndices} where
         puts w.wf (Columns k rec) (set_of asked) _ p s' room (record { node = w.node; input = w.below; within = asks-within c f }) (columns_are fs p c f ∙ sym e) (ap plan_nodes e) t d;
   }
 
-  pub topped_stays : ones (set_of kept) ≤ ones (set_of asked) → ToppedUp s s used rec k asked kept (Done rec used)
+  pub topped_stays : ones (set_of kept) ≤ ones (set_of asked) → ToppedUp s s used rec k asked kept (Ok (record { «record» = rec; used = used }))
   topped_stays l = record {
     covers = λ C a count items cells m n K Q w b c f. stays w.wf w.below (topped_no C _ _ Q (omega (arith, l, long w b, len_mask c)));
   }
@@ -174,12 +175,12 @@ module _ {C : Catalogue} {a : Arrays} {count : ℕ} {fields : List ℕ} {top sta
       ∙ ap₂ same_b (pairs_are ∙ sym (fields-kept fields start width x.row c fit-top)) (w.fields ∙ sym (fields-kept fields lower below x.input_row b w.fits))
 
 module _ {s : List ℕ} {used rec : ℕ} {fields : List ℕ} {top start width : ℕ} {kept : RequiredIndices} {lower below : ℕ} {input : RequiredIndices} where
-  pub columns_stay : true ≡ same_b (kept_fields fields start width kept) (kept_fields fields lower below input) → ProjectionPut s s used rec selection.Columns fields top start width kept lower below input (Done rec used)
+  pub columns_stay : true ≡ same_b (kept_fields fields start width kept) (kept_fields fields lower below input) → ProjectionPut s s used rec selection.Columns fields top start width kept lower below input (Ok (record { «record» = rec; used = used }))
   columns_stay e = record {
     covers = λ C a count items cells m n k K R is w b c f x. stays w.wf w.below (over_no C _ (select R is) (same_test x f w b c ∙ sym e));
   }
 
-  module _ {s' : List ℕ} (t : Topped) (room : max_nodes * record_n ≤ length s) where
+  module _ {s' : List ℕ} (t : Result Topped Full) (room : max_nodes * record_n ≤ length s) where
     pub columns_put : false ≡ same_b (kept_fields fields start width kept) (kept_fields fields lower below input) → PutIs s s' used (Columns top rec) (set_of kept) t
         → ProjectionPut s s' used rec selection.Columns fields top start width kept lower below input t
     unfolding plan_nodes

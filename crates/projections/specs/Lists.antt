@@ -1,16 +1,17 @@
 -- Kept items and kept fields: tests of them, and what copying items answers.
-use Rattle.std.specs.Prelude.{◌≡◌, Bool, true, false, ◌&&◌, List, [], ◌∷◌, ℕ, ◌+◌, ◌*◌, ◌/◌, ◌^◌, ◌<◌, ◌≤◌, length}
-use Rattle.cpl.specs.Plan.{Pair, eq_p, Item, bare, named}
+use Rattle.std.specs.Prelude.{◌≡◌, Bool, true, false, ◌&&◌, List, [], ◌∷◌, Result, Ok, Err, ℕ, ◌+◌, ◌*◌, ◌/◌, ◌^◌, ◌<◌, ◌≤◌, length}
 use Rattle.cpl.specs.Tests.{all_b}
+use Rattle.cpl.specs.Plan.{Pair, eq_p, Item, bare, named}
 use Rattle.rules.specs.Mask.{select}
 use Rattle.required_indices.specs.Request.{request_mask, set_of}
 use Rattle.required_indices.specs.declared.RequiredIndices.{RequiredIndices}
 use Rattle.arena.specs.Cells.{Wf}
+use Rattle.arena.specs.declared.Full.{Full}
 use Rattle.arena.specs.Rows.{items_at}
+use Rattle.arena.specs.declared.Items.{Items}
 use Rattle.arena_build.specs.Lists.{Listing, ListRefused}
 use Rattle.lookup.specs.Fields.{RowIn, row_at}
 use Rattle.projections.specs.declared.Copied.{Copied}
-use Rattle.projections.specs.declared.Copied.TheVariants.{Done, Full}
 
 -- ── tests ───────────────────────────────────────────────────────────────────────────────────
 
@@ -28,6 +29,9 @@ same_b (f ∷ fs) (g ∷ gs) = eq_p f g && same_b fs gs
 -- the kept items of a list, and the kept fields of a row
 abbrev pub kept_items : (items cells : List ℕ) (first count : ℕ) → RequiredIndices → List Item
 kept_items s cells f n r = select (request_mask n r) (items_at s cells f n)
+
+abbrev pub kept_of : Items → RequiredIndices → List Item
+kept_of l r = kept_items l.rows.now l.cells.now l.first l.count r
 
 abbrev pub kept_fields : (fields : List ℕ) (start width : ℕ) → RequiredIndices → List Pair
 kept_fields s f w r = select (request_mask w r) (row_at s f w)
@@ -57,6 +61,6 @@ pub record Copies (js : List Item) (row n : ℕ) (rows cells : List ℕ) (used m
   pub long : n ≡ length js
   pub behind : row + n ≤ more
 
-abbrev pub CopyAnswer : List Item → ℕ → (rows cells : List ℕ) → ℕ → Copied → (rows' cells' : List ℕ) → Type 0
-CopyAnswer js row rows cells used (Done n more) rows' cells' = Copies js row n rows cells used more rows' cells'
-CopyAnswer js row rows cells used Full rows' cells' = ListRefused js row rows cells used rows' cells'
+abbrev pub CopyAnswer : List Item → ℕ → (rows cells : List ℕ) → ℕ → Result Copied Full → (rows' cells' : List ℕ) → Type 0
+CopyAnswer js row rows cells used (Ok c) rows' cells' = Copies js row c.rows rows cells used c.used rows' cells'
+CopyAnswer js row rows cells used (Err full) rows' cells' = ListRefused js row rows cells used rows' cells'

@@ -1,5 +1,5 @@
 -- What putting a projection on top of a rewritten plan answers.
-use Rattle.std.specs.Prelude.{◌≡◌, true, false, List, map, ℕ, ◌+◌, ◌<◌, ◌≤◌}
+use Rattle.std.specs.Prelude.{◌≡◌, true, false, List, map, Result, Ok, Err, ℕ, ◌+◌, ◌<◌, ◌≤◌}
 use Rattle.cpl.specs.Exprs.{item_tags, plan_nodes}
 use Rattle.cpl.specs.Fields.{fields_of}
 use Rattle.cpl.specs.Limits.{Version, max_nodes, max_tags}
@@ -11,6 +11,7 @@ use Rattle.rules.specs.Rules.{over_child, top_up}
 use Rattle.required_indices.specs.Request.{Asks}
 use Rattle.required_indices.specs.declared.RequiredIndices.{RequiredIndices}
 use Rattle.arena.specs.Rows.{RowsOk, items_at, root_at}
+use Rattle.arena.specs.declared.Full.{Full}
 use Rattle.tree.specs.Tree.{Arrays, plan_at}
 use Rattle.lookup.specs.Fields.{row_at}
 use Rattle.result.specs.Result.{Results, result_at}
@@ -20,12 +21,11 @@ use Rattle.projections.specs.Lists.{is_bare}
 use Rattle.projections.specs.declared.Selection.{Selection}
 use Rattle.projections.specs.declared.Selection.TheVariants as selection
 use Rattle.projections.specs.declared.Topped.{Topped}
-use Rattle.projections.specs.declared.Topped.TheVariants.{Done, Full}
 
 -- a record was put behind those in use, or all 256 are used
-abbrev pub PutIs : (s s' : List ℕ) (used : ℕ) → Record → (set : ℕ) → Topped → Type 0
-PutIs s s' used x set (Done i more) = (i ≡ used) × (more ≡ used + 1) × (used < max_nodes) × Appended s s' used x set
-PutIs s s' used x set Full = (max_nodes ≤ used) × (s' ≡ s)
+abbrev pub PutIs : (s s' : List ℕ) (used : ℕ) → Record → (set : ℕ) → Result Topped Full → Type 0
+PutIs s s' used x set (Ok t) = (t.record ≡ used) × (t.used ≡ used + 1) × (used < max_nodes) × Appended s s' used x set
+PutIs s s' used x set (Err full) = (max_nodes ≤ used) × (s' ≡ s)
 
 -- ── before ──────────────────────────────────────────────────────────────────────────────────
 
@@ -61,17 +61,17 @@ pub record NoRoom (r r' : Results) (used : ℕ) (p p' : Plan) : Type 0 where
   pub same : r' ≡ r
   pub tight : max_nodes + plan_nodes p' < used + plan_nodes p
 
-abbrev pub TopAnswer : (C : Catalogue) (a : Arrays) (count : ℕ) (r r' : Results) (used m n : ℕ) (p p' : Plan) → Topped → Type 0
-TopAnswer C a count r r' used m n p p' (Done made more) = OnTop C a count r r' used m n p p' made more
-TopAnswer C a count r r' used m n p p' Full = NoRoom r r' used p p'
+abbrev pub TopAnswer : (C : Catalogue) (a : Arrays) (count : ℕ) (r r' : Results) (used m n : ℕ) (p p' : Plan) → Result Topped Full → Type 0
+TopAnswer C a count r r' used m n p p' (Ok t) = OnTop C a count r r' used m n p p' t.record t.used
+TopAnswer C a count r r' used m n p p' (Err full) = NoRoom r r' used p p'
 
 -- whatever tree and result the records are part of. `p` is what is to be made of the input's plan.
-abbrev pub Covers : (C : Catalogue) (a : Arrays) (count : ℕ) (s s' items cells : List ℕ) (used m n rec : ℕ) → (Plan → Plan) → Topped → Type 0
+abbrev pub Covers : (C : Catalogue) (a : Arrays) (count : ℕ) (s s' items cells : List ℕ) (used m n rec : ℕ) → (Plan → Plan) → Result Topped Full → Type 0
 Covers C a count s s' items cells used m n rec p t =
     TopAnswer C a count (results s items cells) (results s' items cells) used m n (p (result_at C a (results s items cells) rec)) (result_at C a (results s items cells) rec) t
 
 -- node k was asked for Q
-pub record ToppedUp (s s' : List ℕ) (used rec k : ℕ) (asked kept : RequiredIndices) (t : Topped) : Type 0 where
+pub record ToppedUp (s s' : List ℕ) (used rec k : ℕ) (asked kept : RequiredIndices) (t : Result Topped Full) : Type 0 where
   pub covers : (C : Catalogue) (a : Arrays) (count : ℕ) (items cells : List ℕ) (m n : ℕ) (K Q : Mask)
       → Narrowed C a count (results s items cells) used m n rec k K → Asks kept K → Asks asked Q → Fit Q (fields_of C (plan_at a k))
       → Covers C a count s s' items cells used m n rec (top_up C (fields_of C (plan_at a k)) Q) t
@@ -93,7 +93,7 @@ abbrev pub ListIs : (C : Catalogue) (a : Arrays) (count : ℕ) (r : Results) (m 
 ListIs C a count r m n fields top start width k lower below is js selection.Columns = AsColumns C a count fields top start width k lower below is js
 ListIs C a count r m n fields top start width k lower below is js (selection.Items row size) = AsItems C.version r m n row size js
 
-pub record ProjectionPut (s s' : List ℕ) (used rec : ℕ) (list : Selection) (fields : List ℕ) (top start width : ℕ) (kept : RequiredIndices) (lower below : ℕ) (input-kept : RequiredIndices) (t : Topped) : Type 0 where
+pub record ProjectionPut (s s' : List ℕ) (used rec : ℕ) (list : Selection) (fields : List ℕ) (top start width : ℕ) (kept : RequiredIndices) (lower below : ℕ) (input-kept : RequiredIndices) (t : Result Topped Full) : Type 0 where
   pub covers : (C : Catalogue) (a : Arrays) (count : ℕ) (items cells : List ℕ) (m n k : ℕ) (K R : Mask) (is : List Item)
       → Narrowed C a count (results s items cells) used m n rec k K → Asks input-kept K → Asks kept R → Fit R is
       → ListIs C a count (results s items cells) m n fields top start width k lower below is (select R is) list

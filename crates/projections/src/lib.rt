@@ -8,138 +8,115 @@
 ghost use Rattle.std.specs.Prelude.{◌+◌, ◌*◌, ◌^◌, ◌≤◌, ◌<◌, ◌≡◌, length};
 ghost use Rattle.cpl.specs.Limits.{max_nodes};
 ghost use Rattle.required_indices.specs.Request.{set_of};
-ghost use Rattle.arena.specs.Rows.{RowsOk};
+ghost use Rattle.arena.specs.Lists.{ListOk};
 ghost use Rattle.result.specs.Result.{record_n};
-ghost use Rattle.projections.specs.Lists.{AllBare, CopyAnswer, FieldsIn, kept_fields, kept_items, Room, same_b};
+ghost use Rattle.projections.specs.Lists.{AllBare, CopyAnswer, FieldsIn, kept_fields, kept_of, Room, same_b};
 ghost use Rattle.projections.specs.Tops.{ProjectionPut, PutIs, ToppedUp};
 
-use arena_build::Built;
-use required_indices::{Next, RequiredIndices};
-use result::{Pushed, Record};
+use arena::{Full, Items};
+use lookup::Schema;
+use required_indices::RequiredIndices;
+use result::Record;
 
 /// Are the kept items of a list all bare columns? The list's rows lie in the array, and no index is past them.
-pub fn all_bare(items: &[u16], first: usize, count: usize, kept: RequiredIndices) -> bool
-    requires count_in_bounds { (first + count) * 4 ≤ length items.now }
-    requires kept_bound { set_of kept < 2 ^ count }
-    ensures { AllBare items.now first count kept result }
+pub fn all_bare(list: &Items, kept: RequiredIndices) -> bool
+    requires count_in_bounds { (list.now.first + list.now.count) * 4 ≤ length list.now.rows.now }
+    requires kept_bound { set_of kept < 2 ^ list.now.count }
+    ensures { AllBare list.now.rows.now list.now.first list.now.count kept result }
 {
     let mut from = 0;
-    loop {
-        let Next::At(i) = RequiredIndices::next(&kept.indices, kept.used, from) else {
-            return true;
-        };
-        let row = arena::row_at(items, first + i);
+    while let Some(i) = kept.next(from) {
+        let row = arena::row_at(list.rows, list.first + i);
         if row.mark != 0 {
             return false;
         }
         from = i + 1;
     }
+    true
 }
 
-/// Are those of the `width` fields from field `start` on that `kept` has those of the `input_width` from field `lower` on that `input_kept`
-/// has, in number and place by place? The fields lie in the array. Rust: `is_projection_unnecessary`, for a projection of bare columns, whose
-/// pairs are the first ones.
+/// Are those of the fields `own` that `kept` has those of the fields `input` that `input_kept` has, in number and place by place? The fields
+/// lie in the array. Rust: `is_projection_unnecessary`, for a projection of bare columns, whose pairs are the first ones.
 pub fn is_projection_unnecessary(
-    fields: &[u16],
-    start: usize,
-    width: usize,
+    own: &Schema,
     kept: RequiredIndices,
-    lower: usize,
-    input_width: usize,
+    input: &Schema,
     input_kept: RequiredIndices,
 ) -> bool
-    requires fields_in { FieldsIn fields.now start width kept }
-    requires fields_in_2 { FieldsIn fields.now lower input_width input_kept }
-    ensures { result ≡ same_b (kept_fields fields.now start width kept) (kept_fields fields.now lower input_width input_kept) }
+    requires fields_in { FieldsIn own.now.fields.now own.now.first own.now.width kept }
+    requires fields_in_2 { FieldsIn input.now.fields.now input.now.first input.now.width input_kept }
+    ensures { result ≡ same_b (kept_fields own.now.fields.now own.now.first own.now.width kept) (kept_fields input.now.fields.now input.now.first input.now.width input_kept) }
 {
     let mut from = 0;
     let mut at = 0;
-    loop {
-        let Next::At(i) = RequiredIndices::next(&kept.indices, kept.used, from) else {
-            let Next::At(_) = RequiredIndices::next(&input_kept.indices, input_kept.used, at) else {
-                return true;
-            };
+    while let Some(i) = kept.next(from) {
+        let Some(j) = input_kept.next(at) else {
             return false;
         };
-        let Next::At(j) = RequiredIndices::next(&input_kept.indices, input_kept.used, at) else {
-            return false;
-        };
-        let f = lookup::field_at(fields, start + i);
-        let g = lookup::field_at(fields, lower + j);
-        if !((f.qualifier == g.qualifier) & (f.name == g.name)) {
+        let f = lookup::field_at(own.fields, own.first + i);
+        let g = lookup::field_at(input.fields, input.first + j);
+        if f != g {
             return false;
         }
         from = i + 1;
         at = j + 1;
     }
+    input_kept.next(at).is_none()
 }
 
-/// What copying kept items answers: how many there are and the nodes now in use, or that there is no room for their expressions.
+/// Kept items that were copied: how many there are, and the nodes in use behind them.
 #[derive(Clone, Copy)]
-pub enum Copied {
-    Done { rows: usize, used: usize },
-    Full,
+pub struct Copied {
+    pub rows: usize,
+    pub used: usize,
 }
 
 /// Copies the kept items of a list, in order, into the rows of `out_items` from `row` on, their expressions behind the nodes in use of
-/// `out_cells`. The list's rows are well formed, and no index is past them. There is a row more than there are nodes, and no more rows are
+/// `out_cells`. Its error is `Full` where there is no room for their expressions. The list's rows are well formed, and no index is past them. There is a row more than there are nodes, and no more rows are
 /// in use than nodes: as each item takes a node, there are always rows enough. Rust: `get_at_indices`.
 pub fn copy_kept(
-    items: &[u16],
-    first: usize,
-    count: usize,
-    cells: &[u64],
+    list: &Items,
     kept: RequiredIndices,
     out_items: &mut [u16],
     row: usize,
     out_cells: &mut [u64],
     used: usize,
-) -> Copied
-    requires rows_ok { RowsOk items.now cells.now first count }
-    requires kept_bound { set_of kept < 2 ^ count }
+) -> Result<Copied, Full>
+    requires rows_ok { ListOk list.now }
+    requires kept_bound { set_of kept < 2 ^ list.now.count }
     requires room { Room out_items.old out_cells.old row used }
-    ensures { CopyAnswer (kept_items items.now cells.now first count kept) row out_items.old out_cells.old used result out_items.new out_cells.new }
+    ensures { CopyAnswer (kept_of list.now kept) row out_items.old out_cells.old used result out_items.new out_cells.new }
 {
     let mut most = used;
     let mut rows = 0;
     let mut from = 0;
-    loop {
-        let Next::At(i) = RequiredIndices::next(&kept.indices, kept.used, from) else {
-            return Copied::Done { rows, used: most };
-        };
-        let at = first + i;
-        let to = row + rows;
-        let b = arena_build::copy_item(items, at, cells, out_items, to, out_cells, most);
-        let Built::Done(_, more) = b else {
-            return Copied::Full;
-        };
-        most = more;
+    while let Some(i) = kept.next(from) {
+        let at = list.first + i;
+        let b = arena_build::copy_item(list, at, out_items, row + rows, out_cells, most)?;
+        most = b.used;
         rows += 1;
         from = i + 1;
     }
+    Ok(Copied { rows, used: most })
 }
 
-/// The record of a plan with a projection on top, where it needs one, and the records now in use; or that there is no room for one.
+/// The record of a plan with a projection on top, where it needs one, and the records in use behind it.
 #[derive(Clone, Copy)]
-pub enum Topped {
-    Done { record: usize, used: usize },
-    Full,
+pub struct Topped {
+    pub record: usize,
+    pub used: usize,
 }
 
 // A record is put behind those in use.
-fn put(records: &mut [u64], used: usize, node: Record, set: RequiredIndices) -> Topped
+fn put(records: &mut [u64], used: usize, node: Record, set: RequiredIndices) -> Result<Topped, Full>
     requires { max_nodes * record_n ≤ length records.old }
     ensures { PutIs records.old records.new used node (set_of set) result }
 {
-    let p = result::push_record(records, used, node, &set.indices, set.used);
-    let Pushed::At(i) = p else {
-        return Topped::Full;
-    };
-    let more = used + 1;
-    Topped::Done {
-        record: i,
-        used: more,
-    }
+    let record = result::push_record(records, used, node, &set)?;
+    Ok(Topped {
+        record,
+        used: used + 1,
+    })
 }
 
 /// Top-up: where node `k` was asked for fewer fields than its rewritten plan, `record`, has, a projection of those is put on top. Rust:
@@ -151,23 +128,22 @@ pub fn add_projection_on_top_if_helpful(
     k: usize,
     asked: RequiredIndices,
     input_kept: RequiredIndices,
-) -> Topped
+) -> Result<Topped, Full>
     requires { max_nodes * record_n ≤ length records.old }
     ensures { ToppedUp records.old records.new used «record» k asked input_kept result }
 {
-    let few = RequiredIndices::len(&asked.indices, asked.used);
-    let many = RequiredIndices::len(&input_kept.indices, input_kept.used);
-    if few < many {
+    if asked.len() < input_kept.len() {
         let node = Record::Columns {
             old: k,
             first: record,
         };
         return put(records, used, node, asked);
     }
-    Topped::Done { record, used }
+    Ok(Topped { record, used })
 }
 
 /// The kept items of a projection: all bare columns, so those of node `top`'s fields; or copied into rows of the result.
+// Not an Option: a list of columns is a list too, and None would not name it.
 #[derive(Clone, Copy)]
 pub enum Selection {
     Columns,
@@ -190,7 +166,7 @@ pub fn put_projection(
     lower: usize,
     input_width: usize,
     input_kept: RequiredIndices,
-) -> Topped
+) -> Result<Topped, Full>
     requires record_n_in_bounds { max_nodes * record_n ≤ length records.old }
     requires fields_in { FieldsIn fields.now start width kept }
     requires fields_in_2 { FieldsIn fields.now lower input_width input_kept }
@@ -198,16 +174,18 @@ pub fn put_projection(
 {
     match list {
         Selection::Columns => {
-            if is_projection_unnecessary(
+            let own = Schema {
                 fields,
-                start,
+                first: start,
                 width,
-                kept,
-                lower,
-                input_width,
-                input_kept,
-            ) {
-                return Topped::Done { record, used };
+            };
+            let input = Schema {
+                fields,
+                first: lower,
+                width: input_width,
+            };
+            if is_projection_unnecessary(&own, kept, &input, input_kept) {
+                return Ok(Topped { record, used });
             }
             let node = Record::Columns {
                 old: top,

@@ -3,7 +3,6 @@
 #![tactic(auto)]
 
 use std::io;
-use vector_text::Parsed;
 
 // What a run is given at the most: the settings, and the plan bytes that are read.
 const GIVEN: usize = 65539;
@@ -11,42 +10,28 @@ const GIVEN: usize = 65539;
 // Standard input is read whole, up to this many bytes.
 const INPUT: usize = 131072;
 
-// What the program prints where it is given the first n bytes.
-fn print(rt: &impl Print, given: &[u8], n: usize) -> io::Result<()> {
-    if n <= given.len() {
-        let mut text = [0u8; 16384];
-        let m = listing::run(&given[0..n], &mut text);
-        rt.write_all(&text[..m])?;
-    }
-    Ok(())
+// What the program prints where it is given these bytes.
+fn print(rt: &impl Print, given: &[u8]) -> io::Result<()> {
+    let mut text = [0u8; 16384];
+    let m = listing::run(given, &mut text);
+    rt.write_all(&text[..m])
 }
 
 // One run.
 fn run(rt: &impl Print, line: &[u8]) -> io::Result<()> {
     let mut given = [0u8; GIVEN];
-    let Parsed::Number(n) = vector_text::bytes(line, &mut given) else {
-        rt.write_all(b"a line that is no run\n")?;
-        return Ok(());
-    };
-    print(rt, &given, n)
-}
-
-// Runs every line.
-fn lines(rt: &impl Print, all: &[u8]) -> io::Result<()> {
-    let mut from = 0;
-    while from < all.len() {
-        let to = vector_text::find(all, from, b'\n');
-        run(rt, &all[from..to])?;
-        if all.len() <= to {
-            return Ok(());
-        }
-        from = to + 1;
+    let n = vector_text::bytes(line, &mut given);
+    match n.and_then(|n| given.get(..n)) {
+        Some(given) => print(rt, given),
+        None => println!(rt; "a line that is no run"),
     }
-    Ok(())
 }
 
 fn main(rt: HostRuntime) -> io::Result<()> {
     let mut input = [0u8; INPUT];
     let n = input_bytes::read_full(&mut rt.stdin(), &mut input)?;
-    lines(&rt, &input[..n])
+    for line in input[..n].split_inclusive(|&b| b == b'\n') {
+        run(&rt, line.strip_suffix(b"\n").unwrap_or(line))?;
+    }
+    Ok(())
 }

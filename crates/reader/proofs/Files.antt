@@ -1,32 +1,31 @@
 -- The mark, the end and the whole file. Assumes nothing.
-use Prim.Native.Nat.{ℕ, suc, ◌+◌, ◌*◌, ◌≤◌, ◌<◌}
+use Prim.Native.Nat.{ℕ, suc, ◌≤◌, ◌<◌}
 use mathlib.Core.Path.{◌≡◌, refl, sym, ap, ◌∙◌}
-use mathlib.Core.Bool.{Bool, true, false, not, ◌&&◌, true≢false}
+use mathlib.Core.Bool.{Bool, true, false, ◌&&◌}
 use mathlib.Core.List.{List, [], ◌∷◌}
 use native.Mathlib.Omega.{arith}
+use native.Mathlib.Decide.{ℕ_discrete}
 use lib.Dec.{eqb}
 use lib.ListN.{length, get_or}
-use lib.Seq.{sets}
 use borrow.Author.Tests.{eq-eqb, ne_eqb}
+use Rattle.std.specs.Prelude.{Result, Ok, Err, Some, None}
 use Rattle.cpl.specs.Limits.{IsVersion, is_1, is_2, version1, version2, max_nodes, max_tables}
 use Rattle.cpl.specs.Limits as cpl
 use Rattle.cpl.specs.Codes.{MARK, TAIL}
-use Rattle.cpl.specs.Plan.{Plan, TableKey, Catalogue, Source}
-use Rattle.cpl.specs.Read.{Res, ok, bad, count, counted, counted_after, any, times}
-use Rattle.cpl.specs.ReadPlan.{starts, mark_bytes, read_mark, read_table_key, read_catalogue, plan_to, read_end, read_source, read_file}
+use Rattle.cpl.specs.Plan.{TableKey, Catalogue}
+use Rattle.cpl.specs.Read.{ok, bad, count, counted, counted_after, any, times}
+use Rattle.cpl.specs.ReadPlan.{starts, mark_bytes, read_mark, read_table_key, read_catalogue, read_end, read_source, read_file}
 use Rattle.versions.specs.Versions.{version_of, Known}
 use Rattle.versions.specs.declared.Version.{Version}
 use Rattle.reader_fields.specs.Answers.{spot}
-use Rattle.reader_fields.specs.declared.Spot.{Spot}
 use Rattle.catalogue.specs.Tables.{tables_at, read_table}
 use Rattle.catalogue.specs.Keys.{TablesPut}
 use Rattle.reader.specs.Marks.{MarkIs}
 use Rattle.catalogue.proofs.Names.{catalogue_at}
-use Rattle.reader.specs.Plans.{TookPlan, ReadsPlan, read_body, Holds, TookBody, RightBody, RightFile}
-use Rattle.reader.specs.declared.Marked.TheVariants as marked
-use Rattle.reader.specs.declared.Planned.TheVariants as planned
+use Rattle.reader.specs.Plans.{ReadsPlan, read_body, TookBody, RightBody, RightFile}
+use Rattle.refusals.specs.declared.Refusal.{Refusal}
 use Rattle.reader.specs.declared.Read as answer
-use Rattle.reader.specs.declared.Read.TheVariants.{Done, Bad}
+use Rattle.reader.specs.declared.Planned.{Planned}
 use Rattle.reader.proofs.Plans.{RefusesPlan}
 
 -- ── the mark ────────────────────────────────────────────────────────────────────────────────
@@ -72,46 +71,52 @@ mark_is number (a ∷ b ∷ c ∷ d ∷ []) h = absurd (omega arith)
 mark_is number (a ∷ b ∷ c ∷ d ∷ e ∷ rest) h = refl
 
 -- the byte at i is m, or is not
-is_byte : (file : List ℕ) (i m : ℕ) {x : ℕ} → x ≡ get_or file i 0 → x ≡ m → eqb m (get_or file i 0) ≡ true
-is_byte file i m e f = eq-eqb m (get_or file i 0) (sym f ∙ e)
+is_byte : (file : List ℕ) (i m : ℕ) → get_or file i 0 ≡ m → eqb m (get_or file i 0) ≡ true
+is_byte file i m e = eq-eqb m (get_or file i 0) (sym e)
 
-not_byte : (file : List ℕ) (i m : ℕ) {x : ℕ} → x ≡ get_or file i 0 → (x ≡ m → ⊥) → eqb m (get_or file i 0) ≡ false
-not_byte file i m e f = ne_eqb m (get_or file i 0) (λ z. f (e ∙ sym z))
+not_byte : (file : List ℕ) (i m : ℕ) → (get_or file i 0 ≡ m → ⊥) → eqb m (get_or file i 0) ≡ false
+not_byte file i m e = ne_eqb m (get_or file i 0) (λ z. e (sym z))
 
-module _ (number : ℕ) (file : List ℕ) (long : 5 ≤ length file) {a : ℕ} (ea : a ≡ get_or file 0 0) where
-  pub mark_0 : (a ≡ 67 → ⊥) → false ≡ starts (67 ∷ 80 ∷ 76 ∷ number ∷ 0 ∷ []) file
-  mark_0 h = rw (mark_is number file long, not_byte file 0 67 ea h)
+never : (x : Bool) → false ≡ x && false
+never true = refl
+never false = refl
 
-  module _ (fa : a ≡ 67) {b : ℕ} (eb : b ≡ get_or file 1 0) where
-    pub mark_1 : (b ≡ 80 → ⊥) → false ≡ starts (67 ∷ 80 ∷ 76 ∷ number ∷ 0 ∷ []) file
-    mark_1 h = rw (mark_is number file long, is_byte file 0 67 ea fa, not_byte file 1 80 eb h)
+either_way : (a b : ℕ) → eqb a b ≡ eqb b a && true
+either_way a b = elim (ℕ_discrete a b) [
+  | yes e ↦ rw (eq-eqb a b e, eq-eqb b a (sym e))
+  | no e ↦ rw (ne_eqb a b e, ne_eqb b a (λ z. e (sym z)))
+]
 
-    module _ (fb : b ≡ 80) {c : ℕ} (ec : c ≡ get_or file 2 0) where
-      pub mark_2 : (c ≡ 76 → ⊥) → false ≡ starts (67 ∷ 80 ∷ 76 ∷ number ∷ 0 ∷ []) file
-      mark_2 h = rw (mark_is number file long, is_byte file 0 67 ea fa, is_byte file 1 80 eb fb, not_byte file 2 76 ec h)
+module _ (number : ℕ) (file : List ℕ) (long : 5 ≤ length file) where
+  pub mark_0 : (get_or file 0 0 ≡ 67 → ⊥) → false ≡ starts (67 ∷ 80 ∷ 76 ∷ number ∷ 0 ∷ []) file
+  mark_0 h = rw (mark_is number file long, not_byte file 0 67 h)
 
-      module _ (fc : c ≡ 76) {d : ℕ} (ed : d ≡ get_or file 3 0) where
-        pub mark_3 : (d ≡ number → ⊥) → false ≡ starts (67 ∷ 80 ∷ 76 ∷ number ∷ 0 ∷ []) file
-        mark_3 h = rw (mark_is number file long, is_byte file 0 67 ea fa, is_byte file 1 80 eb fb, is_byte file 2 76 ec fc, not_byte file 3 number ed h)
+  module _ (a : get_or file 0 0 ≡ 67) where
+    pub mark_1 : (get_or file 1 0 ≡ 80 → ⊥) → false ≡ starts (67 ∷ 80 ∷ 76 ∷ number ∷ 0 ∷ []) file
+    mark_1 h = rw (mark_is number file long, is_byte file 0 67 a, not_byte file 1 80 h)
 
-        module _ (fd : d ≡ number) {e : ℕ} (ee : e ≡ get_or file 4 0) where
-          pub mark_4 : (e ≡ 0 → ⊥) → false ≡ starts (67 ∷ 80 ∷ 76 ∷ number ∷ 0 ∷ []) file
-          mark_4 h = rw (mark_is number file long, is_byte file 0 67 ea fa, is_byte file 1 80 eb fb, is_byte file 2 76 ec fc, is_byte file 3 number ed fd, not_byte file 4 0 ee h)
+    module _ (b : get_or file 1 0 ≡ 80) where
+      pub mark_2 : (get_or file 2 0 ≡ 76 → ⊥) → false ≡ starts (67 ∷ 80 ∷ 76 ∷ number ∷ 0 ∷ []) file
+      mark_2 h = rw (mark_is number file long, is_byte file 0 67 a, is_byte file 1 80 b, not_byte file 2 76 h)
 
-          pub mark_yes : e ≡ 0 → true ≡ starts (67 ∷ 80 ∷ 76 ∷ number ∷ 0 ∷ []) file
-          mark_yes h = rw (mark_is number file long, is_byte file 0 67 ea fa, is_byte file 1 80 eb fb, is_byte file 2 76 ec fc, is_byte file 3 number ed fd, is_byte file 4 0 ee h)
+      module _ (c : get_or file 2 0 ≡ 76) where
+        pub mark_4 : (get_or file 4 0 ≡ 0 → ⊥) → false ≡ starts (67 ∷ 80 ∷ 76 ∷ number ∷ 0 ∷ []) file
+        mark_4 h = rw (mark_is number file long, is_byte file 0 67 a, is_byte file 1 80 b, is_byte file 2 76 c, not_byte file 4 0 h) (never (eqb number (get_or file 3 0)))
+
+        pub mark_yes : get_or file 4 0 ≡ 0 → {x : ℕ} → x ≡ get_or file 3 0 → eqb x number ≡ starts (67 ∷ 80 ∷ 76 ∷ number ∷ 0 ∷ []) file
+        mark_yes h {x} e = rw (mark_is number file long, is_byte file 0 67 a, is_byte file 1 80 b, is_byte file 2 76 c, is_byte file 4 0 h, ← e) (either_way x number)
 
 module _ (file : List ℕ) where
-  pub marked_1 : (version : Version) → version_of version ≡ version1 → {b : Bool} → b ≡ true → b ≡ starts (mark_bytes version1) file → MarkIs file (marked.As version)
+  pub marked_1 : (version : Version) → version_of version ≡ version1 → {b : Bool} → b ≡ true → b ≡ starts (mark_bytes version1) file → MarkIs file (Some version)
   unfolding read_mark
   marked_1 version e f g = (λ tags n. rw (← g, f, e), rw e is_1)
 
   module _ {a : Bool} (no : a ≡ false) (first : a ≡ starts (mark_bytes version1) file) where
-    pub marked_2 : (version : Version) → version_of version ≡ version2 → {b : Bool} → b ≡ true → b ≡ starts (mark_bytes version2) file → MarkIs file (marked.As version)
+    pub marked_2 : (version : Version) → version_of version ≡ version2 → {b : Bool} → b ≡ true → b ≡ starts (mark_bytes version2) file → MarkIs file (Some version)
     unfolding read_mark
     marked_2 version e f g = (λ tags n. rw (← first, no, ← g, f, e), rw e is_2)
 
-    pub marked-none : {b : Bool} → b ≡ false → b ≡ starts (mark_bytes version2) file → MarkIs file marked.Nothing
+    pub marked-none : {b : Bool} → b ≡ false → b ≡ starts (mark_bytes version2) file → MarkIs file None
     unfolding read_mark
     marked-none f g = λ tags n. rw (← first, no, ← g, f)
 
@@ -134,18 +139,18 @@ module _ (v : cpl.Version) (C : Catalogue) (file : List ℕ) (at : ℕ) where
   pub body_bad : {code place : ℕ} → RefusesPlan C file at 0 0 code place → read_body C file at 0 0 ≡ bad code place
   body_bad h = rw (h (suc max_nodes) (omega arith))
 
-  module _ (c c1 w w1 m m1 : List ℕ) (s : Spot) (k : ℕ) (p : ReadsPlan v C file (spot at 0 0 0) 0 c c1 w w1 m m1 (planned.Done s k)) where
-    pub body_tail : (s.at ≡ length file → ⊥) → read_body C file at 0 0 ≡ bad TAIL s.at
+  module _ (c c1 w w1 m m1 : List ℕ) (r : Planned) (p : ReadsPlan v C file (spot at 0 0 0) 0 c c1 w w1 m m1 (Ok r)) where
+    pub body_tail : (r.spot.at ≡ length file → ⊥) → read_body C file at 0 0 ≡ bad TAIL r.spot.at
     unfolding read_end
-    body_tail h = rw ((p (suc max_nodes) (omega arith)).is, ne_eqb s.at (length file) h)
+    body_tail h = rw ((p (suc max_nodes) (omega arith)).is, ne_eqb r.spot.at (length file) h)
 
-    pub body_took : s.at ≡ length file → TookBody C c c1 w w1 m m1 (read_body C file at 0 0) (length file) k s.tags s.made
+    pub body_took : r.spot.at ≡ length file → TookBody C c c1 w w1 m m1 (read_body C file at 0 0) (length file) r.nodes r.spot.tags r.spot.made
     unfolding read_end
     body_took h =
         let a = p (suc max_nodes) (omega arith) in
         record {
           plan = a.plan;
-          is = rw (a.is, eq-eqb s.at (length file) h) (ap (λ (e : ℕ). ok (record { catalogue = C; plan = a.plan }) e s.tags k) h);
+          is = rw (a.is, eq-eqb r.spot.at (length file) h) (ap (λ (e : ℕ). ok (record { catalogue = C; plan = a.plan }) e r.spot.tags r.nodes) h);
           holds =
               record {
                 made_is = a.made_is ∙ omega arith;
@@ -192,9 +197,9 @@ module _ (file : List ℕ) where
           unfolding read_source
           body_is = rw (mark 0 0, tables_at_lem)
 
-          pub file_right : n < 17 → (keys : List ℕ) → TablesPut keys ks → (c c1 w w1 m m1 : List ℕ) (r : answer.Read) → RightBody (catalogue_at (version_of version) names n ks) file start version n c c1 w w1 m m1 r →
+          pub file_right : n < 17 → (keys : List ℕ) → TablesPut keys ks → (c c1 w w1 m m1 : List ℕ) (r : Result answer.Read Refusal) → RightBody (catalogue_at (version_of version) names n ks) file start version n c c1 w w1 m m1 r →
               RightFile file c c1 w w1 m m1 names keys r
-          file_right l keys put c c1 w w1 m m1 (Done of tables at count tags made) b =
+          file_right l keys put c c1 w w1 m m1 (Ok of) b =
               record {
                 plan = b.3.plan;
                 C = catalogue_at (version_of version) names n ks;
@@ -207,4 +212,4 @@ module _ (file : List ℕ) where
                 keys_are = record { each = put.each };
                 holds = b.3.holds;
               }
-          file_right l keys put c c1 w w1 m m1 (Bad code place) b = body_is ∙ b
+          file_right l keys put c c1 w w1 m m1 (Err e₁) b = body_is ∙ b

@@ -1,27 +1,28 @@
 -- What `read_plan` answers is right: a law for each way through it. Assumes nothing.
-use Prim.Native.Nat.{ℕ, zero, suc, ◌+◌, ◌*◌, ◌-◌, ◌≤◌, ◌<◌}
-use mathlib.Core.Path.{◌≡◌, refl, sym, ap, ◌∙◌}
+use Prim.Native.Nat.{ℕ, zero, suc, ◌+◌, ◌*◌, ◌≤◌, ◌<◌}
+use mathlib.Core.Path.{◌≡◌, refl, ap, ◌∙◌}
 use mathlib.Core.List.{List, [], ◌∷◌, ◌++◌}
 use native.Mathlib.Omega.{arith}
 use lib.ListN.{length, get_or, set}
 use lib.Seq.{sets, set_comm}
 use borrow.Author.Tests.{lt-ltb, le-ltb, le-leb, lt-leb}
+use Rattle.std.specs.Prelude.{Result, Ok, Err}
 use Rattle.cpl.specs.Limits.{Version, IsVersion, max_tags, max_nodes}
 use Rattle.cpl.specs.Codes.{CUT, MANY}
 use Rattle.cpl.specs.Plan.{Leaf, Unary, Binary, Plan, leaf, unary, binary, Catalogue}
 use Rattle.cpl.specs.Exprs.{plan_nodes}
 use Rattle.cpl.specs.Read.{Res, ok, bad, and_then, node_tag}
 use Rattle.cpl.specs.ReadPlan.{Head, h0, h1, h2, read_head, read_inputs, plan_to}
-use Rattle.tree.specs.Layout.{leaf_nodes, leaf_rows_in, leaf_node, unary_cells, unary_rows, unary_nodes, unary_rows_in, unary_node, binary_cells, binary_rows, binary_nodes, binary_rows_in, binary_node, expr_nodes, plan_rows_in, plan_cells, plan_rows, plan_table}
+use Rattle.tree.specs.Layout.{leaf_nodes, leaf_rows_in, unary_cells, unary_rows, unary_nodes, unary_rows_in, binary_cells, binary_rows, binary_nodes, binary_rows_in, expr_nodes, plan_rows_in, plan_cells, plan_rows, plan_table}
 use Rattle.versions.specs.Versions.{node_rows}
 use Rattle.reader_fields.specs.Answers.{spot}
 use Rattle.reader_fields.specs.declared.Spot.{Spot}
 use Rattle.reader_fields.proofs.Sets.{sets_then}
 use Rattle.reader_heads.specs.Heads.{head_cells, head_rows, head_nodes, head_rows_in, numbers, TookHead}
 use Rattle.reader_heads.specs.declared.Node.{Node}
-use Rattle.reader.specs.Plans.{TookPlan, RightPlan, ReadsPlan}
+use Rattle.reader.specs.Plans.{TookPlan, ReadsPlan}
 use Rattle.reader.specs.declared.Planned.{Planned}
-use Rattle.reader.specs.declared.Planned.TheVariants.{Done, Bad}
+use Rattle.refusals.specs.declared.Refusal.{Refusal}
 use Rattle.reader.proofs.Rooms.{plan_adds, leaf_adds, unary_adds, binary_adds}
 use Rattle.reader.proofs.Sizes.{unary-cells-long, unary-rows-long, binary-cells-long, binary-rows-long, plan-cells-long, plan-rows-long, table-long}
 
@@ -80,6 +81,10 @@ plan_facts known {from} {k} {t = t} {k'} a =
       a.few_nodes,
       adds,
     )
+
+-- the reader stands at a spot after so many nodes
+abbrev pub planned : Spot → ℕ → Planned
+planned t k = record { spot = t; nodes = k }
 
 -- ── one step of the reader ──────────────────────────────────────────────────────────────────
 
@@ -208,7 +213,7 @@ module _ (h : Binary) (read : ℕ → ℕ → ℕ → Res Plan) {x : Res Plan} {
 
 module _ {v' : Version} (known : IsVersion v') (C : Catalogue) (file : List ℕ) (s : Spot) (k : ℕ) (inside : s.at < length file) (few : k < max_nodes) {t : ℕ} (is : t ≡ get_or file s.at 0) (c c1 w w1 : List ℕ) (u : Spot) (node : Node) where
   pub plan-leaf : (m m1 : List ℕ) (filters : ℕ) (h : Leaf) → TookHead v' t filters (spot (s.at + 1) s.tags s.made s.row) c c1 w w1 (k + 1) (read_head C s.at t file (s.at + 1) s.tags (k + 1)) u node (h0 h) →
-      m1 ≡ sets m (7 * k) (numbers t filters s.row node) → ReadsPlan v' C file s k c c1 w w1 m m1 (Done u (k + 1))
+      m1 ≡ sets m (7 * k) (numbers t filters s.row node) → ReadsPlan v' C file s k c c1 w w1 m m1 (Ok (planned u (k + 1)))
   unfolding expr_nodes plan_rows_in plan_nodes plan_cells plan_rows plan_table
   plan-leaf m m1 filters h a f zero d = absurd (omega arith)
   plan-leaf m m1 filters h a f (suc deep) d =
@@ -229,12 +234,12 @@ module _ {v' : Version} (known : IsVersion v') (C : Catalogue) (file : List ℕ)
       }
 
   pub plan-one : (c2 w2 m m1 m2 : List ℕ) (h : Unary) → TookHead v' t 0 (spot (s.at + 1) s.tags s.made s.row) c c1 w w1 (k + 1) (read_head C s.at t file (s.at + 1) s.tags (k + 1)) u node (h1 h) →
-      m1 ≡ sets m (7 * k) (numbers t 0 s.row node) → (r : Planned) → ReadsPlan v' C file u (k + 1) c1 c2 w1 w2 m1 m2 r → ReadsPlan v' C file s k c c2 w w2 m m2 r
+      m1 ≡ sets m (7 * k) (numbers t 0 s.row node) → (r : Result Planned Refusal) → ReadsPlan v' C file u (k + 1) c1 c2 w1 w2 m1 m2 r → ReadsPlan v' C file s k c c2 w w2 m m2 r
   plan-one c2 w2 m m1 m2 h a f r q zero d = absurd (omega arith)
-  plan-one c2 w2 m m1 m2 h a f (Done v k') q (suc deep) d =
+  plan-one c2 w2 m m1 m2 h a f (Ok r) q (suc deep) d =
       let b = q deep (omega arith) in
-      unary-took known t k s u v k' c c1 c2 w w1 w2 m m1 m2 node h a f b (step-one C file s.at s.tags k (omega arith) inside few is deep (plain a).is ∙ rw b.is)
-  plan-one c2 w2 m m1 m2 h a f (Bad code place) q (suc deep) d = step-one C file s.at s.tags k (omega arith) inside few is deep (plain a).is ∙ rw (q deep (omega arith))
+      unary-took known t k s u r.spot r.nodes c c1 c2 w w1 w2 m m1 m2 node h a f b (step-one C file s.at s.tags k (omega arith) inside few is deep (plain a).is ∙ rw b.is)
+  plan-one c2 w2 m m1 m2 h a f (Err e) q (suc deep) d = step-one C file s.at s.tags k (omega arith) inside few is deep (plain a).is ∙ rw (q deep (omega arith))
 
   pub head_read : {h : Head} → TookHead v' t 0 (spot (s.at + 1) s.tags s.made s.row) c c1 w w1 (k + 1) (read_head C s.at t file (s.at + 1) s.tags (k + 1)) u node h →
       read_head C s.at t file (s.at + 1) s.tags (k + 1) ≡ ok h u.at u.tags (k + 1)
@@ -242,14 +247,14 @@ module _ {v' : Version} (known : IsVersion v') (C : Catalogue) (file : List ℕ)
 
   pub plan-two : (c2 c3 w2 w3 m m1 m2 m3 : List ℕ) (v : Spot) (k₁ : ℕ) (h : Binary) →
       TookHead v' t 0 (spot (s.at + 1) s.tags s.made s.row) c c1 w w1 (k + 1) (read_head C s.at t file (s.at + 1) s.tags (k + 1)) u node (h2 h) →
-      ReadsPlan v' C file u (k + 1) c1 c2 w1 w2 m m1 (Done v k₁) → m2 ≡ sets m1 (7 * k) (numbers t k₁ s.row node) → (r : Planned) → ReadsPlan v' C file v k₁ c2 c3 w2 w3 m2 m3 r →
+      ReadsPlan v' C file u (k + 1) c1 c2 w1 w2 m m1 (Ok (planned v k₁)) → m2 ≡ sets m1 (7 * k) (numbers t k₁ s.row node) → (r : Result Planned Refusal) → ReadsPlan v' C file v k₁ c2 c3 w2 w3 m2 m3 r →
       ReadsPlan v' C file s k c c3 w w3 m m3 r
   plan-two c2 c3 w2 w3 m m1 m2 m3 v k₁ h a q f r o zero d = absurd (omega arith)
-  plan-two c2 c3 w2 w3 m m1 m2 m3 v k₁ h a q f (Done z k₂) o (suc deep) d =
+  plan-two c2 c3 w2 w3 m m1 m2 m3 v k₁ h a q f (Ok r) o (suc deep) d =
       let b = q deep (omega arith) in
       let b₂ = o deep (omega (arith, plan_facts known b)) in
-      binary-took known t k s u v z k₁ k₂ c c1 c2 c3 w w1 w2 w3 m m1 m2 m3 node h a b f b₂
+      binary-took known t k s u v r.spot k₁ r.nodes c c1 c2 c3 w w1 w2 w3 m m1 m2 m3 node h a b f b₂
       (step-two C file s.at s.tags k (omega arith) inside few is deep (plain a).is ∙ two_ok h (plan_to C deep file) b.is b₂.is)
-  plan-two c2 c3 w2 w3 m m1 m2 m3 v k₁ h a q f (Bad code place) o (suc deep) d =
+  plan-two c2 c3 w2 w3 m m1 m2 m3 v k₁ h a q f (Err e) o (suc deep) d =
       let b = q deep (omega arith) in
       step-two C file s.at s.tags k (omega arith) inside few is deep (plain a).is ∙ two-bad h (plan_to C deep file) b.is (o deep (omega (arith, plan_facts known b)))

@@ -1,5 +1,5 @@
 -- The answers for plans and files. Assumes nothing: these are definitions.
-use Rattle.std.specs.Prelude.{ℕ, suc, ◌+◌, ◌*◌, ◌≤◌, ◌<◌, ◌≡◌, List, length}
+use Rattle.std.specs.Prelude.{ℕ, suc, ◌+◌, ◌*◌, ◌≤◌, ◌<◌, ◌≡◌, List, length, Result, Ok, Err}
 use Rattle.std.proofs.lemmas.List.Edits.{sets}
 use Rattle.cpl.specs.Limits.{max_tags, max_nodes, max_tables}
 use Rattle.cpl.specs.Limits as cpl
@@ -11,12 +11,12 @@ use Rattle.tree.specs.Layout.{expr_nodes, plan_rows_in, plan_cells, plan_rows, p
 use Rattle.versions.specs.Versions.{version_of, node_rows}
 use Rattle.versions.specs.declared.Version.{Version}
 use Rattle.key_sets.specs.Slots.{TableKeys}
+use Rattle.refusals.specs.Codes.{code_of}
+use Rattle.refusals.specs.declared.Refusal.{Refusal}
 use Rattle.reader_fields.specs.declared.Spot.{Spot}
 use Rattle.catalogue.specs.Tables.{tables_at}
 use Rattle.reader.specs.declared.Planned.{Planned}
-use Rattle.reader.specs.declared.Planned.TheVariants as planned
 use Rattle.reader.specs.declared.Read as answer
-use Rattle.reader.specs.declared.Read.TheVariants as read
 
 -- a plan was read, which ends at the spot t and has the nodes from k to k'
 pub record TookPlan (v : cpl.Version) (from : Spot) (k : ℕ) (cells cells' rows rows' nodes nodes' : List ℕ) (x : Res Plan) (t : Spot) (k' : ℕ) : Type 0 where
@@ -33,12 +33,12 @@ pub record TookPlan (v : cpl.Version) (from : Spot) (k : ℕ) (cells cells' rows
   pub few_nodes : k' ≤ max_nodes
   pub few_rows : plan_rows_in plan ≤ node_rows v * plan_nodes plan + expr_nodes plan
 
-abbrev pub RightPlan : cpl.Version → Spot → (k : ℕ) → (cells cells' rows rows' nodes nodes' : List ℕ) → Res Plan → Planned → Type 0
-RightPlan v from k cells cells' rows rows' nodes nodes' x (planned.Done t k') = TookPlan v from k cells cells' rows rows' nodes nodes' x t k'
-RightPlan v from k cells cells' rows rows' nodes nodes' x (planned.Bad code place) = x ≡ bad code place
+abbrev pub RightPlan : cpl.Version → Spot → (k : ℕ) → (cells cells' rows rows' nodes nodes' : List ℕ) → Res Plan → Result Planned Refusal → Type 0
+RightPlan v from k cells cells' rows rows' nodes nodes' x (Ok p) = TookPlan v from k cells cells' rows rows' nodes nodes' x p.spot p.nodes
+RightPlan v from k cells cells' rows rows' nodes nodes' x (Err e) = x ≡ bad (code_of e.reason) e.place
 
 -- the same of what stands at a spot, for every depth that the nodes left allow
-abbrev pub ReadsPlan : cpl.Version → Catalogue → (file : List ℕ) → Spot → (k : ℕ) → (cells cells' rows rows' nodes nodes' : List ℕ) → Planned → Type 0
+abbrev pub ReadsPlan : cpl.Version → Catalogue → (file : List ℕ) → Spot → (k : ℕ) → (cells cells' rows rows' nodes nodes' : List ℕ) → Result Planned Refusal → Type 0
 ReadsPlan v C file from k cells cells' rows rows' nodes nodes' r =
     (deep : ℕ) → max_nodes < k + deep → RightPlan v from k cells cells' rows rows' nodes nodes' (plan_to C deep file from.at from.tags k) r
 
@@ -64,10 +64,10 @@ pub record TookBody (C : Catalogue) (cells cells' rows rows' nodes nodes' : List
   pub is : x ≡ ok (record { catalogue = C; plan = plan }) size tags count
   pub holds : Holds cells cells' rows rows' nodes nodes' plan count tags made
 
-abbrev pub RightBody : Catalogue → (file : List ℕ) → (at : ℕ) → Version → (n : ℕ) → (cells cells' rows rows' nodes nodes' : List ℕ) → answer.Read → Type 0
-RightBody C file at v n cells cells' rows rows' nodes nodes' (read.Done version tables start count tags made) =
-    (version ≡ v) × (tables ≡ n) × (start ≡ at) × TookBody C cells cells' rows rows' nodes nodes' (read_body C file at 0 0) (length file) count tags made
-RightBody C file at v n cells cells' rows rows' nodes nodes' (read.Bad code place) = read_body C file at 0 0 ≡ bad code place
+abbrev pub RightBody : Catalogue → (file : List ℕ) → (at : ℕ) → Version → (n : ℕ) → (cells cells' rows rows' nodes nodes' : List ℕ) → Result answer.Read Refusal → Type 0
+RightBody C file at v n cells cells' rows rows' nodes nodes' (Ok r) =
+    (r.version ≡ v) × (r.tables ≡ n) × (r.start ≡ at) × TookBody C cells cells' rows rows' nodes nodes' (read_body C file at 0 0) (length file) r.nodes r.tags r.made
+RightBody C file at v n cells cells' rows rows' nodes nodes' (Err e) = read_body C file at 0 0 ≡ bad (code_of e.reason) e.place
 
 -- the file was read as a catalogue and a plan: the catalogue's tables stand in the names, their keys in the tables' slots, the plan in the other three arrays,
 -- and the plan starts at the offset `start`
@@ -83,7 +83,7 @@ pub record TookFile (file cells cells' rows rows' nodes nodes' names' keys' : Li
   pub keys_are : TableKeys C keys'
   pub holds : Holds cells cells' rows rows' nodes nodes' plan count tags made
 
-abbrev pub RightFile : (file cells cells' rows rows' nodes nodes' names' keys' : List ℕ) → answer.Read → Type 0
-RightFile file cells cells' rows rows' nodes nodes' names' keys' (read.Done version tables start count tags made) =
-    TookFile file cells cells' rows rows' nodes nodes' names' keys' version tables start count tags made
-RightFile file cells cells' rows rows' nodes nodes' names' keys' (read.Bad code place) = read_file file ≡ bad code place
+abbrev pub RightFile : (file cells cells' rows rows' nodes nodes' names' keys' : List ℕ) → Result answer.Read Refusal → Type 0
+RightFile file cells cells' rows rows' nodes nodes' names' keys' (Ok r) =
+    TookFile file cells cells' rows rows' nodes nodes' names' keys' r.version r.tables r.start r.nodes r.tags r.made
+RightFile file cells cells' rows rows' nodes nodes' names' keys' (Err e) = read_file file ≡ bad (code_of e.reason) e.place

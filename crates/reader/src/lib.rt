@@ -13,37 +13,27 @@ ghost use Rattle.key_sets.specs.Slots.{SlotIn};
 ghost use Rattle.reader.specs.Marks.{MarkIs};
 ghost use Rattle.reader.specs.Plans.{ReadsPlan, RightBody, RightFile};
 
-use catalogue::Next;
-use reader_fields::{Field, Spot};
+use reader_fields::Spot;
 use reader_heads::{Head, Node};
+use refusals::{Reason, Refusal};
 use versions::Version;
 
-// Where the reader stands after a plan, and how many nodes it has read; or a refusal.
+// Where the reader stands after a plan, and how many nodes it has read.
 #[derive(Clone, Copy)]
-pub enum Planned {
-    Done(Spot, usize),
-    Bad(u8, usize),
+pub struct Planned {
+    pub spot: Spot,
+    pub nodes: usize,
 }
 
-// The version of a file's mark, if it has one.
+// What a file was read as: its version, the number of tables, the offset of the plan, how many nodes, expression tags and nodes of expressions it has.
 #[derive(Clone, Copy)]
-pub enum Marked {
-    As(Version),
-    Nothing,
-}
-
-// What a file was read as: its version, the number of tables, the offset of the plan, how many nodes, expression tags and nodes of expressions it has; or a refusal.
-#[derive(Clone, Copy)]
-pub enum Read {
-    Done {
-        version: Version,
-        tables: usize,
-        start: usize,
-        nodes: usize,
-        tags: usize,
-        made: usize,
-    },
-    Bad(u8, usize),
+pub struct Read {
+    pub version: Version,
+    pub tables: usize,
+    pub start: usize,
+    pub nodes: usize,
+    pub tags: usize,
+    pub made: usize,
 }
 
 // The seven numbers of a node.
@@ -51,14 +41,15 @@ fn put_node(nodes: &mut [u64], k: usize, t: u64, second: usize, row: usize, node
     requires { 7 * k + 7 ≤ length nodes.old }
     ensures { nodes.new ≡ sets nodes.old (7 * k) (numbers t second row node) }
 {
-    let base = 7 * k;
-    nodes[base] = t;
-    nodes[base + 1] = second as u64;
-    nodes[base + 2] = row as u64;
-    nodes[base + 3] = node.n;
-    nodes[base + 4] = node.x;
-    nodes[base + 5] = node.y;
-    nodes[base + 6] = node.z;
+    nodes[7 * k..7 * k + 7].copy_from_slice(&[
+        t,
+        second as u64,
+        row as u64,
+        node.n,
+        node.x,
+        node.y,
+        node.z,
+    ]);
 }
 
 // A plan whose root is node k.
@@ -72,43 +63,47 @@ fn read_plan(
     cells: &mut [u64],
     rows: &mut [u16],
     nodes: &mut [u64],
-) -> Planned
+) -> Result<Planned, Refusal>
     requires made_le_tags { (s.made ≤ s.tags) × (s.tags ≤ 4096) × (k ≤ 256) × (s.row ≤ node_rows (version_of version) * k + s.tags) × (12288 ≤ length cells.old) × (rows_room (version_of version) ≤ length rows.old) × (1792 ≤ length nodes.old) × (513 * tables ≤ length names.now) × (tables ≤ 16) × ((C : Catalogue) × (C.version ≡ version_of version) × Widths names.now tables C) }
     requires known { Known version }
     ensures { (C : Catalogue) → C.version ≡ version_of version → Widths names.now tables C → ReadsPlan (version_of version) C file.now s k cells.old cells.new rows.old rows.new nodes.old nodes.new result }
 {
     let at = s.at;
     if file.len() <= at {
-        return Planned::Bad(3, at);
+        return Err(Refusal::new(Reason::Cut, at));
     }
     if 256 <= k {
-        return Planned::Bad(5, at);
+        return Err(Refusal::new(Reason::Many, at));
     }
     let t = reader_fields::byte(file, at);
-    let from = Spot {
-        at: at + 1,
-        tags: s.tags,
-        made: s.made,
-        row: s.row,
-    };
-    let head = reader_heads::read_head(file, from, at, t, version, tables, names, cells, rows);
+    let from = Spot { at: at + 1, ..s };
+    let head = reader_heads::read_head(file, from, at, t, version, tables, names, cells, rows)?;
     match head {
-        Head::Bad(code, place) => Planned::Bad(code, place),
         Head::Leaf(u, node, filters) => {
             put_node(nodes, k, t, filters, s.row, node);
-            Planned::Done(u, k + 1)
+            Ok(Planned {
+                spot: u,
+                nodes: k + 1,
+            })
         }
         Head::One(u, node) => {
             put_node(nodes, k, t, 0, s.row, node);
             read_plan(file, u, k + 1, version, tables, names, cells, rows, nodes)
         }
         Head::Two(u, node) => {
-            let first = read_plan(file, u, k + 1, version, tables, names, cells, rows, nodes);
-            let Planned::Done(v, right) = first else {
-                return first;
-            };
-            put_node(nodes, k, t, right, s.row, node);
-            read_plan(file, v, right, version, tables, names, cells, rows, nodes)
+            let first = read_plan(file, u, k + 1, version, tables, names, cells, rows, nodes)?;
+            put_node(nodes, k, t, first.nodes, s.row, node);
+            read_plan(
+                file,
+                first.spot,
+                first.nodes,
+                version,
+                tables,
+                names,
+                cells,
+                rows,
+                nodes,
+            )
         }
     }
 }
@@ -117,50 +112,32 @@ fn read_plan(
 pub fn has_mark(file: &[u8], number: u64) -> bool
     ensures { result ≡ starts (67 ∷ 80 ∷ 76 ∷ number ∷ 0 ∷ []) file.now }
 {
-    if file.len() < 5 {
-        return false;
+    match file {
+        [67, 80, 76, version, 0, ..] => u64::from(*version) == number,
+        _ => false,
     }
-    if reader_fields::byte(file, 0) != 67 {
-        return false;
-    }
-    if reader_fields::byte(file, 1) != 80 {
-        return false;
-    }
-    if reader_fields::byte(file, 2) != 76 {
-        return false;
-    }
-    if reader_fields::byte(file, 3) != number {
-        return false;
-    }
-    if reader_fields::byte(file, 4) != 0 {
-        return false;
-    }
-    true
 }
 
 // The mark of a version that there is.
-fn read_mark(file: &[u8]) -> Marked
+fn read_mark(file: &[u8]) -> Option<Version>
     ensures { MarkIs file.now result }
 {
     if has_mark(file, 1) {
-        let version = versions::version1();
-        return Marked::As(version);
+        return Some(versions::version1());
     }
     if has_mark(file, 2) {
-        let version = versions::version2();
-        return Marked::As(version);
+        return Some(versions::version2());
     }
-    Marked::Nothing
+    None
 }
 
 /// The version of the file's mark: the lent arrays go by it. Version 1 where there is no mark.
 pub fn version_at(file: &[u8]) -> Version
     ensures { ((v : cpl.Version) → read_mark file.now 0 0 0 ≡ ok v 5 0 0 → version_of result ≡ v) × Known result }
 {
-    let mark = read_mark(file);
-    match mark {
-        Marked::As(version) => version,
-        Marked::Nothing => versions::version1(),
+    match read_mark(file) {
+        Some(version) => version,
+        None => versions::version1(),
     }
 }
 
@@ -174,7 +151,7 @@ fn read_body(
     rows: &mut [u16],
     nodes: &mut [u64],
     names: &[u16],
-) -> Read
+) -> Result<Read, Refusal>
     requires in_bounds { (12288 ≤ length cells.old) × (rows_room (version_of version) ≤ length rows.old) × (1792 ≤ length nodes.old) × (513 * tables ≤ length names.now) × (tables ≤ 16) × ((C : Catalogue) × (C.version ≡ version_of version) × Widths names.now tables C) }
     requires known { Known version }
     ensures { (C : Catalogue) → C.version ≡ version_of version → Widths names.now tables C → RightBody C file.now start version tables cells.old cells.new rows.old rows.new nodes.old nodes.new result }
@@ -185,23 +162,19 @@ fn read_body(
         made: 0,
         row: 0,
     };
-    let plan = read_plan(file, from, 0, version, tables, names, cells, rows, nodes);
-    match plan {
-        Planned::Bad(code, place) => Read::Bad(code, place),
-        Planned::Done(s, count) => {
-            if s.at != file.len() {
-                return Read::Bad(6, s.at);
-            }
-            Read::Done {
-                version,
-                tables: tables as usize,
-                start,
-                nodes: count,
-                tags: s.tags,
-                made: s.made,
-            }
-        }
+    let plan = read_plan(file, from, 0, version, tables, names, cells, rows, nodes)?;
+    let end = plan.spot;
+    if end.at != file.len() {
+        return Err(Refusal::new(Reason::Tail, end.at));
     }
+    Ok(Read {
+        version,
+        tables: tables as usize,
+        start,
+        nodes: plan.nodes,
+        tags: end.tags,
+        made: end.made,
+    })
 }
 
 // What follows the mark of a version.
@@ -213,30 +186,16 @@ fn read_marked(
     nodes: &mut [u64],
     names: &mut [u16],
     keys: &mut [u64],
-) -> Read
+) -> Result<Read, Refusal>
     requires in_bounds { (12288 ≤ length cells.old) × (rows_room (version_of version) ≤ length rows.old) × (1792 ≤ length nodes.old) × (8208 ≤ length names.old) × SlotIn keys.old 15 }
     requires known { Known version }
     ensures { ((tags n : ℕ) → read_mark file.now 0 tags n ≡ ok (version_of version) 5 tags n) → RightFile file.now cells.old cells.new rows.old rows.new nodes.old nodes.new names.new keys.new result }
 {
-    let count = reader_fields::read_count(file, 5, 1, 0, 16);
-    match count {
-        Field::Bad(code, place) => Read::Bad(code, place),
-        Field::Got(n, after) => {
-            let tables = catalogue::read_tables(file, after, n, 0, version, names);
-            match tables {
-                Next::Bad(code, place) => Read::Bad(code, place),
-                Next::At(next) => {
-                    let listed = catalogue::read_all_keys(file, next, n, version, names, keys);
-                    match listed {
-                        Next::Bad(code, place) => Read::Bad(code, place),
-                        Next::At(start) => {
-                            read_body(file, start, version, n, cells, rows, nodes, names)
-                        }
-                    }
-                }
-            }
-        }
-    }
+    let count = reader_fields::read_count(file, 5, 1, 0, 16)?;
+    let n = count.value;
+    let next = catalogue::read_tables(file, count.next, n, 0, version, names)?;
+    let start = catalogue::read_all_keys(file, next, n, version, names, keys)?;
+    read_body(file, start, version, n, cells, rows, nodes, names)
 }
 
 // A plan file. The lent arrays are long enough for every plan file of its version: cells three numbers for each of 4,096 nodes of expressions, rows four
@@ -249,14 +208,13 @@ pub fn read_file(
     nodes: &mut [u64],
     names: &mut [u16],
     keys: &mut [u64],
-) -> Read
+) -> Result<Read, Refusal>
     requires in_bounds { (12288 ≤ length cells.old) × (1792 ≤ length nodes.old) × (8208 ≤ length names.old) × SlotIn keys.old 15 }
     requires v_in_bounds { (v : cpl.Version) → read_mark file.now 0 0 0 ≡ ok v 5 0 0 → rows_room v ≤ length rows.old }
     ensures { RightFile file.now cells.old cells.new rows.old rows.new nodes.old nodes.new names.new keys.new result }
 {
-    let mark = read_mark(file);
-    match mark {
-        Marked::Nothing => Read::Bad(2, 0),
-        Marked::As(version) => read_marked(file, version, cells, rows, nodes, names, keys),
-    }
+    let Some(version) = read_mark(file) else {
+        return Err(Refusal::new(Reason::Mark, 0));
+    };
+    read_marked(file, version, cells, rows, nodes, names, keys)
 }

@@ -1,26 +1,25 @@
 -- What `read_expr` answers is right: a law for each way through it. Assumes nothing.
 use Prim.Native.Nat.{ℕ, zero, suc, ◌+◌, ◌*◌, ◌-◌, ◌^◌, ◌≤◌, ◌<◌}
-use mathlib.Core.Path.{◌≡◌, refl, sym, ap, ◌∙◌}
+use mathlib.Core.Path.{◌≡◌, refl}
 use mathlib.Core.Bool.{Bool, true, false}
 use mathlib.Core.List.{List, [], ◌∷◌, ◌++◌}
 use native.Mathlib.Omega.{arith}
 use lib.Dec.{ltb}
-use lib.ListN.{length}
 use lib.Seq.{sets}
 use borrow.Author.Tests.{lt-ltb, le-ltb, eq-eqb, ne_eqb}
+use Rattle.std.specs.Prelude.{Result, Ok}
 use Rattle.cpl.specs.Limits.{max_tags}
-use Rattle.cpl.specs.Codes.{VALUE, op1_of, op1_tag, op2_of, op2_tag, signed, unsigned}
-use Rattle.cpl.specs.Plan.{Pair, pair, Expr, col, lit, miss, un, bin}
+use Rattle.cpl.specs.Codes.{VALUE, op1_of, op2_of, signed}
+use Rattle.cpl.specs.Plan.{pair, Expr, col, lit, miss, un, bin}
 use Rattle.cpl.specs.Exprs.{expr_tags}
 use Rattle.cpl.specs.Read.{Res, ok, bad, field, tag}
 use Rattle.cpl.specs.ReadExpr.{read_pair, read_column, read_literal, leaf_rest, expr_rest, expr_to}
 use Rattle.cpl.proofs.CodeTrip.{op1-number, op2-number, literal-number}
-use Rattle.tree.specs.Layout.{Store, expr_cells}
-use Rattle.reader_fields.specs.Answers.{spot, Took, Right, bare_store, RightCells, Reads}
+use Rattle.tree.specs.Layout.{expr_cells}
+use Rattle.reader_fields.specs.Answers.{spot, Took, bare_store, RightCells, Reads}
+use Rattle.refusals.specs.declared.Refusal.{Refusal}
 use Rattle.reader_fields.specs.declared.Spot.{Spot}
-use Rattle.reader_fields.specs.declared.Parsed.{Parsed}
-use Rattle.reader_fields.specs.declared.Parsed.TheVariants.{Done, Bad}
-use Rattle.reader_fields.proofs.Sets.{sets_append, sets_then, expr_some, expr_long, right_as}
+use Rattle.reader_fields.proofs.Sets.{sets_then, expr_some, expr_long, right_as}
 
 -- ── expressions without operands ────────────────────────────────────────────────────────────
 
@@ -42,28 +41,28 @@ module _ (file : List ℕ) (at tags : ℕ) where
 module _ (file : List ℕ) (s : Spot) (cells : List ℕ) where
   pub column-ok : {q m next : ℕ} → ((tags n : ℕ) → read_pair file s.at tags n ≡ ok (pair q m) next tags n) → {cells' : List ℕ} →
       cells' ≡ sets cells (3 * s.made) (0 ∷ q ∷ m ∷ []) → s.tags < max_tags →
-      RightCells read_column file s (s.tags + 1) cells cells' (Done (spot next (s.tags + 1) (s.made + 1) s.row))
+      RightCells read_column file s (s.tags + 1) cells cells' (Ok (spot next (s.tags + 1) (s.made + 1) s.row))
   unfolding read_column expr_tags expr_cells
   column-ok {q} {m} e {cells'} c l n = leaf-took s cells cells' n (col (pair q m)) (rw (e (s.tags + 1) n)) refl c l
 
   pub literal-ok : {v next : ℕ} → ((tags n : ℕ) → field 8 file s.at tags n ≡ ok v next tags n) → v < 256 ^ 8 → {cells' : List ℕ} →
       cells' ≡ sets cells (3 * s.made) (1 ∷ v ∷ 0 ∷ []) → s.tags < max_tags →
-      RightCells read_literal file s (s.tags + 1) cells cells' (Done (spot next (s.tags + 1) (s.made + 1) s.row))
+      RightCells read_literal file s (s.tags + 1) cells cells' (Ok (spot next (s.tags + 1) (s.made + 1) s.row))
   unfolding read_literal expr_tags expr_cells
   literal-ok {v} e h {cells'} c l n =
       leaf-took s cells cells' n (lit (signed v)) (rw (e (s.tags + 1) n)) refl (rw (literal-number v (omega arith)).1 c) l
 
   module _ {t : ℕ} where
-    pub leaf-column : t ≡ 0 → (cells' : List ℕ) (r : Parsed) → RightCells read_column file s (s.tags + 1) cells cells' r → RightCells (leaf_rest t) file s (s.tags + 1) cells cells' r
+    pub leaf-column : t ≡ 0 → (cells' : List ℕ) (r : Result Spot Refusal) → RightCells read_column file s (s.tags + 1) cells cells' r → RightCells (leaf_rest t) file s (s.tags + 1) cells cells' r
     unfolding leaf_rest
     leaf-column h cells' r w = rw (eq-eqb t 0 h) w
 
-    pub leaf-literal : t ≡ 1 → (cells' : List ℕ) (r : Parsed) → RightCells read_literal file s (s.tags + 1) cells cells' r → RightCells (leaf_rest t) file s (s.tags + 1) cells cells' r
+    pub leaf-literal : t ≡ 1 → (cells' : List ℕ) (r : Result Spot Refusal) → RightCells read_literal file s (s.tags + 1) cells cells' r → RightCells (leaf_rest t) file s (s.tags + 1) cells cells' r
     unfolding leaf_rest
     leaf-literal h cells' r w = rw (ne_eqb t 0 (λ e. omega arith), eq-eqb t 1 h) w
 
     pub leaf-missing : (t ≡ 0 → ⊥) → (t ≡ 1 → ⊥) → {cells' : List ℕ} → cells' ≡ sets cells (3 * s.made) (2 ∷ 0 ∷ 0 ∷ []) → s.tags < max_tags →
-        RightCells (leaf_rest t) file s (s.tags + 1) cells cells' (Done (spot s.at (s.tags + 1) (s.made + 1) s.row))
+        RightCells (leaf_rest t) file s (s.tags + 1) cells cells' (Ok (spot s.at (s.tags + 1) (s.made + 1) s.row))
     unfolding leaf_rest expr_tags expr_cells
     leaf-missing h k {cells'} c l n = leaf-took s cells cells' n miss (rw (ne_eqb t 0 h, ne_eqb t 1 k)) refl c l
 
@@ -129,7 +128,7 @@ two_cells made m m' t a b cells c1 c2 c3 h k e f p q r =
 -- ── the answers of `read_expr` ──────────────────────────────────────────────────────────────
 
 -- what reading an expression leaves: a tag and a node more at least, and no more nodes than tags
-pub reads-grown : (file : List ℕ) (s : Spot) (cells cells' : List ℕ) (t : Spot) → Reads file s cells cells' (Done t) →
+pub reads-grown : (file : List ℕ) (s : Spot) (cells cells' : List ℕ) (t : Spot) → Reads file s cells cells' (Ok t) →
     (t.tags ≤ max_tags) × (s.tags < t.tags) × (s.made < t.made) × (s.tags + t.made ≤ s.made + t.tags) × (t.row ≡ s.row)
 reads-grown file s cells cells' t h =
     let w = h (suc max_tags) (omega arith) 0 in
@@ -155,14 +154,14 @@ module _ (file : List ℕ) (at tags : ℕ) (l : tags ≤ max_tags) where
 
 module _ (file : List ℕ) (s : Spot) (cells : List ℕ) (l : s.tags ≤ max_tags) where
   module _ {t from : ℕ} (e : (n : ℕ) → tag file s.at s.tags n ≡ ok t from (s.tags + 1) n) where
-    pub reads-leaf : t < 3 → (cells' : List ℕ) (r : Parsed) → RightCells (leaf_rest t) file (spot from s.tags s.made s.row) (s.tags + 1) cells cells' r → Reads file s cells cells' r
+    pub reads-leaf : t < 3 → (cells' : List ℕ) (r : Result Spot Refusal) → RightCells (leaf_rest t) file (spot from s.tags s.made s.row) (s.tags + 1) cells cells' r → Reads file s cells cells' r
     reads-leaf h cells' r w zero d n = absurd (omega arith)
     reads-leaf h cells' r w (suc deep) d n =
         right_as bare_store (spot from s.tags s.made s.row) s cells cells' [] [] n r refl refl (omega arith) (step-leaf deep file s.at s.tags n (e n) h) (w n)
 
     module _ (three : 3 ≤ t) (eleven : t ≤ 11) (c1 : List ℕ) where
-      module _ (a : Spot) (first : Reads file (spot from (s.tags + 1) s.made s.row) cells c1 (Done a)) where
-        pub reads-one : t < 5 → {c2 : List ℕ} → c2 ≡ sets c1 (3 * a.made) (t ∷ (a.made - 1) ∷ 0 ∷ []) → Reads file s cells c2 (Done (spot a.at a.tags (a.made + 1) a.row))
+      module _ (a : Spot) (first : Reads file (spot from (s.tags + 1) s.made s.row) cells c1 (Ok a)) where
+        pub reads-one : t < 5 → {c2 : List ℕ} → c2 ≡ sets c1 (3 * a.made) (t ∷ (a.made - 1) ∷ 0 ∷ []) → Reads file s cells c2 (Ok (spot a.at a.tags (a.made + 1) a.row))
         unfolding expr_tags
         reads-one k c zero d n = absurd (omega arith)
         reads-one k {c2} c (suc deep) d n =
@@ -185,8 +184,8 @@ module _ (file : List ℕ) (s : Spot) (cells : List ℕ) (l : s.tags ≤ max_tag
               let w = first deep (omega arith) n in
               step-second deep file s.at s.tags n (e n) w.is five eleven (second deep (omega (arith, w.grown)) n)
 
-          pub reads_two : (c2 : List ℕ) (b : Spot) → Reads file a c1 c2 (Done b) → {c3 : List ℕ} → c3 ≡ sets c2 (3 * b.made) (t ∷ (a.made - 1) ∷ (b.made - 1) ∷ []) →
-              Reads file s cells c3 (Done (spot b.at b.tags (b.made + 1) b.row))
+          pub reads_two : (c2 : List ℕ) (b : Spot) → Reads file a c1 c2 (Ok b) → {c3 : List ℕ} → c3 ≡ sets c2 (3 * b.made) (t ∷ (a.made - 1) ∷ (b.made - 1) ∷ []) →
+              Reads file s cells c3 (Ok (spot b.at b.tags (b.made + 1) b.row))
           unfolding expr_tags
           reads_two c2 b second c zero d n = absurd (omega arith)
           reads_two c2 b second {c3} c (suc deep) d n =

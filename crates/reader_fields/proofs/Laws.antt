@@ -1,65 +1,78 @@
 -- Laws of the readers of fields, one for each way that one can go. Assumes nothing.
-use Prim.Native.Nat.{ℕ, zero, suc, ◌+◌, ◌*◌, ◌-◌, ◌^◌, ◌≤◌, ◌<◌}
-use mathlib.Core.Path.{◌≡◌, refl, sym, ap, ◌∙◌}
+use Prim.Native.Nat.{ℕ, suc, ◌+◌, ◌*◌, ◌-◌, ◌^◌, ◌≤◌, ◌<◌}
+use mathlib.Core.Path.{◌≡◌, sym, ap, ◌∙◌}
 use mathlib.Core.Bool.{Bool, true, false}
-use mathlib.Core.List.{List}
+use mathlib.Core.List.{List, [], ◌∷◌, ◌++◌}
 use native.Mathlib.Omega.{arith}
-use native.Mathlib.Nat.{add_assoc, pow-succ', pow-le-pow_right}
-use native.Mathlib.Numerals.{sub-one}
-use lib.ListN.{length, get_or}
-use lib.Dec.{leb}
+use native.Mathlib.Nat.{pow-succ', pow-le-pow_right}
+use Rattle.std.proofs.lemmas.List.{length-take-le, length-drop, get_or-take, get_or-drop}
+use lib.ListN.{length, get_or, take, drop, length-append, get_or-append}
+use lib.Seq.{get_or-append_seam}
 use borrow.Author.Tests.{lt-ltb, le-ltb, le-leb, lt-leb, eq-eqb, ne_eqb}
 use Rattle.cpl.specs.Limits.{max_tags}
 use Rattle.cpl.specs.Codes.{CUT, VALUE, MANY}
-use Rattle.cpl.specs.Plan.{Pair, pair}
-use Rattle.cpl.specs.Read.{Res, ok, bad, little, field, value, is_not, nonzero, below, count, tag}
+use Rattle.cpl.specs.Plan.{pair}
+use Rattle.cpl.specs.Read.{ok, bad, little, field, value, is_not, nonzero, count, tag}
 use Rattle.cpl.specs.ReadExpr.{read_pair}
 use Rattle.reader_fields.specs.Answers.{From}
 
 -- ── numbers ─────────────────────────────────────────────────────────────────────────────────
 
-pub no_bytes : (k : ℕ) (file : List ℕ) (at : ℕ) → k ≡ 0 → (0 ≡ little k file at) × (0 < 256 ^ k)
+-- a byte before a number
+one_more : (i : ℕ) (file : List ℕ) (at b n : ℕ) → n ≡ little i file (at + 1) → n < 256 ^ i → b ≡ get_or file at 0 → b < 256 → (256 * n + b ≡ little (suc i) file at) × (256 * n + b < 256 ^ suc i)
 unfolding little
-no_bytes k file at e = rw e (refl, omega arith)
+one_more i file at b n e l f m = (omega (arith, e, f), omega (arith, pow-succ' 256 i))
 
-little-more : (k : ℕ) (file : List ℕ) (at : ℕ) → (k ≡ 0 → ⊥) → little k file at ≡ get_or file at 0 + 256 * little (k - 1) file (at + 1)
-unfolding little
-little-more zero file at h = absurd (h refl)
-little-more (suc k) file at h = rw (sub-one (suc k))
+-- of the k bytes from `at`, the first are left in `rest`, and n is what the others spell
+pub record Spelt (file : List ℕ) (at k : ℕ) (rest : List ℕ) (n : ℕ) : Type 0 where
+  pub few : length rest ≤ k
+  pub same : (j : ℕ) → j < length rest → get_or rest j 0 ≡ get_or file (at + j) 0
+  pub value : n ≡ little (k - length rest) file (at + length rest)
+  pub below : n < 256 ^ (k - length rest)
 
-pow_more : (k : ℕ) → (k ≡ 0 → ⊥) → 256 ^ k ≡ 256 * 256 ^ (k - 1)
-pow_more zero h = absurd (h refl)
-pow_more (suc k) h = rw (sub-one (suc k)) (pow-succ' 256 k)
+module _ (file : List ℕ) (at k : ℕ) where
+  pub none_spelt : at + k ≤ length file → (rest : List ℕ) → rest ≡ take (at + k - at) (drop at file) → Spelt file at k rest 0
+  unfolding little
+  none_spelt h rest e =
+      let s : rest ≡ take k (drop at file) = e ∙ ap (λ (i : ℕ). take i (drop at file)) (omega arith) in
+      let long : length rest ≡ k = ap length s ∙ length-take-le k (drop at file) (omega (arith, length-drop at file)) in
+      let none : k - length rest ≡ 0 = omega arith in
+      record {
+        few = omega arith;
+        same = λ j l. rw s (get_or-take k (drop at file) j 0 (omega arith) ∙ get_or-drop at file j 0);
+        value = rw none;
+        below = rw none (omega arith);
+      }
 
-pub more_bytes : (k : ℕ) (file : List ℕ) (at low high : ℕ) → (k ≡ 0 → ⊥) → low ≡ get_or file at 0 → low < 256 → high ≡ little (k - 1) file (at + 1) → high < 256 ^ (k - 1) →
-    (low + 256 * high ≡ little k file at) × (low + 256 * high < 256 ^ k)
-more_bytes k file at low high h e l f m = (omega (arith, little-more k file at h), omega (arith, pow_more k h))
+  module _ (rest rest' : List ℕ) (n b : ℕ) (s : Spelt file at k rest n) (e : rest ≡ rest' ++ b ∷ []) where
+    longer : length rest ≡ length rest' + 1
+    longer = ap length e ∙ length-append rest' (b ∷ [])
 
-pub few_bytes : (k high : ℕ) → k ≤ 8 → high < 256 ^ (k - 1) → high < 256 ^ 7
-few_bytes k high h l = let g : 256 ^ (k - 1) ≤ 256 ^ 7 = pow-le-pow_right {n = 256} (omega arith) {i = k - 1} {j = 7} (omega arith) in omega arith
+    pub one_spelt : ((j : ℕ) → get_or file j 0 < 256) → Spelt file at k rest' (256 * n + b)
+    one_spelt fits =
+        let first : b ≡ get_or file (at + length rest') 0 = sym (get_or-append_seam rest' b [] 0) ∙ ap (λ (r : List ℕ). get_or r (length rest') 0) (sym e) ∙ s.same (length rest') (omega (arith, longer)) in
+        let value : n ≡ little (k - length rest) file (at + length rest' + 1) = s.value ∙ ap (little (k - length rest) file) (omega (arith, longer)) in
+        let p = one_more (k - length rest) file (at + length rest') b n value s.below first (rw first (fits (at + length rest'))) in
+        let step : k - length rest' ≡ suc (k - length rest) = omega (arith, longer, s.few) in
+        record {
+          few = omega (arith, longer, s.few);
+          same = λ j l. sym (get_or-append rest' (b ∷ []) 0 j l) ∙ ap (λ (r : List ℕ). get_or r j 0) (sym e) ∙ s.same j (omega (arith, longer));
+          value = rw step p.0;
+          below = rw step p.1;
+        }
+
+    pub spelt_fits : k ≤ 8 → n < 256 ^ 7
+    spelt_fits l = let g : 256 ^ (k - length rest) ≤ 256 ^ 7 = pow-le-pow_right {n = 256} (omega arith) {i = k - length rest} {j = 7} (omega (arith, longer)) in omega (arith, s.below)
+
+  pub all_spelt : (rest : List ℕ) (n : ℕ) → Spelt file at k rest n → length rest ≡ 0 → (n ≡ little k file at) × (n < 256 ^ k)
+  all_spelt rest n s e =
+      let all : k - length rest ≡ k = omega arith in
+      let from : at + length rest ≡ at = omega arith in
+      (rw (all, from) at s.value, rw all at s.below)
 
 -- a number of at most two bytes
 pub narrow : (k x : ℕ) → k ≤ 2 → x < 256 ^ k → x < 65536
 narrow k x h l = let g : 256 ^ k ≤ 256 ^ 2 = pow-le-pow_right {n = 256} (omega arith) {i = k} {j = 2} (omega arith) in omega arith
-
--- a number that one half of its bytes and the other spell
-module _ (file : List ℕ) (at low high : ℕ) where
-  pub one_byte : low ≡ get_or file at 0 → low < 256 → (low ≡ little 1 file at) × (low < 256 ^ 1)
-  unfolding little
-  one_byte e l = (omega arith, omega arith)
-
-  pub two_bytes : low ≡ get_or file at 0 → low < 256 → high ≡ get_or file (at + 1) 0 → high < 256 → (low + 256 * high ≡ little 2 file at) × (low + 256 * high < 256 ^ 2)
-  unfolding little
-  two_bytes e l f m = (omega arith, omega arith)
-
-  pub four_bytes : low ≡ little 2 file at → low < 256 ^ 2 → high ≡ little 2 file (at + 2) → high < 256 ^ 2 → (low + 65536 * high ≡ little 4 file at) × (low + 65536 * high < 256 ^ 4)
-  unfolding little
-  four_bytes e l f m = (simp add_assoc (omega (arith, simp add_assoc at f)), omega arith)
-
-  pub eight_bytes : low ≡ little 4 file at → low < 256 ^ 4 → high ≡ little 4 file (at + 4) → high < 256 ^ 4 →
-      (low + 4294967296 * high ≡ little 8 file at) × (low + 4294967296 * high < 256 ^ 8)
-  unfolding little
-  eight_bytes e l f m = (simp add_assoc (omega (arith, simp add_assoc at e, simp add_assoc at f)), omega arith)
 
 -- ── fields ──────────────────────────────────────────────────────────────────────────────────
 

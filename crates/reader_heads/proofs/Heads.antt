@@ -1,21 +1,19 @@
 -- What the readers of nodes answer is right: a law for each way through one. Assumes nothing.
 use Prim.Native.Nat.{ℕ, zero, suc, ◌+◌, ◌*◌, ◌-◌, ◌^◌, ◌≤◌, ◌<◌}
 use mathlib.Core.Path.{◌≡◌, refl, sym, ap, ◌∙◌}
-use mathlib.Core.Bool.{Bool, true, false, not, ◌&&◌}
-use mathlib.Core.List.{List, [], ◌∷◌, ◌++◌, append-nil}
+use mathlib.Core.Bool.{Bool, not, ◌&&◌}
+use mathlib.Core.List.{List, [], ◌∷◌, append-nil}
 use mathlib.Core.Option.{Option, none, some}
 use native.Mathlib.Omega.{arith}
 use native.Mathlib.Nat.{add-zero}
 use lib.Dec.{eqb}
-use lib.ListN.{length, get_or}
-use lib.Seq.{sets}
+use lib.ListN.{length}
 use borrow.Author.Tests.{eq-eqb, ne_eqb}
-use Rattle.cpl.specs.Limits.{Version, max_tags, max_keys, no_fetch}
-use Rattle.cpl.specs.Codes.{VALUE, join_of, join_number, bit}
-use Rattle.cpl.specs.Plan.{Pair, Expr, Item, Key, Agg, Win, On, on, Leaf, scan, empty, Unary, projection, filter, sort, limit, aggregate, window, subquery_alias, distinct, Binary, union, join, Catalogue, names_of, item_expr}
-use Rattle.cpl.specs.Exprs.{expr_tags}
-use Rattle.cpl.specs.Bytes.{fetch_number}
-use Rattle.cpl.specs.Read.{Res, ok, bad, Reader, and_then, field, nonzero, index, below, count, counted, times, any, is_not, pick, give, ◌>>=◌}
+use Rattle.std.specs.Prelude.{Result, Ok, Err}
+use Rattle.cpl.specs.Limits.{Version, max_tags, max_keys}
+use Rattle.cpl.specs.Codes.{VALUE, join_of, bit}
+use Rattle.cpl.specs.Plan.{Expr, Item, On, on, scan, empty, projection, filter, sort, limit, aggregate, window, subquery_alias, distinct, union, join, Catalogue, names_of}
+use Rattle.cpl.specs.Read.{Res, ok, bad, and_then, field, nonzero, index, below, count, counted, times, any, is_not}
 use Rattle.cpl.specs.ReadExpr.{read_pair, read_expr, read_item, read_key, read_agg, read_win, read_on}
 use Rattle.cpl.specs.ReadPlan.{Head, h0, h1, h2, fetch_of, read_limit, read_aggregate, read_cond, read_join, read_columns, read_scan, read_empty, read_head}
 use Rattle.cpl.proofs.CodeTrip.{join-number, bit-number}
@@ -23,22 +21,21 @@ use Rattle.cpl.proofs.PartTrip.{fetch_number_lem}
 use Rattle.cpl.proofs.Codec.{Holds, holds-ok}
 use Rattle.versions.specs.Versions.{node_rows}
 use Rattle.tree.specs.Layout.{Store, root_of, all_cells, all_rows, all_nodes, all_rows_in, list_store, item_store, expr_store, key_store, agg_store, win_store, on_nodes, on_store, pair_store, column_store, columns_of, given, leaf_cells, leaf_rows, leaf_nodes, leaf_rows_in, leaf_node, unary_cells, unary_rows, unary_nodes, unary_rows_in, unary_node, cond_cells, cond_nodes, cond_root, binary_cells, binary_rows, binary_nodes, binary_rows_in, binary_node}
-use Rattle.reader_fields.specs.Answers.{spot, Took, Right, bare_store, Reads, From}
+use Rattle.reader_fields.specs.Answers.{spot, Took, bare_store, Reads, From}
 use Rattle.reader_fields.specs.declared.Spot.{Spot}
-use Rattle.reader_fields.specs.declared.Parsed.{Parsed}
-use Rattle.reader_fields.specs.declared.Parsed.TheVariants.{Done, Bad}
-use Rattle.reader_fields.proofs.Sets.{sets_then, right_as, expr_long, expr_some}
+use Rattle.refusals.specs.declared.Refusal.{Refusal}
+use Rattle.reader_fields.proofs.Sets.{sets_then, right_as, expr_some}
 use Rattle.reader_fields.proofs.Exprs.{Refuses}
 use Rattle.reader_parts.specs.Parts.{RightAt}
-use Rattle.reader_parts.proofs.Compose.{Sized, Split, took_then, took_as, took-rows, list-sized, all_one, times-length, many_nodes}
+use Rattle.reader_parts.proofs.Compose.{Sized, Split, took_as, list-sized, all_one, times-length, many_nodes}
 use Rattle.reader_parts.proofs.Counts.{counted-few, from-none-before, from-some-before}
-use Rattle.reader_parts.proofs.Parts.{expr_bad, expr_took, sized_of, key-some}
+use Rattle.reader_parts.proofs.Parts.{expr_bad, sized_of, key-some}
 use Rattle.reader_parts.proofs.Wins.{wins_rows}
 use Rattle.reader_parts.specs.declared.Kind.TheVariants as kind
 use Rattle.reader_heads.specs.declared.Node.{Node}
 use Rattle.reader_heads.specs.declared.Head as answer
 use Rattle.reader_heads.specs.declared.Head.TheVariants as answers
-use Rattle.reader_heads.specs.Heads.{RightHead, in_version, head_cells, head_rows, head_nodes, head_rows_in, head_store, numbers, NodeIs, TookHead, cond_store, columns_store, columns_rest, scan_rest}
+use Rattle.reader_heads.specs.Heads.{RightHead, in_version, head_cells, head_rows, head_nodes, head_rows_in, head_store, NodeIs, TookHead, cond_store, columns_store, columns_rest, scan_rest}
 
 -- the four numbers
 abbrev pub four : (n x y z : ℕ) → Node
@@ -90,7 +87,7 @@ head-bare v kind s next c w n node h p q f g e m l =
 
 -- the part starts at another offset than the node
 pub moved : {A : Type 0} (S : Store A) (s : Spot) (at : ℕ) (c c1 w w1 : List ℕ) (n : ℕ) {x : Res A} (t : Spot) → Took S (spot at s.tags s.made s.row) c c1 w w1 n x t → Took S s c c1 w w1 n x t
-moved S s at c c1 w w1 n t a = right_as S (spot at s.tags s.made s.row) s c c1 w w1 n (Done t) refl refl (omega arith) refl a
+moved S s at c c1 w w1 n t a = right_as S (spot at s.tags s.made s.row) s c c1 w w1 n (Ok t) refl refl (omega arith) refl a
 
 other : (v : Version) (kind filters : ℕ) (s : Spot) (at : ℕ) (c c1 w w1 : List ℕ) (n : ℕ) (t : Spot) (node : Node) {x x' : Res Head} {h : Head} → x' ≡ x →
     TookHead v kind filters (spot at s.tags s.made s.row) c c1 w w1 n x t node h → TookHead v kind filters s c c1 w w1 n x' t node h
@@ -114,15 +111,15 @@ other v kind filters s at c c1 w w1 n t node e b =
     }
 
 -- an answer for a node, where the reader started from another offset
-pub head_moved : (v : Version) (kind : ℕ) (s : Spot) (at : ℕ) (c c1 w w1 : List ℕ) (n : ℕ) {x x' : Res Head} (r : answer.Head) → x' ≡ x →
+pub head_moved : (v : Version) (kind : ℕ) (s : Spot) (at : ℕ) (c c1 w w1 : List ℕ) (n : ℕ) {x x' : Res Head} (r : Result answer.Head Refusal) → x' ≡ x →
     RightHead v kind (spot at s.tags s.made s.row) c c1 w w1 n x r → RightHead v kind s c c1 w w1 n x' r
-head_moved v kind s at c c1 w w1 n {x} {x'} (answers.Leaf t node filters) e a = (a.0, other v kind filters s at c c1 w w1 n t node e a.1)
-head_moved v kind s at c c1 w w1 n {x} {x'} (answers.One t node) e a = (a.0, other v kind 0 s at c c1 w w1 n t node e a.1)
-head_moved v kind s at c c1 w w1 n {x} {x'} (answers.Two t node) e a = (a.0, other v kind 0 s at c c1 w w1 n t node e a.1)
-head_moved v kind s at c c1 w w1 n (answers.Bad code place) e a = e ∙ a
+head_moved v kind s at c c1 w w1 n {x} {x'} (Ok (answers.Leaf t node filters)) e a = (a.0, other v kind filters s at c c1 w w1 n t node e a.1)
+head_moved v kind s at c c1 w w1 n {x} {x'} (Ok (answers.One t node)) e a = (a.0, other v kind 0 s at c c1 w w1 n t node e a.1)
+head_moved v kind s at c c1 w w1 n {x} {x'} (Ok (answers.Two t node)) e a = (a.0, other v kind 0 s at c c1 w w1 n t node e a.1)
+head_moved v kind s at c c1 w w1 n (Err e₁) e a = e ∙ a
 
 -- an answer for a node of a catalogue in its version
-pub head-version : (v : Version) (C : Catalogue) → C.version ≡ v → (place kind : ℕ) (file : List ℕ) (s : Spot) (c c1 w w1 : List ℕ) (n : ℕ) (r : answer.Head) →
+pub head-version : (v : Version) (C : Catalogue) → C.version ≡ v → (place kind : ℕ) (file : List ℕ) (s : Spot) (c c1 w w1 : List ℕ) (n : ℕ) (r : Result answer.Head Refusal) →
     RightHead v kind s c c1 w w1 n (read_head (in_version v C) place kind file s.at s.tags n) r → RightHead v kind s c c1 w w1 n (read_head C place kind file s.at s.tags n) r
 head-version v C e place kind file s c c1 w w1 n r h =
     head_moved v kind s s.at c c1 w w1 n r (ap (λ (w : Version). read_head (in_version w C) place kind file s.at s.tags n) e) h
@@ -346,18 +343,18 @@ module _ (file : List ℕ) (at tags : ℕ) where
   cond-bad e n = rw (e tags n)
 
 module _ (file : List ℕ) (s : Spot) (c : List ℕ) {x next : ℕ} (e : (tags n : ℕ) → below 2 file s.at tags n ≡ ok x next tags n) where
-  pub cond-none : x ≡ 0 → s.tags ≤ max_tags → RightAt cond_store read_cond file s s.tags c c [] [] (Done (spot next s.tags s.made s.row))
+  pub cond-none : x ≡ 0 → s.tags ≤ max_tags → RightAt cond_store read_cond file s s.tags c c [] [] (Ok (spot next s.tags s.made s.row))
   unfolding read_cond cond_cells cond_nodes
   cond-none h l n =
       record { value = none; is = rw (e s.tags n, eq-eqb x 0 h); made_is = omega arith; row_is = omega arith; cells_are = refl; rows_are = refl; grown = omega arith; few = l }
 
-  pub cond-right : (x ≡ 0 → ⊥) → (c1 : List ℕ) (r : Parsed) → Reads file (spot next s.tags s.made s.row) c c1 r → RightAt cond_store read_cond file s s.tags c c1 [] [] r
+  pub cond-right : (x ≡ 0 → ⊥) → (c1 : List ℕ) (r : Result Spot Refusal) → Reads file (spot next s.tags s.made s.row) c c1 r → RightAt cond_store read_cond file s s.tags c c1 [] [] r
   unfolding read_cond cond_cells cond_nodes
-  cond-right h c1 (Done t) a n =
+  cond-right h c1 (Ok t) a n =
       let b = a (suc max_tags) (omega arith) n in
-      right_as cond_store (spot next s.tags s.made s.row) s c c1 [] [] n (Done t) refl refl (omega arith) refl
+      right_as cond_store (spot next s.tags s.made s.row) s c c1 [] [] n (Ok t) refl refl (omega arith) refl
       (took_as cond_store b (some b.value) refl refl refl refl (rw (e s.tags n, ne_eqb x 0 h, b.is)))
-  cond-right h c1 (Bad code place) a n = rw (e s.tags n, ne_eqb x 0 h, a (suc max_tags) (omega arith) n)
+  cond-right h c1 (Err e₁) a n = rw (e s.tags n, ne_eqb x 0 h, a (suc max_tags) (omega arith) n)
 
 cond-numbers : (made m y z : ℕ) (c : Option Expr) → m ≡ made + cond_nodes c → (m ≡ made → y ≡ 0) → (made < m → y ≡ 1) → (m ≡ made → z ≡ 0) → (made < m → z ≡ m - 1) →
     (y ≡ bit (given c)) × (z ≡ cond_root made c)
@@ -412,20 +409,20 @@ columns-sized : Sized columns_store
 columns-sized = record { cells_long = λ made is. refl; rows_long = λ made is. (list-sized column_store (sized_of (kind.Column 0 0))).rows_long made (columns_of is) ∙ ap (λ (k : ℕ). 4 * k) (all_one column_store (λ y. refl) (columns_of is)) }
 
 module _ (v : Version) (columns x : ℕ) (file : List ℕ) where
-  pub columns-none : (s : Spot) (c w : List ℕ) → x ≡ 0 → s.tags ≤ max_tags → RightAt columns_store (columns_rest v columns x) file s s.tags c c w w (Done s)
+  pub columns-none : (s : Spot) (c w : List ℕ) → x ≡ 0 → s.tags ≤ max_tags → RightAt columns_store (columns_rest v columns x) file s s.tags c c w w (Ok s)
   unfolding columns_of all_rows
   columns-none s c w h l n =
       record { value = none; is = rw (eq-eqb x 0 h); made_is = omega arith; row_is = omega arith; cells_are = refl; rows_are = refl; grown = omega arith; few = l }
 
-  pub columns-right : (s : Spot) (c c1 w w1 : List ℕ) → (x ≡ 0 → ⊥) → (r : Parsed) →
+  pub columns-right : (s : Spot) (c c1 w w1 : List ℕ) → (x ≡ 0 → ⊥) → (r : Result Spot Refusal) →
       RightAt (list_store column_store) (counted v.wide any v.max_columns (index v.wide columns)) file s s.tags c c1 w w1 r →
       RightAt columns_store (columns_rest v columns x) file s s.tags c c1 w w1 r
   unfolding columns_of
-  columns-right s c c1 w w1 h (Done t) a n =
+  columns-right s c c1 w w1 h (Ok t) a n =
       let b = a n in
       took_as columns_store b (some b.value) (sym (plain-nodes column_store (λ y. refl) b.value)) (sym (all_one column_store (λ y. refl) b.value))
       (sym (plain_cells column_store (λ k y. refl) s.made b.value)) refl (rw (ne_eqb x 0 h, b.is))
-  columns-right s c c1 w w1 h (Bad code place) a n = rw (ne_eqb x 0 h, a n)
+  columns-right s c c1 w w1 h (Err e₁) a n = rw (ne_eqb x 0 h, a n)
 
 -- not too many, and given where x says so
 Columned : Version → (x : ℕ) → Option (List ℕ) → Type 0

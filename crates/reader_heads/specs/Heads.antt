@@ -1,12 +1,14 @@
 -- The answers for nodes without their inputs. Assumes nothing: these are definitions.
-use Rattle.std.specs.Prelude.{ℕ, ◌+◌, ◌*◌, ◌≤◌, ◌<◌, ◌≡◌, List, [], ◌∷◌, eqb, length, get_or}
+use Rattle.std.specs.Prelude.{ℕ, ◌+◌, ◌*◌, ◌≤◌, ◌<◌, ◌≡◌, List, [], ◌∷◌, eqb, length, get_or, Result, Ok, Err}
 use Rattle.std.proofs.Math.Option.{Option, none, some}
-use Rattle.cpl.specs.Limits.{Version, max_tags}
+use Rattle.cpl.specs.Limits.{Version}
 use Rattle.cpl.specs.Plan.{Expr, Leaf, scan, Unary, Binary, Catalogue, names_of}
 use Rattle.cpl.specs.Read.{Res, bad, Reader, ◌>>=◌, give, pick, index, any, counted}
 use Rattle.cpl.specs.ReadExpr.{read_expr}
 use Rattle.cpl.specs.ReadPlan.{Head, h0, h1, h2, read_head, read_columns}
 use Rattle.tree.specs.Layout.{Store, all_rows, column_store, columns_of, leaf_cells, leaf_rows, leaf_nodes, leaf_rows_in, leaf_node, unary_cells, unary_rows, unary_nodes, unary_rows_in, unary_node, cond_cells, cond_nodes, binary_cells, binary_rows, binary_nodes, binary_rows_in, binary_node}
+use Rattle.refusals.specs.Codes.{code_of}
+use Rattle.refusals.specs.declared.Refusal.{Refusal}
 use Rattle.versions.specs.Versions.{node_rows}
 use Rattle.reader_fields.specs.declared.Spot.{Spot}
 use Rattle.reader_fields.specs.Answers.{Took}
@@ -58,13 +60,13 @@ pub record TookHead (v : Version) (kind filters : ℕ) (from : Spot) (cells cell
   pub numbers_are : NodeIs kind filters from.made from.row node h
   pub few_rows : head_rows_in h ≤ node_rows v + head_nodes h
 
-abbrev pub RightHead : Version → (kind : ℕ) → Spot → (cells cells' rows rows' : List ℕ) → (n : ℕ) → Res Head → answer.Head → Type 0
-RightHead v kind from cells cells' rows rows' n x (head.Leaf t node filters) = (l : Leaf) × TookHead v kind filters from cells cells' rows rows' n x t node (h0 l)
-RightHead v kind from cells cells' rows rows' n x (head.One t node) = (u : Unary) × TookHead v kind 0 from cells cells' rows rows' n x t node (h1 u)
-RightHead v kind from cells cells' rows rows' n x (head.Two t node) = (b : Binary) × TookHead v kind 0 from cells cells' rows rows' n x t node (h2 b)
-RightHead v kind from cells cells' rows rows' n x (head.Bad code place) = x ≡ bad code place
+abbrev pub RightHead : Version → (kind : ℕ) → Spot → (cells cells' rows rows' : List ℕ) → (n : ℕ) → Res Head → Result answer.Head Refusal → Type 0
+RightHead v kind from cells cells' rows rows' n x (Ok (head.Leaf t node filters)) = (l : Leaf) × TookHead v kind filters from cells cells' rows rows' n x t node (h0 l)
+RightHead v kind from cells cells' rows rows' n x (Ok (head.One t node)) = (u : Unary) × TookHead v kind 0 from cells cells' rows rows' n x t node (h1 u)
+RightHead v kind from cells cells' rows rows' n x (Ok (head.Two t node)) = (b : Binary) × TookHead v kind 0 from cells cells' rows rows' n x t node (h2 b)
+RightHead v kind from cells cells' rows rows' n x (Err e) = x ≡ bad (code_of e.reason) e.place
 
-abbrev pub HeadAt : (kind : ℕ) → Catalogue → (file : List ℕ) → Spot → (cells cells' rows rows' : List ℕ) → answer.Head → Type 0
+abbrev pub HeadAt : (kind : ℕ) → Catalogue → (file : List ℕ) → Spot → (cells cells' rows rows' : List ℕ) → Result answer.Head Refusal → Type 0
 HeadAt kind C file from cells cells' rows rows' r =
     (place n : ℕ) → RightHead C.version kind from cells cells' rows rows' n (read_head C place kind file from.at from.tags n) r
 

@@ -8,8 +8,9 @@ ghost use Rattle.versions.specs.Versions.{version_of, Known, node_rows};
 ghost use Rattle.reader_parts.specs.Parts.{RightAt};
 ghost use Rattle.reader_heads.specs.Heads.{HeadAt, RightHead, cond_store, in_version, columns_store, columns_rest, scan_rest, Widths};
 
-use reader_fields::{Field, Parsed, Spot};
+use reader_fields::Spot;
 use reader_parts::Kind;
+use refusals::{Reason, Refusal};
 use versions::Version;
 
 // The last four numbers of a node: how many rows, and three that depend on the kind.
@@ -21,23 +22,26 @@ pub struct Node {
     pub z: u64,
 }
 
-// A node with no input, one or two, and where the reader stands after its own fields; or a refusal. A node with no input has its number of filters.
+const ZEROS: Node = Node {
+    n: 0,
+    x: 0,
+    y: 0,
+    z: 0,
+};
+
+// A node with no input, one or two, and where the reader stands after its own fields. A node with no input has its number of filters.
 #[derive(Clone, Copy)]
 pub enum Head {
     Leaf(Spot, Node, usize),
     One(Spot, Node),
     Two(Spot, Node),
-    Bad(u8, usize),
 }
 
-// Is there something from `from` to `to`?
+// Is there something from `from` to `to`? 1 where there is.
 fn flag(from: usize, to: usize) -> u64
     ensures { (to ≡ from → result ≡ 0) × (from < to → result ≡ 1) × (result ≤ 1) }
 {
-    if to == from {
-        return 0;
-    }
-    1
+    u64::from(to != from)
 }
 
 fn read_projection(
@@ -46,96 +50,67 @@ fn read_projection(
     version: Version,
     cells: &mut [u64],
     rows: &mut [u16],
-) -> Head
+) -> Result<Head, Refusal>
     requires { (s.made ≤ s.tags) × (s.tags ≤ 4096) × (12288 ≤ length cells.old) × (4 * (s.row + node_rows (version_of version) + (4096 - s.tags) + 32) ≤ length rows.old) × (version.wide ≤ 2) }
     ensures { (C : Catalogue) → HeadAt 1 (in_version (version_of version) C) file.now s cells.old cells.new rows.old rows.new result }
 {
     let k = version.wide;
     let most = version.items;
-    let list = reader_parts::read_list(file, s, Kind::Item, k, 0, most, cells, rows);
-    match list {
-        Parsed::Bad(code, place) => Head::Bad(code, place),
-        Parsed::Done(t) => Head::One(
-            t,
-            Node {
-                n: (t.row - s.row) as u64,
-                x: 0,
-                y: 0,
-                z: 0,
-            },
-        ),
-    }
+    let list = reader_parts::read_list(file, s, Kind::Item, k, 0, most, cells, rows)?;
+    Ok(Head::One(
+        list,
+        Node {
+            n: (list.row - s.row) as u64,
+            ..ZEROS
+        },
+    ))
 }
 
-fn read_filter(file: &[u8], s: Spot, cells: &mut [u64]) -> Head
+fn read_filter(file: &[u8], s: Spot, cells: &mut [u64]) -> Result<Head, Refusal>
     requires { (s.made ≤ s.tags) × (s.tags ≤ 4096) × (12288 ≤ length cells.old) }
     ensures { (C : Catalogue) (rows : List ℕ) → HeadAt 2 C file.now s cells.old cells.new rows rows result }
 {
-    let e = reader_fields::read_expr(file, s, cells);
-    match e {
-        Parsed::Bad(code, place) => Head::Bad(code, place),
-        Parsed::Done(t) => Head::One(
-            t,
-            Node {
-                n: 0,
-                x: (t.made - 1) as u64,
-                y: 0,
-                z: 0,
-            },
-        ),
-    }
+    let e = reader_fields::read_expr(file, s, cells)?;
+    Ok(Head::One(
+        e,
+        Node {
+            x: (e.made - 1) as u64,
+            ..ZEROS
+        },
+    ))
 }
 
-fn read_sort(file: &[u8], s: Spot, cells: &mut [u64], rows: &mut [u16]) -> Head
+fn read_sort(file: &[u8], s: Spot, cells: &mut [u64], rows: &mut [u16]) -> Result<Head, Refusal>
     requires { (s.made ≤ s.tags) × (s.tags ≤ 4096) × (12288 ≤ length cells.old) × (4 * (s.row + 32) ≤ length rows.old) }
     ensures { (C : Catalogue) → HeadAt 3 C file.now s cells.old cells.new rows.old rows.new result }
 {
-    let list = reader_parts::read_list(file, s, Kind::Key, 1, 1, 16, cells, rows);
-    match list {
-        Parsed::Bad(code, place) => Head::Bad(code, place),
-        Parsed::Done(t) => Head::One(
-            t,
-            Node {
-                n: (t.row - s.row) as u64,
-                x: 0,
-                y: 0,
-                z: 0,
-            },
-        ),
-    }
+    let list = reader_parts::read_list(file, s, Kind::Key, 1, 1, 16, cells, rows)?;
+    Ok(Head::One(
+        list,
+        Node {
+            n: (list.row - s.row) as u64,
+            ..ZEROS
+        },
+    ))
 }
 
-fn read_limit(file: &[u8], s: Spot) -> Head
+fn read_limit(file: &[u8], s: Spot) -> Result<Head, Refusal>
     requires { s.tags ≤ 4096 }
     ensures { (C : Catalogue) (cells rows : List ℕ) → HeadAt 4 C file.now s cells cells rows rows result }
 {
-    let skip = reader_fields::read_number(file, s.at, 4);
-    match skip {
-        Field::Bad(code, place) => Head::Bad(code, place),
-        Field::Got(x, after) => {
-            let fetch = reader_fields::read_number(file, after, 4);
-            match fetch {
-                Field::Bad(code, place) => Head::Bad(code, place),
-                Field::Got(y, next) => {
-                    let from = Spot {
-                        at: next,
-                        tags: s.tags,
-                        made: s.made,
-                        row: s.row,
-                    };
-                    Head::One(
-                        from,
-                        Node {
-                            n: 0,
-                            x: x,
-                            y: y,
-                            z: 0,
-                        },
-                    )
-                }
-            }
-        }
-    }
+    let skip = reader_fields::read_number(file, s.at, 4)?;
+    let fetch = reader_fields::read_number(file, skip.next, 4)?;
+    Ok(Head::One(
+        Spot {
+            at: fetch.next,
+            ..s
+        },
+        Node {
+            x: skip.value,
+            y: fetch.value,
+            ..ZEROS
+        },
+    ))
 }
 
 fn read_aggregate(
@@ -144,155 +119,94 @@ fn read_aggregate(
     version: Version,
     cells: &mut [u64],
     rows: &mut [u16],
-) -> Head
+) -> Result<Head, Refusal>
     requires { (s.made ≤ s.tags) × (s.tags ≤ 4096) × (12288 ≤ length cells.old) × (4 * (s.row + node_rows (version_of version) + (4096 - s.tags) + 32) ≤ length rows.old) × (version.wide ≤ 2) }
     ensures { (C : Catalogue) → HeadAt 5 (in_version (version_of version) C) file.now s cells.old cells.new rows.old rows.new result }
 {
     let k = version.wide;
     let most = version.items;
-    let groups = reader_parts::read_list(file, s, Kind::Item, k, 0, most, cells, rows);
-    match groups {
-        Parsed::Bad(code, place) => Head::Bad(code, place),
-        Parsed::Done(t) => {
-            let some = flag(s.row, t.row);
-            let least = 1 - some;
-            let values = reader_parts::read_list(file, t, Kind::Agg, k, least, most, cells, rows);
-            match values {
-                Parsed::Bad(code, place) => Head::Bad(code, place),
-                Parsed::Done(u) => Head::One(
-                    u,
-                    Node {
-                        n: (t.row - s.row) as u64,
-                        x: (u.row - t.row) as u64,
-                        y: 0,
-                        z: 0,
-                    },
-                ),
-            }
-        }
-    }
+    let groups = reader_parts::read_list(file, s, Kind::Item, k, 0, most, cells, rows)?;
+    let least = 1 - flag(s.row, groups.row);
+    let values = reader_parts::read_list(file, groups, Kind::Agg, k, least, most, cells, rows)?;
+    Ok(Head::One(
+        values,
+        Node {
+            n: (groups.row - s.row) as u64,
+            x: (values.row - groups.row) as u64,
+            ..ZEROS
+        },
+    ))
 }
 
-fn read_window(file: &[u8], s: Spot, version: Version, cells: &mut [u64], rows: &mut [u16]) -> Head
+fn read_window(
+    file: &[u8],
+    s: Spot,
+    version: Version,
+    cells: &mut [u64],
+    rows: &mut [u16],
+) -> Result<Head, Refusal>
     requires { (s.made ≤ s.tags) × (s.tags ≤ 4096) × (12288 ≤ length cells.old) × (4 * (s.row + node_rows (version_of version) + (4096 - s.tags) + 32) ≤ length rows.old) × (version.wide ≤ 2) }
     ensures { (C : Catalogue) → HeadAt 6 (in_version (version_of version) C) file.now s cells.old cells.new rows.old rows.new result }
 {
-    let count = reader_fields::read_count(file, s.at, version.wide, 1, version.items);
-    match count {
-        Field::Bad(code, place) => Head::Bad(code, place),
-        Field::Got(n, next) => {
-            let from = Spot {
-                at: next,
-                tags: s.tags,
-                made: s.made,
-                row: s.row,
-            };
-            let list = reader_parts::read_wins(file, from, n, cells, rows);
-            match list {
-                Parsed::Bad(code, place) => Head::Bad(code, place),
-                Parsed::Done(t) => Head::One(
-                    t,
-                    Node {
-                        n,
-                        x: 0,
-                        y: 0,
-                        z: 0,
-                    },
-                ),
-            }
-        }
-    }
+    let count = reader_fields::read_count(file, s.at, version.wide, 1, version.items)?;
+    let from = Spot {
+        at: count.next,
+        ..s
+    };
+    let list = reader_parts::read_wins(file, from, count.value, cells, rows)?;
+    Ok(Head::One(
+        list,
+        Node {
+            n: count.value,
+            ..ZEROS
+        },
+    ))
 }
 
-fn read_alias(file: &[u8], s: Spot) -> Head
+fn read_alias(file: &[u8], s: Spot) -> Result<Head, Refusal>
     requires { s.tags ≤ 4096 }
     ensures { (C : Catalogue) (cells rows : List ℕ) → HeadAt 7 C file.now s cells cells rows rows result }
 {
-    let name = reader_fields::read_name(file, s.at);
-    match name {
-        Field::Bad(code, place) => Head::Bad(code, place),
-        Field::Got(q, next) => {
-            let from = Spot {
-                at: next,
-                tags: s.tags,
-                made: s.made,
-                row: s.row,
-            };
-            Head::One(
-                from,
-                Node {
-                    n: 0,
-                    x: q,
-                    y: 0,
-                    z: 0,
-                },
-            )
-        }
-    }
+    let name = reader_fields::read_name(file, s.at)?;
+    Ok(Head::One(
+        Spot { at: name.next, ..s },
+        Node {
+            x: name.value,
+            ..ZEROS
+        },
+    ))
 }
 
 // A join's condition, if it has one.
-fn read_cond(file: &[u8], s: Spot, cells: &mut [u64]) -> Parsed
+fn read_cond(file: &[u8], s: Spot, cells: &mut [u64]) -> Result<Spot, Refusal>
     requires { (s.made ≤ s.tags) × (s.tags ≤ 4096) × (12288 ≤ length cells.old) }
     ensures { RightAt cond_store read_cond file.now s s.tags cells.old cells.new [] [] result }
 {
-    let some = reader_fields::read_below(file, s.at, 2);
-    match some {
-        Field::Bad(code, place) => Parsed::Bad(code, place),
-        Field::Got(x, next) => {
-            let from = Spot {
-                at: next,
-                tags: s.tags,
-                made: s.made,
-                row: s.row,
-            };
-            if x == 0 {
-                return Parsed::Done(from);
-            }
-            reader_fields::read_expr(file, from, cells)
-        }
+    let some = reader_fields::read_below(file, s.at, 2)?;
+    let from = Spot { at: some.next, ..s };
+    if some.value == 0 {
+        return Ok(from);
     }
+    reader_fields::read_expr(file, from, cells)
 }
 
-fn read_join(file: &[u8], s: Spot, cells: &mut [u64], rows: &mut [u16]) -> Head
+fn read_join(file: &[u8], s: Spot, cells: &mut [u64], rows: &mut [u16]) -> Result<Head, Refusal>
     requires { (s.made ≤ s.tags) × (s.tags ≤ 4096) × (12288 ≤ length cells.old) × (4 * (s.row + 32) ≤ length rows.old) }
     ensures { (C : Catalogue) → HeadAt 10 C file.now s cells.old cells.new rows.old rows.new result }
 {
-    let kind = reader_fields::read_below(file, s.at, 8);
-    match kind {
-        Field::Bad(code, place) => Head::Bad(code, place),
-        Field::Got(x, next) => {
-            let from = Spot {
-                at: next,
-                tags: s.tags,
-                made: s.made,
-                row: s.row,
-            };
-            let pairs = reader_parts::read_list(file, from, Kind::On, 1, 0, 16, cells, rows);
-            match pairs {
-                Parsed::Bad(code, place) => Head::Bad(code, place),
-                Parsed::Done(t) => {
-                    let cond = read_cond(file, t, cells);
-                    match cond {
-                        Parsed::Bad(code, place) => Head::Bad(code, place),
-                        Parsed::Done(u) => {
-                            let y = flag(t.made, u.made);
-                            let z = reader_parts::root(t.made, u.made);
-                            Head::Two(
-                                u,
-                                Node {
-                                    n: (t.row - s.row) as u64,
-                                    x,
-                                    y,
-                                    z,
-                                },
-                            )
-                        }
-                    }
-                }
-            }
-        }
-    }
+    let kind = reader_fields::read_below(file, s.at, 8)?;
+    let from = Spot { at: kind.next, ..s };
+    let pairs = reader_parts::read_list(file, from, Kind::On, 1, 0, 16, cells, rows)?;
+    let cond = read_cond(file, pairs, cells)?;
+    Ok(Head::Two(
+        cond,
+        Node {
+            n: (pairs.row - s.row) as u64,
+            x: kind.value,
+            y: flag(pairs.made, cond.made),
+            z: reader_parts::root(pairs.made, cond.made),
+        },
+    ))
 }
 
 // A scan's column indices below `columns`, where x is not 0.
@@ -304,12 +218,12 @@ fn read_columns(
     columns: u64,
     cells: &mut [u64],
     rows: &mut [u16],
-) -> Parsed
+) -> Result<Spot, Refusal>
     requires { (s.made ≤ s.tags) × (s.tags ≤ 4096) × (12288 ≤ length cells.old) × (4 * s.row + 4 * version.columns ≤ length rows.old) × (version.wide ≤ 2) }
     ensures { RightAt columns_store (columns_rest (version_of version) columns x) file.now s s.tags cells.old cells.new rows.old rows.new result }
 {
     if x == 0 {
-        return Parsed::Done(s);
+        return Ok(s);
     }
     let kind = Kind::Column(version.wide, columns);
     reader_parts::read_list(file, s, kind, version.wide, 0, version.columns, cells, rows)
@@ -325,53 +239,26 @@ fn read_over(
     columns: u64,
     cells: &mut [u64],
     rows: &mut [u16],
-) -> Head
+) -> Result<Head, Refusal>
     requires { (s.made ≤ s.tags) × (s.tags ≤ 4096) × (12288 ≤ length cells.old) × (4 * (s.row + node_rows (version_of version) + (4096 - s.tags) + 32) ≤ length rows.old) × (version.wide ≤ 2) × (version.late ≤ 2) × (version.columns + version.filters ≤ 2 * version.items) }
     ensures { (n : ℕ) → RightHead (version_of version) 11 s cells.old cells.new rows.old rows.new n (scan_rest (version_of version) t q columns file.now s.at s.tags n) result }
 {
-    let some = reader_fields::read_below(file, s.at, 2);
-    match some {
-        Field::Bad(code, place) => Head::Bad(code, place),
-        Field::Got(x, next) => {
-            let from = Spot {
-                at: next,
-                tags: s.tags,
-                made: s.made,
-                row: s.row,
-            };
-            let list = read_columns(file, from, x, version, columns, cells, rows);
-            match list {
-                Parsed::Bad(code, place) => Head::Bad(code, place),
-                Parsed::Done(u) => {
-                    let k = version.late;
-                    let most = version.filters;
-                    let filters = reader_parts::read_list(
-                        file,
-                        u,
-                        Kind::Expr,
-                        k,
-                        0,
-                        most,
-                        cells,
-                        rows,
-                    );
-                    match filters {
-                        Parsed::Bad(code, place) => Head::Bad(code, place),
-                        Parsed::Done(v) => Head::Leaf(
-                            v,
-                            Node {
-                                n: (u.row - s.row) as u64,
-                                x: t,
-                                y: q,
-                                z: x,
-                            },
-                            v.row - u.row,
-                        ),
-                    }
-                }
-            }
-        }
-    }
+    let some = reader_fields::read_below(file, s.at, 2)?;
+    let from = Spot { at: some.next, ..s };
+    let list = read_columns(file, from, some.value, version, columns, cells, rows)?;
+    let k = version.late;
+    let most = version.filters;
+    let filters = reader_parts::read_list(file, list, Kind::Expr, k, 0, most, cells, rows)?;
+    Ok(Head::Leaf(
+        filters,
+        Node {
+            n: (list.row - s.row) as u64,
+            x: t,
+            y: q,
+            z: some.value,
+        },
+        filters.row - list.row,
+    ))
 }
 
 fn read_scan(
@@ -382,68 +269,54 @@ fn read_scan(
     names: &[u16],
     cells: &mut [u64],
     rows: &mut [u16],
-) -> Head
+) -> Result<Head, Refusal>
     requires { (s.made ≤ s.tags) × (s.tags ≤ 4096) × (12288 ≤ length cells.old) × (4 * (s.row + node_rows (version_of version) + (4096 - s.tags) + 32) ≤ length rows.old) × (513 * tables ≤ length names.now) × (tables ≤ 16) × (version.wide ≤ 2) × (version.late ≤ 2) × (version.columns + version.filters ≤ 2 * version.items) }
     ensures { (C : Catalogue) → Widths names.now tables C → HeadAt 11 (in_version (version_of version) C) file.now s cells.old cells.new rows.old rows.new result }
 {
-    let table = reader_fields::read_below(file, s.at, tables);
-    match table {
-        Field::Bad(code, place) => Head::Bad(code, place),
-        Field::Got(t, after) => {
-            let name = reader_fields::read_name(file, after);
-            match name {
-                Field::Bad(code, place) => Head::Bad(code, place),
-                Field::Got(q, next) => {
-                    let base = 513 * (t as usize);
-                    let columns = names[base] as u64;
-                    let from = Spot {
-                        at: next,
-                        tags: s.tags,
-                        made: s.made,
-                        row: s.row,
-                    };
-                    read_over(file, from, t, q, version, columns, cells, rows)
-                }
-            }
-        }
-    }
+    let table = reader_fields::read_below(file, s.at, tables)?;
+    let name = reader_fields::read_name(file, table.next)?;
+    let base = 513 * (table.value as usize);
+    let columns = u64::from(names[base]);
+    let from = Spot { at: name.next, ..s };
+    read_over(
+        file,
+        from,
+        table.value,
+        name.value,
+        version,
+        columns,
+        cells,
+        rows,
+    )
 }
 
-fn read_empty(file: &[u8], s: Spot, version: Version, cells: &mut [u64], rows: &mut [u16]) -> Head
+fn read_empty(
+    file: &[u8],
+    s: Spot,
+    version: Version,
+    cells: &mut [u64],
+    rows: &mut [u16],
+) -> Result<Head, Refusal>
     requires { (s.made ≤ s.tags) × (s.tags ≤ 4096) × (12288 ≤ length cells.old) × (4 * (s.row + node_rows (version_of version) + (4096 - s.tags) + 32) ≤ length rows.old) × (version.wide ≤ 2) }
     ensures { (C : Catalogue) → HeadAt 12 (in_version (version_of version) C) file.now s cells.old cells.new rows.old rows.new result }
 {
     let k = version.wide;
     let most = version.items;
-    let row = reader_fields::read_below(file, s.at, 2);
-    match row {
-        Field::Bad(code, place) => Head::Bad(code, place),
-        Field::Got(x, next) => {
-            let from = Spot {
-                at: next,
-                tags: s.tags,
-                made: s.made,
-                row: s.row,
-            };
-            let list = reader_parts::read_list(file, from, Kind::Pair, k, 0, most, cells, rows);
-            match list {
-                Parsed::Bad(code, place) => Head::Bad(code, place),
-                Parsed::Done(t) => Head::Leaf(
-                    t,
-                    Node {
-                        n: (t.row - s.row) as u64,
-                        x,
-                        y: 0,
-                        z: 0,
-                    },
-                    0,
-                ),
-            }
-        }
-    }
+    let row = reader_fields::read_below(file, s.at, 2)?;
+    let from = Spot { at: row.next, ..s };
+    let list = reader_parts::read_list(file, from, Kind::Pair, k, 0, most, cells, rows)?;
+    Ok(Head::Leaf(
+        list,
+        Node {
+            n: (list.row - s.row) as u64,
+            x: row.value,
+            ..ZEROS
+        },
+        0,
+    ))
 }
 
-// A node's own fields, after its tag t that stood at `place`. Each row of `names` has 513 numbers, of which the first says how many columns the table has.
+// A node's own fields, after its tag t that stood at `place`: document 01's number of the kind in the file format. Each row of `names` has 513 numbers, of which the first says how many columns the table has.
 pub fn read_head(
     file: &[u8],
     s: Spot,
@@ -454,7 +327,7 @@ pub fn read_head(
     names: &[u16],
     cells: &mut [u64],
     rows: &mut [u16],
-) -> Head
+) -> Result<Head, Refusal>
     requires made_le_tags { (s.made ≤ s.tags) × (s.tags ≤ 4096) × (12288 ≤ length cells.old) × (4 * (s.row + node_rows (version_of version) + (4096 - s.tags) + 32) ≤ length rows.old) × (513 * tables ≤ length names.now) × (tables ≤ 16) }
     requires known { Known version }
     ensures { (C : Catalogue) → C.version ≡ version_of version → Widths names.now tables C → (n : ℕ) → RightHead (version_of version) t s cells.old cells.new rows.old rows.new n (read_head C place t file.now s.at s.tags n) result }
@@ -467,27 +340,11 @@ pub fn read_head(
         5 => read_aggregate(file, s, version, cells, rows),
         6 => read_window(file, s, version, cells, rows),
         7 => read_alias(file, s),
-        8 => Head::Two(
-            s,
-            Node {
-                n: 0,
-                x: 0,
-                y: 0,
-                z: 0,
-            },
-        ),
-        9 => Head::One(
-            s,
-            Node {
-                n: 0,
-                x: 0,
-                y: 0,
-                z: 0,
-            },
-        ),
+        8 => Ok(Head::Two(s, ZEROS)),
+        9 => Ok(Head::One(s, ZEROS)),
         10 => read_join(file, s, cells, rows),
         11 => read_scan(file, s, version, tables, names, cells, rows),
         12 => read_empty(file, s, version, cells, rows),
-        _ => Head::Bad(4, place),
+        _ => Err(Refusal::new(Reason::Value, place)),
     }
 }

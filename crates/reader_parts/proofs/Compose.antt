@@ -6,14 +6,15 @@ use native.Mathlib.Omega.{arith}
 use native.Mathlib.Numerals.{sub-one}
 use lib.ListN.{length, length-append, set}
 use lib.Seq.{sets, set_comm}
+use Rattle.std.specs.Prelude.{Result, Ok, Err}
 use Rattle.cpl.specs.Limits.{max_tags}
 use Rattle.cpl.specs.Read.{Res, ok, bad, Reader, and_then, times}
 use Rattle.tree.specs.Layout.{Store, all_cells, all_rows, all_nodes, all_rows_in, list_store}
 use Rattle.cpl.proofs.Codec.{Holds, holds_then, holds-ok}
 use Rattle.reader_fields.specs.Answers.{spot, Took, Right, bare_store}
+use Rattle.refusals.specs.Codes.{code_of}
+use Rattle.refusals.specs.declared.Refusal.{Refusal}
 use Rattle.reader_fields.specs.declared.Spot.{Spot}
-use Rattle.reader_fields.specs.declared.Parsed.{Parsed}
-use Rattle.reader_fields.specs.declared.Parsed.TheVariants.{Done, Bad}
 use Rattle.reader_fields.proofs.Sets.{sets_append, sets_then, expr_long}
 
 -- ── readers ─────────────────────────────────────────────────────────────────────────────────
@@ -175,17 +176,43 @@ module _ {A : Type 0} (p : Reader A) (file : List ℕ) (at tags n k : ℕ) where
   times-bad h e = rw (times_more h, e)
 
 module _ {A : Type 0} (s : Store A) (p : Reader A) (file : List ℕ) (from : Spot) (k : ℕ) where
-  pub times_none : (cells rows : List ℕ) → k ≡ 0 → from.tags ≤ max_tags → (n : ℕ) → Right (list_store s) from cells cells rows rows n (times k p file from.at from.tags n) (Done from)
+  pub times_none : (cells rows : List ℕ) → k ≡ 0 → from.tags ≤ max_tags → (n : ℕ) → Right (list_store s) from cells cells rows rows n (times k p file from.at from.tags n) (Ok from)
   unfolding times all_cells all_rows all_nodes all_rows_in
   times_none cells rows e l n =
       record { value = []; is = rw e; made_is = omega arith; row_is = omega arith; cells_are = refl; rows_are = refl; grown = omega arith; few = l }
 
-  pub times-right : Sized s → (k ≡ 0 → ⊥) → {t : Spot} {c c1 w w1 : List ℕ} (c2 w2 : List ℕ) (n : ℕ) → Took s from c c1 w w1 n (p file from.at from.tags n) t → (r : Parsed) →
+  pub times-right : Sized s → (k ≡ 0 → ⊥) → {t : Spot} {c c1 w w1 : List ℕ} (c2 w2 : List ℕ) (n : ℕ) → Took s from c c1 w w1 n (p file from.at from.tags n) t → (r : Result Spot Refusal) →
       Right (list_store s) t c1 c2 w1 w2 n (times (k - 1) p file t.at t.tags n) r → Right (list_store s) from c c2 w w2 n (times k p file from.at from.tags n) r
   unfolding all_cells all_rows all_nodes all_rows_in
-  times-right z h c2 w2 n a (Done u) b =
+  times-right z h c2 w2 n a (Ok u) b =
       took_then (list_store s) z a b (a.value ∷ b.value) (record { nodes = refl; rows_in = refl; cells = refl; rows = refl }) (rw (times_more p file from.at from.tags n k h, a.is, b.is))
-  times-right z h c2 w2 n a (Bad code place) b = rw (times_more p file from.at from.tags n k h, a.is, b)
+  times-right z h c2 w2 n a (Err failed) b = rw (times_more p file from.at from.tags n k h, a.is, b)
+
+-- `left` of k parts are still to read, from the spot t on: what is right for them is right for all k
+pub record Underway {A : Type 0} (s : Store A) (p : Reader A) (file : List ℕ) (k left : ℕ) (from t : Spot) (c c1 w w1 : List ℕ) : Type 0 where
+  pub ends : (c2 w2 : List ℕ) (r : Result Spot Refusal) (n : ℕ) → Right (list_store s) t c1 c2 w1 w2 n (times left p file t.at t.tags n) r →
+      Right (list_store s) from c c2 w w2 n (times k p file from.at from.tags n) r
+  pub few : t.tags ≤ max_tags
+  pub grown : from.tags + t.made ≤ from.made + t.tags
+
+pub none_read : {A : Type 0} (s : Store A) (p : Reader A) (file : List ℕ) (k left : ℕ) (from : Spot) (c w : List ℕ) → left ≡ k → from.tags ≤ max_tags → Underway s p file k left from from c c w w
+none_read s p file k left from c w e l = record { ends = λ c2 w2 r n h. rw e at h; few = l; grown = omega arith }
+
+module _ {A : Type 0} {s : Store A} {p : Reader A} {file : List ℕ} {k left : ℕ} {from t : Spot} {c c1 w w1 : List ℕ} (u : Underway s p file k left from t c c1 w w1) where
+  pub one_read : Sized s → (left ≡ 0 → ⊥) → (left' : ℕ) → left' ≡ left - 1 → {t' : Spot} {c2 w2 : List ℕ} → ((n : ℕ) → Took s t c1 c2 w1 w2 n (p file t.at t.tags n) t') →
+      Underway s p file k left' from t' c c2 w w2
+  one_read z h left' e a =
+      record {
+        ends = λ c3 w3 r n b. u.ends c3 w3 r n (times-right s p file t left z h c3 w3 n (a n) r (rw e at b));
+        few = (a 0).few;
+        grown = omega (arith, u.grown, (a 0).grown, (a 0).made_is);
+      }
+
+  pub one_refused : (left ≡ 0 → ⊥) → (e : Refusal) → ((n : ℕ) → p file t.at t.tags n ≡ bad (code_of e.reason) e.place) → (n : ℕ) → times k p file from.at from.tags n ≡ bad (code_of e.reason) e.place
+  one_refused h e b n = u.ends c1 w1 (Err e) n (times-bad p file t.at t.tags n left h (b n))
+
+  pub all_read : left ≡ 0 → (n : ℕ) → Right (list_store s) from c c1 w w1 n (times k p file from.at from.tags n) (Ok t)
+  all_read h n = u.ends c1 w1 (Ok t) n (times_none s p file t left c1 w1 h u.few n)
 
 -- as many as were asked for
 pub times-holds : {A : Type 0} (k : ℕ) (p : Reader A) (file : List ℕ) (at tags n : ℕ) → Holds (λ xs a t m. length xs ≡ k) (times k p file at tags n)

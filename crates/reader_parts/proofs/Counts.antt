@@ -1,12 +1,12 @@
 -- Counts: which are allowed, and how long a list is that was read. Assumes nothing.
-use Prim.Native.Nat.{ℕ, zero, suc, ◌≤◌, ◌<◌}
+use Prim.Native.Nat.{ℕ, zero, suc, ◌≤◌}
 use mathlib.Core.Path.{◌≡◌, refl, sym, ◌∙◌}
 use mathlib.Core.Bool.{Bool, true, false, not, ◌&&◌}
 use mathlib.Core.List.{List}
 use native.Mathlib.Omega.{arith}
 use lib.Dec.{leb, eqb}
 use lib.ListN.{length}
-use borrow.Author.Tests.{le-leb, lt-leb, leb-true, eq-eqb, ne_eqb}
+use borrow.Author.Tests.{le-leb, leb-true, eq-eqb, ne_eqb}
 use Rattle.cpl.specs.Codes.{MANY}
 use Rattle.cpl.specs.Read.{Res, ok, bad, Reader, pick, give, refuse, value, is_not, any, count, times, counted}
 use Rattle.cpl.proofs.Codec.{Holds, holds_then, holds-ok}

@@ -1,33 +1,33 @@
 -- What the readers of parts answer is right: a law for each way through one. Assumes nothing.
-use Prim.Native.Nat.{ℕ, zero, suc, ◌+◌, ◌*◌, ◌-◌, ◌/◌, ◌%◌, ◌≤◌, ◌<◌}
+use Prim.Native.Nat.{ℕ, suc, ◌+◌, ◌*◌, ◌-◌, ◌/◌, ◌%◌, ◌≤◌, ◌<◌}
 use mathlib.Core.Path.{◌≡◌, refl, sym, ap, ◌∙◌}
 use mathlib.Core.Bool.{Bool, true, false}
-use mathlib.Core.List.{List, [], ◌∷◌, ◌++◌}
+use mathlib.Core.List.{List, [], ◌∷◌}
 use native.Mathlib.Omega.{arith}
-use lib.Dec.{eqb, leb}
+use lib.Dec.{eqb}
 use lib.ListN.{length, length-append}
 use lib.Seq.{sets}
 use borrow.Author.Tests.{eq-eqb, ne_eqb, eqb-true, eqb-false}
-use Rattle.cpl.specs.Limits.{max_tags, max_keys}
-use Rattle.cpl.specs.Codes.{VALUE, bit, fn_of, fn_number}
-use Rattle.cpl.specs.Plan.{Pair, pair, Expr, col, Item, bare, named, item_expr, Key, key, Call, rows, over, Agg, agg, On, on}
+use Rattle.std.specs.Prelude.{Result, Ok, Err}
+use Rattle.cpl.specs.Limits.{max_tags}
+use Rattle.cpl.specs.Codes.{VALUE, fn_of}
+use Rattle.cpl.specs.Plan.{Pair, pair, Expr, bare, named, item_expr, Key, key, Call, rows, over, Agg, agg, On, on}
 use Rattle.cpl.specs.Exprs.{expr_tags}
 use Rattle.cpl.specs.Bytes.{call_number}
-use Rattle.cpl.specs.Read.{Res, ok, bad, Reader, and_then, index, below, tag, times, count, counted, any}
-use Rattle.cpl.specs.ReadExpr.{read_pair, read_expr, expr_to, read_bare, read_alias, read_item, read_key, read_call, read_agg, read_on}
-use Rattle.cpl.proofs.Codec.{Holds, holds_then, holds-ok, holds-pick}
+use Rattle.cpl.specs.Read.{Res, ok, bad, Reader, and_then, index, below, tag, times, count, counted}
+use Rattle.cpl.specs.ReadExpr.{read_pair, read_expr, read_bare, read_alias, read_item, read_key, read_call, read_agg, read_on}
+use Rattle.cpl.proofs.Codec.{Holds, holds_then, holds-ok}
 use Rattle.cpl.proofs.CodeTrip.{flags-number, fn_number_lem}
 use Rattle.tree.specs.Layout.{Store, expr_cells, root_of, pair_row, item_row, item_store, key_cells, key_row, key_nodes, key_store, expr_store, call_cells, call_nodes, call_root, agg_cells, agg_row, agg_nodes, agg_store, on_cells, on_row, on_nodes, on_store, pair_store, column_store, list_store}
-use Rattle.reader_fields.specs.Answers.{spot, Took, Right, bare_store, Reads, From}
+use Rattle.reader_fields.specs.Answers.{spot, Took, bare_store, Reads}
+use Rattle.refusals.specs.declared.Refusal.{Refusal}
 use Rattle.reader_fields.specs.declared.Spot.{Spot}
-use Rattle.reader_fields.specs.declared.Parsed.{Parsed}
-use Rattle.reader_fields.specs.declared.Parsed.TheVariants.{Done, Bad}
 use Rattle.reader_fields.proofs.Sets.{right_as, expr_long, expr_some}
 use Rattle.reader_fields.proofs.Exprs.{Refuses}
-use Rattle.reader_parts.specs.Parts.{RightAt, Thing, store_of, reader_of, member_store, call_store, agg_rest}
+use Rattle.reader_parts.specs.Parts.{RightAt, Thing, store_of, member_store, call_store, agg_rest}
 use Rattle.reader_parts.specs.declared.Kind.{Kind}
 use Rattle.reader_parts.specs.declared.Kind.TheVariants as kind
-use Rattle.reader_parts.proofs.Compose.{Sized, Split, took_then, took-row, took_one, took-rows, took_as, bare-sized}
+use Rattle.reader_parts.proofs.Compose.{Sized, took_then, took-row, took_one, took-rows, took_as, bare-sized}
 
 -- ── expressions ─────────────────────────────────────────────────────────────────────────────
 
@@ -35,7 +35,7 @@ pub expr_bad : (file : List ℕ) (at tags : ℕ) {code place : ℕ} → Refuses 
 expr_bad file at tags h n = h (suc max_tags) (omega arith) n
 
 -- an expression, whatever the rows are
-pub expr_took : (file : List ℕ) (s : Spot) (c c1 : List ℕ) (t : Spot) → Reads file s c c1 (Done t) → (w : List ℕ) (n : ℕ) → Took bare_store s c c1 w w n (read_expr file s.at s.tags n) t
+pub expr_took : (file : List ℕ) (s : Spot) (c c1 : List ℕ) (t : Spot) → Reads file s c c1 (Ok t) → (w : List ℕ) (n : ℕ) → Took bare_store s c c1 w w n (read_expr file s.at s.tags n) t
 expr_took file s c c1 t h w n = took-rows w (λ made a. refl) (h (suc max_tags) (omega arith) n)
 
 -- a row that ends with the root of an expression
@@ -47,7 +47,7 @@ unfolding root_of
 member S s c c1 w w2 n t a f y z u p q g h e i =
     took-row S bare-sized a (y ∷ z ∷ u ∷ (t.made - 1) ∷ []) e (f a.value) (p a.value) (q a.value) (g a.value) (h a.value ∙ rw a.made_is) i
 
-pub member-took : (file : List ℕ) (s : Spot) (c c1 w w2 : List ℕ) (t : Spot) (x : ℕ) → Reads file s c c1 (Done t) → w2 ≡ sets w (4 * t.row) (x ∷ 0 ∷ 0 ∷ (t.made - 1) ∷ []) →
+pub member-took : (file : List ℕ) (s : Spot) (c c1 w w2 : List ℕ) (t : Spot) (x : ℕ) → Reads file s c c1 (Ok t) → w2 ≡ sets w (4 * t.row) (x ∷ 0 ∷ 0 ∷ (t.made - 1) ∷ []) →
     (n : ℕ) → Took (member_store x) s c c1 w w2 n (read_expr file s.at s.tags n) (spot t.at t.tags t.made (t.row + 1))
 member-took file s c c1 w w2 t x h e n =
     let a = expr_took file s c c1 t h w n in
@@ -104,16 +104,16 @@ module _ (file : List ℕ) (s : Spot) where
       }
 
   pub alias-took : {q m next : ℕ} → ((tags n : ℕ) → read_pair file s.at tags n ≡ ok (pair q m) next tags n) → (c c1 w w1 : List ℕ) (t : Spot) →
-      Reads file (spot next (s.tags + 1) s.made s.row) c c1 (Done t) → w1 ≡ sets w (4 * t.row) (q ∷ m ∷ 1 ∷ (t.made - 1) ∷ []) →
+      Reads file (spot next (s.tags + 1) s.made s.row) c c1 (Ok t) → w1 ≡ sets w (4 * t.row) (q ∷ m ∷ 1 ∷ (t.made - 1) ∷ []) →
       (n : ℕ) → Took item_store s c c1 w w1 n (read_alias file s.at (s.tags + 1) n) (spot t.at t.tags t.made (t.row + 1))
   unfolding read_alias item_expr item_row pair_row
   alias-took {q} {m} {next} e c c1 w w1 t h f n =
       let from = spot next (s.tags + 1) s.made s.row in
       let a = expr_took file from c c1 t h w n in
-      right_as item_store from s c c1 w w1 n (Done (spot t.at t.tags t.made (t.row + 1))) refl refl (omega arith) refl
+      right_as item_store from s c c1 w w1 n (Ok (spot t.at t.tags t.made (t.row + 1))) refl refl (omega arith) refl
       (member item_store from c c1 w w1 n t a (λ x. named (pair q m) x) q m 1 (λ x. refl) (λ x. refl) (λ x. refl) (λ x. refl) f (rw (e (s.tags + 1) n, a.is)))
 
-  module _ {t next : ℕ} (e : (n : ℕ) → tag file s.at s.tags n ≡ ok t next (s.tags + 1) n) (c c1 w w1 : List ℕ) (r : Parsed) where
+  module _ {t next : ℕ} (e : (n : ℕ) → tag file s.at s.tags n ≡ ok t next (s.tags + 1) n) (c c1 w w1 : List ℕ) (r : Result Spot Refusal) where
     pub item-is-bare : t ≡ 0 → RightAt item_store read_bare file (spot next s.tags s.made s.row) (s.tags + 1) c c1 w w1 r → RightAt item_store read_item file s s.tags c c1 w w1 r
     item-is-bare h a n = right_as item_store (spot next s.tags s.made s.row) s c c1 w w1 n r refl refl (omega arith) (item-bare file s.at s.tags e h n) (a n)
 
@@ -126,15 +126,15 @@ pub key-bad : (file : List ℕ) (at tags : ℕ) {code place : ℕ} → ((tags n 
 unfolding read_key
 key-bad file at tags e n = rw (e tags n)
 
-pub key_right : (file : List ℕ) (s : Spot) {x next : ℕ} → ((tags n : ℕ) → below 4 file s.at tags n ≡ ok x next tags n) → x < 4 → (c c1 w w1 : List ℕ) (r : Parsed) →
+pub key_right : (file : List ℕ) (s : Spot) {x next : ℕ} → ((tags n : ℕ) → below 4 file s.at tags n ≡ ok x next tags n) → x < 4 → (c c1 w w1 : List ℕ) (r : Result Spot Refusal) →
     RightAt (member_store x) read_expr file (spot next s.tags s.made s.row) s.tags c c1 w w1 r → RightAt key_store read_key file s s.tags c c1 w w1 r
 unfolding read_key key_cells key_row key_nodes
-key_right file s {x} {next} e l c c1 w w1 (Done t) h n =
+key_right file s {x} {next} e l c c1 w w1 (Ok t) h n =
     let from = spot next s.tags s.made s.row in
     let a = h n in
-    right_as key_store from s c c1 w w1 n (Done t) refl refl (omega arith) refl
+    right_as key_store from s c c1 w w1 n (Ok t) refl refl (omega arith) refl
     (took_as key_store a (key (eqb (x % 2) 1) (eqb (x / 2) 1) a.value) refl refl refl (rw (flags-number x l)) (rw (e s.tags n, a.is)))
-key_right file s e l c c1 w w1 (Bad code place) h n = rw (e s.tags n, h n)
+key_right file s e l c c1 w w1 (Err failed) h n = rw (e s.tags n, h n)
 
 -- ── functions ───────────────────────────────────────────────────────────────────────────────
 
@@ -143,16 +143,16 @@ unfolding call_cells call_nodes
 call_sized = record { cells_long = λ made g. elim g as (λ k. length (call_store.cells_of made k) ≡ 3 * call_store.nodes_in k) [ rows ↦ refl | over f e ↦ expr_long made e ]; rows_long = λ made g. refl }
 
 module _ (file : List ℕ) (s : Spot) (f : ℕ) (c : List ℕ) where
-  pub call_none : f ≡ 0 → s.tags ≤ max_tags → RightAt call_store (read_call f) file s s.tags c c [] [] (Done s)
+  pub call_none : f ≡ 0 → s.tags ≤ max_tags → RightAt call_store (read_call f) file s s.tags c c [] [] (Ok s)
   unfolding read_call call_cells call_nodes
   call_none h l n = record { value = rows; is = rw (eq-eqb f 0 h); made_is = omega arith; row_is = omega arith; cells_are = refl; rows_are = refl; grown = omega arith; few = l }
 
-  pub call_right : (f ≡ 0 → ⊥) → (c1 : List ℕ) (r : Parsed) → Reads file s c c1 r → RightAt call_store (read_call f) file s s.tags c c1 [] [] r
+  pub call_right : (f ≡ 0 → ⊥) → (c1 : List ℕ) (r : Result Spot Refusal) → Reads file s c c1 r → RightAt call_store (read_call f) file s s.tags c c1 [] [] r
   unfolding read_call call_cells call_nodes
-  call_right h c1 (Done t) a n =
+  call_right h c1 (Ok t) a n =
       let b = a (suc max_tags) (omega arith) n in
       took_as call_store b (over (fn_of f) b.value) refl refl refl refl (rw (ne_eqb f 0 h, b.is))
-  call_right h c1 (Bad code place) a n = rw (ne_eqb f 0 h, a (suc max_tags) (omega arith) n)
+  call_right h c1 (Err failed) a n = rw (ne_eqb f 0 h, a (suc max_tags) (omega arith) n)
 
 pub any-holds : {A : Type 0} (r : Res A) → Holds (λ x a t m. Unit {0}) r
 any-holds (ok x a t m) = tt
@@ -197,19 +197,19 @@ value_row file from q m f l c c1 w w1 t n b e z o g i =
     (rw (call_number_lem f l file from.at from.tags n b.is, call_root_lem from.made t.made e b.value b.made_is z o)) (rw (i, b.is))
 
 pub value-took : (file : List ℕ) (s : Spot) (q m : ℕ) {f next : ℕ} → ((tags n : ℕ) → below 5 file s.at tags n ≡ ok f next tags n) → f < 5 → (c c1 w w1 : List ℕ) (t : Spot) →
-    RightAt call_store (read_call f) file (spot next s.tags s.made s.row) s.tags c c1 [] [] (Done t) → (e : ℕ) → (t.made ≡ s.made → e ≡ 0) → (s.made < t.made → e ≡ t.made - 1) →
+    RightAt call_store (read_call f) file (spot next s.tags s.made s.row) s.tags c c1 [] [] (Ok t) → (e : ℕ) → (t.made ≡ s.made → e ≡ 0) → (s.made < t.made → e ≡ t.made - 1) →
     w1 ≡ sets w (4 * t.row) (q ∷ m ∷ f ∷ e ∷ []) →
     (n : ℕ) → Took agg_store s c c1 w w1 n (agg_rest (pair q m) file s.at s.tags n) (spot t.at t.tags t.made (t.row + 1))
 value-took file s q m {f} {next} h l c c1 w w1 t a e z o g n =
     let from = spot next s.tags s.made s.row in
-    right_as agg_store from s c c1 w w1 n (Done (spot t.at t.tags t.made (t.row + 1))) refl refl (omega arith) refl
+    right_as agg_store from s c c1 w w1 n (Ok (spot t.at t.tags t.made (t.row + 1))) refl refl (omega arith) refl
     (value_row file from q m f l c c1 w w1 t n (took-rows w (λ made x. refl) (a n)) e z o g (rw (h s.tags n)))
 
 pub agg-bad : (file : List ℕ) (at tags : ℕ) {code place : ℕ} → ((tags n : ℕ) → read_pair file at tags n ≡ bad code place) → (n : ℕ) → read_agg file at tags n ≡ bad code place
 unfolding read_agg
 agg-bad file at tags e n = rw (e tags n)
 
-pub agg-right : (file : List ℕ) (s : Spot) {c : Pair} {next : ℕ} → ((tags n : ℕ) → read_pair file s.at tags n ≡ ok c next tags n) → (c0 c1 w w1 : List ℕ) (r : Parsed) →
+pub agg-right : (file : List ℕ) (s : Spot) {c : Pair} {next : ℕ} → ((tags n : ℕ) → read_pair file s.at tags n ≡ ok c next tags n) → (c0 c1 w w1 : List ℕ) (r : Result Spot Refusal) →
     RightAt agg_store (agg_rest c) file (spot next s.tags s.made s.row) s.tags c0 c1 w w1 r → RightAt agg_store read_agg file s s.tags c0 c1 w w1 r
 unfolding read_agg
 agg-right file s {c} {next} e c0 c1 w w1 r h n = right_as agg_store (spot next s.tags s.made s.row) s c0 c1 w w1 n r refl refl (omega arith) (rw (e s.tags n)) (h n)
@@ -244,12 +244,12 @@ on_both file s t c c1 c2 w w1 n a d =
     (record { nodes = refl; rows_in = refl; cells = refl; rows = ap (λ (k : ℕ). 0 ∷ 0 ∷ (k - 1) ∷ root_of (s.made + expr_tags a.value) d.value ∷ []) (sym a.made_is) })
     (rw (a.is, d.is))
 
-module _ (file : List ℕ) (s : Spot) (c c1 : List ℕ) (t : Spot) (first : Reads file s c c1 (Done t)) where
+module _ (file : List ℕ) (s : Spot) (c c1 : List ℕ) (t : Spot) (first : Reads file s c c1 (Ok t)) where
   pub on-second-bad : {code place : ℕ} → Refuses file t.at t.tags code place → (n : ℕ) → read_on file s.at s.tags n ≡ bad code place
   unfolding read_on
   on-second-bad h n = rw ((expr_took file s c c1 t first [] n).is, expr_bad file t.at t.tags h n)
 
-  pub on-took : (c2 w w1 : List ℕ) (u : Spot) → Reads file t c1 c2 (Done u) → w1 ≡ sets w (4 * u.row) (0 ∷ 0 ∷ (t.made - 1) ∷ (u.made - 1) ∷ []) →
+  pub on-took : (c2 w w1 : List ℕ) (u : Spot) → Reads file t c1 c2 (Ok u) → w1 ≡ sets w (4 * u.row) (0 ∷ 0 ∷ (t.made - 1) ∷ (u.made - 1) ∷ []) →
       (n : ℕ) → Took on_store s c c2 w w1 n (read_on file s.at s.tags n) (spot u.at u.tags u.made (u.row + 1))
   on-took c2 w w1 u second g n =
       let b = expr_took file t c1 c2 u second w n in
@@ -311,7 +311,7 @@ module _ {A : Type 0} (wide : ℕ) (allowed : ℕ → Bool) (limit : ℕ) (p : R
   unfolding counted
   list-bad at tags e n = rw (e tags n)
 
-  pub list_right : (S : Store A) (s : Spot) {k next : ℕ} → ((tags n : ℕ) → count wide allowed limit file s.at tags n ≡ ok k next tags n) → (c c1 w w1 : List ℕ) (r : Parsed) →
+  pub list_right : (S : Store A) (s : Spot) {k next : ℕ} → ((tags n : ℕ) → count wide allowed limit file s.at tags n ≡ ok k next tags n) → (c c1 w w1 : List ℕ) (r : Result Spot Refusal) →
       RightAt (list_store S) (times k p) file (spot next s.tags s.made s.row) s.tags c c1 w w1 r → RightAt (list_store S) (counted wide allowed limit p) file s s.tags c c1 w w1 r
   unfolding counted
   list_right S s {k} {next} e c c1 w w1 r h n = right_as (list_store S) (spot next s.tags s.made s.row) s c c1 w w1 n r refl refl (omega arith) (rw (e s.tags n)) (h n)

@@ -5,6 +5,7 @@ use mathlib.Core.List.{List, [], ◌∷◌, ◌++◌}
 use native.Mathlib.Omega.{arith}
 use lib.ListN.{length, length-append}
 use lib.Seq.{sets}
+use Rattle.std.specs.Prelude.{Result, Ok, Err}
 use Rattle.cpl.specs.Limits.{max_keys}
 use Rattle.cpl.specs.Plan.{Pair, pair, Expr, Key, Call, Win, win}
 use Rattle.cpl.specs.Bytes.{call_number}
@@ -13,9 +14,8 @@ use Rattle.cpl.specs.ReadExpr.{read_pair, read_expr, read_key, read_call, read_w
 use Rattle.cpl.proofs.Codec.{holds_then, holds-ok}
 use Rattle.tree.specs.Layout.{pair_row, expr_store, key_store, call_cells, win_cells, win_rows, win_nodes, win_rows_in, win_store, list_store, all_cells, all_rows, all_nodes, all_rows_in}
 use Rattle.reader_fields.specs.Answers.{spot, Took}
+use Rattle.refusals.specs.declared.Refusal.{Refusal}
 use Rattle.reader_fields.specs.declared.Spot.{Spot}
-use Rattle.reader_fields.specs.declared.Parsed.{Parsed}
-use Rattle.reader_fields.specs.declared.Parsed.TheVariants.{Done, Bad}
 use Rattle.reader_fields.proofs.Sets.{sets_then, right_as, expr_some}
 use Rattle.reader_parts.specs.Parts.{RightAt, call_store, Rest, rest, read_rest, rest_cells, rest_rows, rest_nodes, rest_rows_in, rest_store, win_rest}
 use Rattle.reader_parts.proofs.Compose.{Sized, sets-before, list-sized, all_one, many_nodes, times-length}
@@ -153,17 +153,17 @@ over-took file s q m f p next l c c1 c2 w w1 w2 w3 t u h n a e b =
 
 pub over-right : (file : List ℕ) (s : Spot) (q m : ℕ) {f after p next : ℕ} → ((tags n : ℕ) → below 5 file s.at tags n ≡ ok f after tags n) → f < 5 →
     ((tags n : ℕ) → count 1 any max_keys file after tags n ≡ ok p next tags n) → (c c1 c2 w w1 w2 w3 : List ℕ) (t : Spot) → w1 ≡ sets w (4 * s.row) (q ∷ m ∷ f ∷ p ∷ []) →
-    RightAt (list_store expr_store) (times p read_expr) file (spot next s.tags s.made (s.row + 1)) s.tags c c1 w1 w2 (Done t) → (r : Parsed) →
+    RightAt (list_store expr_store) (times p read_expr) file (spot next s.tags s.made (s.row + 1)) s.tags c c1 w1 w2 (Ok t) → (r : Result Spot Refusal) →
     RightAt rest_store (read_rest f) file t t.tags c1 c2 w2 w3 r → RightAt win_store (win_rest (pair q m)) file s s.tags c c2 w w3 r
-over-right file s q m {f} {after} {p} {next} e l h c c1 c2 w w1 w2 w3 t g a (Done u) b n =
+over-right file s q m {f} {after} {p} {next} e l h c c1 c2 w w1 w2 w3 t g a (Ok u) b n =
     over-took file s q m f p next l c c1 c2 w w1 w2 w3 t u g n (a n) (over-step (pair q m) file s.at s.tags e h n (a n).is) (b n)
-over-right file s q m {f} {after} {p} {next} e l h c c1 c2 w w1 w2 w3 t g a (Bad code place) b n = over-step (pair q m) file s.at s.tags e h n (a n).is ∙ rw (b n)
+over-right file s q m {f} {after} {p} {next} e l h c c1 c2 w w1 w2 w3 t g a (Err failed) b n = over-step (pair q m) file s.at s.tags e h n (a n).is ∙ rw (b n)
 
 pub win-bad : (file : List ℕ) (at tags : ℕ) {code place : ℕ} → ((tags n : ℕ) → read_pair file at tags n ≡ bad code place) → (n : ℕ) → read_win file at tags n ≡ bad code place
 unfolding read_win
 win-bad file at tags e n = rw (e tags n)
 
-pub win-right : (file : List ℕ) (s : Spot) {c : Pair} {next : ℕ} → ((tags n : ℕ) → read_pair file s.at tags n ≡ ok c next tags n) → (c0 c1 w w1 : List ℕ) (r : Parsed) →
+pub win-right : (file : List ℕ) (s : Spot) {c : Pair} {next : ℕ} → ((tags n : ℕ) → read_pair file s.at tags n ≡ ok c next tags n) → (c0 c1 w w1 : List ℕ) (r : Result Spot Refusal) →
     RightAt win_store (win_rest c) file (spot next s.tags s.made s.row) s.tags c0 c1 w w1 r → RightAt win_store read_win file s s.tags c0 c1 w w1 r
 unfolding read_win
 win-right file s {c} {next} e c0 c1 w w1 r h n = right_as win_store (spot next s.tags s.made s.row) s c0 c1 w w1 n r refl refl (omega arith) (rw (e s.tags n)) (h n)

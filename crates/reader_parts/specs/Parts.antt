@@ -1,20 +1,20 @@
 -- What a list can hold, how it is read and how it is stored; and the answers for parts of nodes.
 -- Assumes nothing: these are definitions.
-use Rattle.std.specs.Prelude.{ℕ, ◌+◌, List, [], ◌∷◌, ◌++◌, length}
+use Rattle.std.specs.Prelude.{ℕ, ◌+◌, List, [], ◌∷◌, ◌++◌, length, Result}
 use Rattle.cpl.specs.Limits.{max_keys}
 use Rattle.cpl.specs.Plan.{Pair, Expr, Item, Key, Call, Agg, agg, Win, win, On}
 use Rattle.cpl.specs.Exprs.{expr_tags}
 use Rattle.cpl.specs.Read.{Reader, ◌>>=◌, give, index, below, any, counted}
 use Rattle.cpl.specs.ReadExpr.{read_pair, read_expr, read_item, read_key, read_call, read_agg, read_on}
 use Rattle.tree.specs.Layout.{Store, expr_cells, root_of, all_cells, all_rows, all_nodes, item_store, expr_store, key_store, call_cells, call_nodes, call_root, agg_store, on_store, pair_store, column_store}
+use Rattle.refusals.specs.declared.Refusal.{Refusal}
 use Rattle.reader_fields.specs.declared.Spot.{Spot}
-use Rattle.reader_fields.specs.declared.Parsed.{Parsed}
 use Rattle.reader_fields.specs.Answers.{Right}
 use Rattle.reader_parts.specs.declared.Kind.{Kind}
 use Rattle.reader_parts.specs.declared.Kind.TheVariants as kind
 
 -- the answer for what p reads at a spot, with so many tags before
-abbrev pub RightAt : {A : Type 0} → Store A → Reader A → (file : List ℕ) → Spot → (tags : ℕ) → (cells cells' rows rows' : List ℕ) → Parsed → Type 0
+abbrev pub RightAt : {A : Type 0} → Store A → Reader A → (file : List ℕ) → Spot → (tags : ℕ) → (cells cells' rows rows' : List ℕ) → Result Spot Refusal → Type 0
 RightAt s p file from tags cells cells' rows rows' r = (n : ℕ) → Right s from cells cells' rows rows' n (p file from.at tags n) r
 
 -- ── what a list holds ───────────────────────────────────────────────────────────────────────

@@ -1,4 +1,4 @@
-// The parts of a plan's nodes, one after the other: their expressions go into cells, and a row for each into rows.
+//! The parts of a plan's nodes, one after the other: their expressions go into cells, and a row for each into rows.
 #![tactic(auto)]
 
 ghost use Rattle.std.specs.Prelude.{◌≡◌, Bool, List, [], ◌∷◌, ℕ, ◌+◌, ◌*◌, ◌-◌, ◌≤◌, ◌<◌, length};
@@ -10,9 +10,11 @@ ghost use Rattle.tree.specs.Layout.{item_store, key_store, agg_store, win_store,
 ghost use Rattle.reader_fields.specs.Answers.{From};
 ghost use Rattle.reader_parts.specs.Parts.{RightAt, bytes_of, store_of, reader_of, member_store, call_store, read_rest, rest_store, agg_rest, win_rest};
 
-use reader_fields::{Field, PairField, Parsed, Spot};
+use reader_fields::Spot;
+use refusals::{Reason, Refusal};
 
-// What a list holds. A column index has so many bytes, and is below the number given.
+/// What a list holds. A column index has so many bytes, and is below the number given.
+// An enum: a list's kind is chosen by its caller and looked at once for each part, and a trait with a type for each kind would be no plainer.
 #[derive(Clone, Copy)]
 pub enum Kind {
     Item,
@@ -24,19 +26,15 @@ pub enum Kind {
     Column(usize, u64),
 }
 
-// The four numbers of a row.
+/// The four numbers of a row.
 fn put_row(rows: &mut [u16], row: usize, a: u64, b: u64, c: u64, d: u64)
     requires { (4 * row + 4 ≤ length rows.old) × (a < 65536) × (b < 65536) × (c < 65536) × (d < 65536) }
     ensures { rows.new ≡ sets rows.old (4 * row) (a ∷ b ∷ c ∷ d ∷ []) }
 {
-    let base = 4 * row;
-    rows[base] = a as u16;
-    rows[base + 1] = b as u16;
-    rows[base + 2] = c as u16;
-    rows[base + 3] = d as u16;
+    rows[4 * row..4 * row + 4].copy_from_slice(&[a as u16, b as u16, c as u16, d as u16]);
 }
 
-// The root of an expression whose nodes are those from `from` to `to`, or 0 where there is none.
+/// The root of an expression whose nodes are those from `from` to `to`, or 0 where there is none.
 pub fn root(from: usize, to: usize) -> u64
     requires { from ≤ to }
     ensures { (to ≡ from → result ≡ 0) × (from < to → result ≡ to - 1) × (result ≤ to) }
@@ -47,246 +45,186 @@ pub fn root(from: usize, to: usize) -> u64
     (to - 1) as u64
 }
 
-// The rest of a bare item, after its tag, which is counted here.
-fn read_bare(file: &[u8], s: Spot, cells: &mut [u64], rows: &mut [u16]) -> Parsed
+/// The rest of a bare item, after its tag, which is counted here.
+fn read_bare(file: &[u8], s: Spot, cells: &mut [u64], rows: &mut [u16]) -> Result<Spot, Refusal>
     requires { (s.made ≤ s.tags + 4096) × (s.tags < 4096) × (3 * s.made + 12288 ≤ 3 * s.tags + length cells.old) × (4 * s.row + 4 ≤ length rows.old) }
     ensures { RightAt item_store read_bare file.now s (s.tags + 1) cells.old cells.new rows.old rows.new result }
 {
-    let pair = reader_fields::read_pair(file, s.at);
-    match pair {
-        PairField::Bad(code, place) => Parsed::Bad(code, place),
-        PairField::Got(q, n, next) => {
-            reader_fields::put(cells, s.made, 0, q, n);
-            put_row(rows, s.row, q, n, 0, s.made as u64);
-            Parsed::Done(Spot {
-                at: next,
-                tags: s.tags + 1,
-                made: s.made + 1,
-                row: s.row + 1,
-            })
-        }
-    }
-}
-
-// The rest of an aliased item, after its tag, which is counted here.
-fn read_alias(file: &[u8], s: Spot, cells: &mut [u64], rows: &mut [u16]) -> Parsed
-    requires { (s.made ≤ s.tags + 4096) × (s.tags < 4096) × (3 * s.made + 12288 ≤ 3 * s.tags + length cells.old) × (4 * s.row + 4 ≤ length rows.old) }
-    ensures { RightAt item_store read_alias file.now s (s.tags + 1) cells.old cells.new rows.old rows.new result }
-{
-    let pair = reader_fields::read_pair(file, s.at);
-    match pair {
-        PairField::Bad(code, place) => Parsed::Bad(code, place),
-        PairField::Got(q, n, next) => {
-            let from = Spot {
-                at: next,
-                tags: s.tags + 1,
-                made: s.made,
-                row: s.row,
-            };
-            let e = reader_fields::read_expr(file, from, cells);
-            let Parsed::Done(t) = e else {
-                return e;
-            };
-            put_row(rows, t.row, q, n, 1, (t.made - 1) as u64);
-            Parsed::Done(Spot {
-                at: t.at,
-                tags: t.tags,
-                made: t.made,
-                row: t.row + 1,
-            })
-        }
-    }
-}
-
-// An item of a projection or a group list: a column, or an alias.
-fn read_item(file: &[u8], s: Spot, cells: &mut [u64], rows: &mut [u16]) -> Parsed
-    requires { (s.made ≤ s.tags + 4096) × (s.tags ≤ 4096) × (3 * s.made + 12288 ≤ 3 * s.tags + length cells.old) × (4 * s.row + 4 ≤ length rows.old) }
-    ensures { RightAt item_store read_item file.now s s.tags cells.old cells.new rows.old rows.new result }
-{
-    let at = s.at;
-    let tag = reader_fields::read_tag(file, at, s.tags);
-    match tag {
-        Field::Bad(code, place) => Parsed::Bad(code, place),
-        Field::Got(t, next) => {
-            let from = Spot {
-                at: next,
-                tags: s.tags,
-                made: s.made,
-                row: s.row,
-            };
-            match t {
-                0 => read_bare(file, from, cells, rows),
-                12 => read_alias(file, from, cells, rows),
-                _ => Parsed::Bad(4, at),
-            }
-        }
-    }
-}
-
-// An expression in a list.
-fn read_member(file: &[u8], s: Spot, x: u64, cells: &mut [u64], rows: &mut [u16]) -> Parsed
-    requires { (s.made ≤ s.tags + 4096) × (s.tags ≤ 4096) × (3 * s.made + 12288 ≤ 3 * s.tags + length cells.old) × (4 * s.row + 4 ≤ length rows.old) × (x < 65536) }
-    ensures { RightAt (member_store x) read_expr file.now s s.tags cells.old cells.new rows.old rows.new result }
-{
-    let e = reader_fields::read_expr(file, s, cells);
-    let Parsed::Done(t) = e else {
-        return e;
-    };
-    put_row(rows, t.row, x, 0, 0, (t.made - 1) as u64);
-    Parsed::Done(Spot {
-        at: t.at,
-        tags: t.tags,
-        made: t.made,
-        row: t.row + 1,
+    let pair = reader_fields::read_pair(file, s.at)?;
+    reader_fields::put(cells, s.made, 0, pair.qualifier, pair.name);
+    put_row(rows, s.row, pair.qualifier, pair.name, 0, s.made as u64);
+    Ok(Spot {
+        at: pair.next,
+        tags: s.tags + 1,
+        made: s.made + 1,
+        row: s.row + 1,
     })
 }
 
-// A key: its flags and its expression.
-fn read_key(file: &[u8], s: Spot, cells: &mut [u64], rows: &mut [u16]) -> Parsed
-    requires { (s.made ≤ s.tags + 4096) × (s.tags ≤ 4096) × (3 * s.made + 12288 ≤ 3 * s.tags + length cells.old) × (4 * s.row + 4 ≤ length rows.old) }
-    ensures { RightAt key_store read_key file.now s s.tags cells.old cells.new rows.old rows.new result }
+/// The rest of an aliased item, after its tag, which is counted here.
+fn read_alias(file: &[u8], s: Spot, cells: &mut [u64], rows: &mut [u16]) -> Result<Spot, Refusal>
+    requires { (s.made ≤ s.tags + 4096) × (s.tags < 4096) × (3 * s.made + 12288 ≤ 3 * s.tags + length cells.old) × (4 * s.row + 4 ≤ length rows.old) }
+    ensures { RightAt item_store read_alias file.now s (s.tags + 1) cells.old cells.new rows.old rows.new result }
 {
-    let flags = reader_fields::read_below(file, s.at, 4);
-    match flags {
-        Field::Bad(code, place) => Parsed::Bad(code, place),
-        Field::Got(x, next) => {
-            let from = Spot {
-                at: next,
-                tags: s.tags,
-                made: s.made,
-                row: s.row,
-            };
-            read_member(file, from, x, cells, rows)
-        }
+    let pair = reader_fields::read_pair(file, s.at)?;
+    let from = Spot {
+        at: pair.next,
+        tags: s.tags + 1,
+        ..s
+    };
+    let t = reader_fields::read_expr(file, from, cells)?;
+    put_row(
+        rows,
+        t.row,
+        pair.qualifier,
+        pair.name,
+        1,
+        (t.made - 1) as u64,
+    );
+    Ok(Spot {
+        row: t.row + 1,
+        ..t
+    })
+}
+
+/// An item of a projection or a group list: a column, or an alias.
+fn read_item(file: &[u8], s: Spot, cells: &mut [u64], rows: &mut [u16]) -> Result<Spot, Refusal>
+    requires { (s.made ≤ s.tags + 4096) × (s.tags ≤ 4096) × (3 * s.made + 12288 ≤ 3 * s.tags + length cells.old) × (4 * s.row + 4 ≤ length rows.old) }
+    ensures { RightAt item_store read_item file.now s s.tags cells.old cells.new rows.old rows.new result }
+{
+    let tag = reader_fields::read_tag(file, s.at, s.tags)?;
+    let from = Spot { at: tag.next, ..s };
+    match tag.value {
+        0 => read_bare(file, from, cells, rows),
+        12 => read_alias(file, from, cells, rows),
+        _ => Err(Refusal::new(Reason::Value, s.at)),
     }
 }
 
-// What function f has at the end: an expression, or nothing.
-fn read_call(file: &[u8], s: Spot, f: u64, cells: &mut [u64]) -> Parsed
+/// An expression in a list.
+fn read_member(
+    file: &[u8],
+    s: Spot,
+    x: u64,
+    cells: &mut [u64],
+    rows: &mut [u16],
+) -> Result<Spot, Refusal>
+    requires { (s.made ≤ s.tags + 4096) × (s.tags ≤ 4096) × (3 * s.made + 12288 ≤ 3 * s.tags + length cells.old) × (4 * s.row + 4 ≤ length rows.old) × (x < 65536) }
+    ensures { RightAt (member_store x) read_expr file.now s s.tags cells.old cells.new rows.old rows.new result }
+{
+    let t = reader_fields::read_expr(file, s, cells)?;
+    put_row(rows, t.row, x, 0, 0, (t.made - 1) as u64);
+    Ok(Spot {
+        row: t.row + 1,
+        ..t
+    })
+}
+
+/// A key: its flags and its expression.
+fn read_key(file: &[u8], s: Spot, cells: &mut [u64], rows: &mut [u16]) -> Result<Spot, Refusal>
+    requires { (s.made ≤ s.tags + 4096) × (s.tags ≤ 4096) × (3 * s.made + 12288 ≤ 3 * s.tags + length cells.old) × (4 * s.row + 4 ≤ length rows.old) }
+    ensures { RightAt key_store read_key file.now s s.tags cells.old cells.new rows.old rows.new result }
+{
+    let flags = reader_fields::read_below(file, s.at, 4)?;
+    read_member(
+        file,
+        Spot {
+            at: flags.next,
+            ..s
+        },
+        flags.value,
+        cells,
+        rows,
+    )
+}
+
+/// What function f has at the end: an expression, or nothing.
+fn read_call(file: &[u8], s: Spot, f: u64, cells: &mut [u64]) -> Result<Spot, Refusal>
     requires { (s.made ≤ s.tags + 4096) × (s.tags ≤ 4096) × (3 * s.made + 12288 ≤ 3 * s.tags + length cells.old) }
     ensures { RightAt call_store (read_call f) file.now s s.tags cells.old cells.new [] [] result }
 {
     if f == 0 {
-        return Parsed::Done(s);
+        return Ok(s);
     }
     reader_fields::read_expr(file, s, cells)
 }
 
-// What an aggregate has after its pair.
-fn read_value(file: &[u8], s: Spot, q: u64, n: u64, cells: &mut [u64], rows: &mut [u16]) -> Parsed
-    requires { (s.made ≤ s.tags + 4096) × (s.tags ≤ 4096) × (3 * s.made + 12288 ≤ 3 * s.tags + length cells.old) × (4 * s.row + 4 ≤ length rows.old) × (q < 65536) × (n < 65536) }
-    ensures { RightAt agg_store (agg_rest (pair q n)) file.now s s.tags cells.old cells.new rows.old rows.new result }
-{
-    let function = reader_fields::read_below(file, s.at, 5);
-    match function {
-        Field::Bad(code, place) => Parsed::Bad(code, place),
-        Field::Got(f, next) => {
-            let from = Spot {
-                at: next,
-                tags: s.tags,
-                made: s.made,
-                row: s.row,
-            };
-            let call = read_call(file, from, f, cells);
-            let Parsed::Done(t) = call else {
-                return call;
-            };
-            let e = root(s.made, t.made);
-            put_row(rows, t.row, q, n, f, e);
-            Parsed::Done(Spot {
-                at: t.at,
-                tags: t.tags,
-                made: t.made,
-                row: t.row + 1,
-            })
-        }
-    }
-}
-
-// An aggregate.
-fn read_agg(file: &[u8], s: Spot, cells: &mut [u64], rows: &mut [u16]) -> Parsed
+/// An aggregate: its pair, its function and what that has at the end.
+fn read_agg(file: &[u8], s: Spot, cells: &mut [u64], rows: &mut [u16]) -> Result<Spot, Refusal>
     requires { (s.made ≤ s.tags + 4096) × (s.tags ≤ 4096) × (3 * s.made + 12288 ≤ 3 * s.tags + length cells.old) × (4 * s.row + 4 ≤ length rows.old) }
     ensures { RightAt agg_store read_agg file.now s s.tags cells.old cells.new rows.old rows.new result }
 {
-    let pair = reader_fields::read_pair(file, s.at);
-    match pair {
-        PairField::Bad(code, place) => Parsed::Bad(code, place),
-        PairField::Got(q, n, next) => {
-            let from = Spot {
-                at: next,
-                tags: s.tags,
-                made: s.made,
-                row: s.row,
-            };
-            read_value(file, from, q, n, cells, rows)
-        }
-    }
-}
-
-// A pair of a join.
-fn read_on(file: &[u8], s: Spot, cells: &mut [u64], rows: &mut [u16]) -> Parsed
-    requires { (s.made ≤ s.tags + 4096) × (s.tags ≤ 4096) × (3 * s.made + 12288 ≤ 3 * s.tags + length cells.old) × (4 * s.row + 4 ≤ length rows.old) }
-    ensures { RightAt on_store read_on file.now s s.tags cells.old cells.new rows.old rows.new result }
-{
-    let first = reader_fields::read_expr(file, s, cells);
-    let Parsed::Done(a) = first else {
-        return first;
+    let pair = reader_fields::read_pair(file, s.at)?;
+    let function = reader_fields::read_below(file, pair.next, 5)?;
+    let from = Spot {
+        at: function.next,
+        ..s
     };
-    let second = reader_fields::read_expr(file, a, cells);
-    let Parsed::Done(b) = second else {
-        return second;
-    };
-    put_row(rows, b.row, 0, 0, (a.made - 1) as u64, (b.made - 1) as u64);
-    Parsed::Done(Spot {
-        at: b.at,
-        tags: b.tags,
-        made: b.made,
-        row: b.row + 1,
+    let t = read_call(file, from, function.value, cells)?;
+    let e = root(s.made, t.made);
+    put_row(rows, t.row, pair.qualifier, pair.name, function.value, e);
+    Ok(Spot {
+        row: t.row + 1,
+        ..t
     })
 }
 
-// A field of an Empty.
-fn read_field(file: &[u8], s: Spot, rows: &mut [u16]) -> Parsed
+/// A pair of a join.
+fn read_on(file: &[u8], s: Spot, cells: &mut [u64], rows: &mut [u16]) -> Result<Spot, Refusal>
+    requires { (s.made ≤ s.tags + 4096) × (s.tags ≤ 4096) × (3 * s.made + 12288 ≤ 3 * s.tags + length cells.old) × (4 * s.row + 4 ≤ length rows.old) }
+    ensures { RightAt on_store read_on file.now s s.tags cells.old cells.new rows.old rows.new result }
+{
+    let a = reader_fields::read_expr(file, s, cells)?;
+    let b = reader_fields::read_expr(file, a, cells)?;
+    put_row(rows, b.row, 0, 0, (a.made - 1) as u64, (b.made - 1) as u64);
+    Ok(Spot {
+        row: b.row + 1,
+        ..b
+    })
+}
+
+/// A field of an Empty.
+fn read_field(file: &[u8], s: Spot, rows: &mut [u16]) -> Result<Spot, Refusal>
     requires { (s.tags ≤ 4096) × (4 * s.row + 4 ≤ length rows.old) }
     ensures { (cells : List ℕ) → RightAt pair_store read_pair file.now s s.tags cells cells rows.old rows.new result }
 {
-    let pair = reader_fields::read_pair(file, s.at);
-    match pair {
-        PairField::Bad(code, place) => Parsed::Bad(code, place),
-        PairField::Got(q, n, next) => {
-            put_row(rows, s.row, q, n, 0, 0);
-            Parsed::Done(Spot {
-                at: next,
-                tags: s.tags,
-                made: s.made,
-                row: s.row + 1,
-            })
-        }
-    }
+    let pair = reader_fields::read_pair(file, s.at)?;
+    put_row(rows, s.row, pair.qualifier, pair.name, 0, 0);
+    Ok(Spot {
+        at: pair.next,
+        row: s.row + 1,
+        ..s
+    })
 }
 
-// A column index of a scan, of k bytes.
-fn read_index(file: &[u8], s: Spot, k: usize, columns: u64, rows: &mut [u16]) -> Parsed
+/// A column index of a scan, of k bytes.
+fn read_index(
+    file: &[u8],
+    s: Spot,
+    k: usize,
+    columns: u64,
+    rows: &mut [u16],
+) -> Result<Spot, Refusal>
     requires { (s.tags ≤ 4096) × (4 * s.row + 4 ≤ length rows.old) × (k ≤ 2) }
     ensures { (cells : List ℕ) → RightAt column_store (index k columns) file.now s s.tags cells cells rows.old rows.new result }
 {
-    let index = reader_fields::read_index(file, s.at, k, columns);
-    match index {
-        Field::Bad(code, place) => Parsed::Bad(code, place),
-        Field::Got(i, next) => {
-            put_row(rows, s.row, i, 0, 0, 0);
-            Parsed::Done(Spot {
-                at: next,
-                tags: s.tags,
-                made: s.made,
-                row: s.row + 1,
-            })
-        }
-    }
+    let index = reader_fields::read_index(file, s.at, k, columns)?;
+    put_row(rows, s.row, index.value, 0, 0, 0);
+    Ok(Spot {
+        at: index.next,
+        row: s.row + 1,
+        ..s
+    })
 }
 
-// One part.
-fn read_part(file: &[u8], s: Spot, kind: Kind, cells: &mut [u64], rows: &mut [u16]) -> Parsed
+/// One part.
+fn read_part(
+    file: &[u8],
+    s: Spot,
+    kind: Kind,
+    cells: &mut [u64],
+    rows: &mut [u16],
+) -> Result<Spot, Refusal>
     requires { (s.made ≤ s.tags + 4096) × (s.tags ≤ 4096) × (3 * s.made + 12288 ≤ 3 * s.tags + length cells.old) × (4 * s.row + 4 ≤ length rows.old) × (bytes_of kind ≤ 2) }
     ensures { RightAt (store_of kind) (reader_of kind) file.now s s.tags cells.old cells.new rows.old rows.new result }
 {
@@ -301,7 +239,7 @@ fn read_part(file: &[u8], s: Spot, kind: Kind, cells: &mut [u64], rows: &mut [u1
     }
 }
 
-// n parts, one after the other.
+/// n parts, one after the other.
 fn read_parts(
     file: &[u8],
     s: Spot,
@@ -309,21 +247,18 @@ fn read_parts(
     n: u64,
     cells: &mut [u64],
     rows: &mut [u16],
-) -> Parsed
+) -> Result<Spot, Refusal>
     requires { (s.made ≤ s.tags + 4096) × (s.tags ≤ 4096) × (3 * s.made + 12288 ≤ 3 * s.tags + length cells.old) × (4 * s.row + 4 * n ≤ length rows.old) × (bytes_of kind ≤ 2) }
     ensures { RightAt (list_store (store_of kind)) (times n (reader_of kind)) file.now s s.tags cells.old cells.new rows.old rows.new result }
 {
-    if n == 0 {
-        return Parsed::Done(s);
+    let mut t = s;
+    for _ in 0..n {
+        t = read_part(file, t, kind, cells, rows)?;
     }
-    let first = read_part(file, s, kind, cells, rows);
-    let Parsed::Done(t) = first else {
-        return first;
-    };
-    read_parts(file, t, kind, n - 1, cells, rows)
+    Ok(t)
 }
 
-// A count of k bytes, from `least` to `limit`, and as many parts.
+/// A count of k bytes, from `least` to `limit`, and as many parts.
 pub fn read_list(
     file: &[u8],
     s: Spot,
@@ -333,117 +268,81 @@ pub fn read_list(
     limit: u64,
     cells: &mut [u64],
     rows: &mut [u16],
-) -> Parsed
+) -> Result<Spot, Refusal>
     requires { (s.made ≤ s.tags + 4096) × (s.tags ≤ 4096) × (3 * s.made + 12288 ≤ 3 * s.tags + length cells.old) × (4 * s.row + 4 * limit ≤ length rows.old) × (bytes_of kind ≤ 2) × (k ≤ 2) }
     ensures { (allowed : ℕ → Bool) → From least allowed → RightAt (list_store (store_of kind)) (counted k allowed limit (reader_of kind)) file.now s s.tags cells.old cells.new rows.old rows.new result }
 {
-    let count = reader_fields::read_count(file, s.at, k, least, limit);
-    match count {
-        Field::Bad(code, place) => Parsed::Bad(code, place),
-        Field::Got(n, next) => {
-            let from = Spot {
-                at: next,
-                tags: s.tags,
-                made: s.made,
-                row: s.row,
-            };
-            read_parts(file, from, kind, n, cells, rows)
-        }
-    }
+    let count = reader_fields::read_count(file, s.at, k, least, limit)?;
+    let from = Spot {
+        at: count.next,
+        ..s
+    };
+    read_parts(file, from, kind, count.value, cells, rows)
 }
 
-// A window's keys and its function's expression. The row before the keys has their number and the root, so it is put when that is known.
-fn read_rest(file: &[u8], s: Spot, f: u64, cells: &mut [u64], rows: &mut [u16]) -> Parsed
+/// A window's keys and its function's expression. The row before the keys has their number and the root, so it is put when that is known.
+fn read_rest(
+    file: &[u8],
+    s: Spot,
+    f: u64,
+    cells: &mut [u64],
+    rows: &mut [u16],
+) -> Result<Spot, Refusal>
     requires { (s.made ≤ s.tags + 4096) × (s.tags ≤ 4096) × (3 * s.made + 12288 ≤ 3 * s.tags + length cells.old) × (4 * s.row + 68 ≤ length rows.old) }
     ensures { RightAt rest_store (read_rest f) file.now s s.tags cells.old cells.new rows.old rows.new result }
 {
-    let count = reader_fields::read_count(file, s.at, 1, 0, 16);
-    match count {
-        Field::Bad(code, place) => Parsed::Bad(code, place),
-        Field::Got(k, next) => {
-            let from = Spot {
-                at: next,
-                tags: s.tags,
-                made: s.made,
-                row: s.row + 1,
-            };
-            let keys = read_parts(file, from, Kind::Key, k, cells, rows);
-            let Parsed::Done(t) = keys else {
-                return keys;
-            };
-            let call = read_call(file, t, f, cells);
-            let Parsed::Done(u) = call else {
-                return call;
-            };
-            let e = root(t.made, u.made);
-            put_row(rows, s.row, k, 0, 0, e);
-            Parsed::Done(u)
-        }
-    }
+    let count = reader_fields::read_count(file, s.at, 1, 0, 16)?;
+    let from = Spot {
+        at: count.next,
+        row: s.row + 1,
+        ..s
+    };
+    let t = read_parts(file, from, Kind::Key, count.value, cells, rows)?;
+    let u = read_call(file, t, f, cells)?;
+    let e = root(t.made, u.made);
+    put_row(rows, s.row, count.value, 0, 0, e);
+    Ok(u)
 }
 
-// A window's function, its parts and what follows them, after its pair.
-fn read_over(file: &[u8], s: Spot, q: u64, n: u64, cells: &mut [u64], rows: &mut [u16]) -> Parsed
-    requires { (s.made ≤ s.tags + 4096) × (s.tags ≤ 4096) × (3 * s.made + 12288 ≤ 3 * s.tags + length cells.old) × (4 * s.row + 136 ≤ length rows.old) × (q < 65536) × (n < 65536) }
-    ensures { RightAt win_store (win_rest (pair q n)) file.now s s.tags cells.old cells.new rows.old rows.new result }
-{
-    let function = reader_fields::read_below(file, s.at, 5);
-    match function {
-        Field::Bad(code, place) => Parsed::Bad(code, place),
-        Field::Got(f, after) => {
-            let count = reader_fields::read_count(file, after, 1, 0, 16);
-            match count {
-                Field::Bad(code, place) => Parsed::Bad(code, place),
-                Field::Got(p, next) => {
-                    put_row(rows, s.row, q, n, f, p);
-                    let from = Spot {
-                        at: next,
-                        tags: s.tags,
-                        made: s.made,
-                        row: s.row + 1,
-                    };
-                    let parts = read_parts(file, from, Kind::Expr, p, cells, rows);
-                    let Parsed::Done(t) = parts else {
-                        return parts;
-                    };
-                    read_rest(file, t, f, cells, rows)
-                }
-            }
-        }
-    }
-}
-
-// A window.
-fn read_win(file: &[u8], s: Spot, cells: &mut [u64], rows: &mut [u16]) -> Parsed
+/// A window: its pair, its function, its parts and what follows them.
+fn read_win(file: &[u8], s: Spot, cells: &mut [u64], rows: &mut [u16]) -> Result<Spot, Refusal>
     requires { (s.made ≤ s.tags + 4096) × (s.tags ≤ 4096) × (3 * s.made + 12288 ≤ 3 * s.tags + length cells.old) × (4 * s.row + 136 ≤ length rows.old) }
     ensures { RightAt win_store read_win file.now s s.tags cells.old cells.new rows.old rows.new result }
 {
-    let pair = reader_fields::read_pair(file, s.at);
-    match pair {
-        PairField::Bad(code, place) => Parsed::Bad(code, place),
-        PairField::Got(q, n, next) => {
-            let from = Spot {
-                at: next,
-                tags: s.tags,
-                made: s.made,
-                row: s.row,
-            };
-            read_over(file, from, q, n, cells, rows)
-        }
-    }
+    let pair = reader_fields::read_pair(file, s.at)?;
+    let function = reader_fields::read_below(file, pair.next, 5)?;
+    let count = reader_fields::read_count(file, function.next, 1, 0, 16)?;
+    put_row(
+        rows,
+        s.row,
+        pair.qualifier,
+        pair.name,
+        function.value,
+        count.value,
+    );
+    let from = Spot {
+        at: count.next,
+        row: s.row + 1,
+        ..s
+    };
+    let t = read_parts(file, from, Kind::Expr, count.value, cells, rows)?;
+    read_rest(file, t, function.value, cells, rows)
 }
 
-// n windows, one after the other.
-pub fn read_wins(file: &[u8], s: Spot, n: u64, cells: &mut [u64], rows: &mut [u16]) -> Parsed
+/// n windows, one after the other.
+pub fn read_wins(
+    file: &[u8],
+    s: Spot,
+    n: u64,
+    cells: &mut [u64],
+    rows: &mut [u16],
+) -> Result<Spot, Refusal>
     requires { (s.made ≤ s.tags + 4096) × (s.tags ≤ 4096) × (3 * s.made + 12288 ≤ 3 * s.tags + length cells.old) × (4 * (s.row + 2 * n + (4096 - s.tags) + 32) ≤ length rows.old) }
     ensures { RightAt (list_store win_store) (times n read_win) file.now s s.tags cells.old cells.new rows.old rows.new result }
 {
-    if n == 0 {
-        return Parsed::Done(s);
+    let mut t = s;
+    for _ in 0..n {
+        t = read_win(file, t, cells, rows)?;
     }
-    let first = read_win(file, s, cells, rows);
-    let Parsed::Done(t) = first else {
-        return first;
-    };
-    read_wins(file, t, n - 1, cells, rows)
+    Ok(t)
 }

@@ -1,8 +1,10 @@
 -- A request, index by index. Assumes nothing.
 use mathlib.Core.Path.{◌≡◌, refl, sym, ap, ap₂, subst, ◌∙◌}
+use mathlib.Core.Logic.{◌⊎◌, ⊎_elim}
 use mathlib.Core.Bool.{Bool, true, false, ◌&&◌, ◌||◌}
 use mathlib.Core.List.{List, [], ◌∷◌}
 use mathlib.Core.Option.{none, some}
+use Rattle.std.specs.Prelude.{Ok, Err}
 use Prim.Native.Nat.{ℕ, zero, suc, ◌+◌, ◌-◌, ◌^◌, ◌<◌, ◌≤◌}
 use native.Mathlib.Numerals.{add-one}
 use native.Mathlib.Omega.{arith}
@@ -19,12 +21,13 @@ use Rattle.cpl.proofs.FitFields.{iota-length}
 use Rattle.cpl.proofs.Lists.{All_map, map_cong_a}
 use Rattle.rules.specs.Mask.{ones}
 use Rattle.rules.specs.Request.{fault_from, mask_of, request_fault}
+use Rattle.refusals.specs.declared.Reason.TheVariants as reason
+use Rattle.refusals.specs.declared.Refusal.{Refusal}
 use Rattle.required_indices.specs.Request.{Asks, Holds, flag_of, set_of}
 use Rattle.required_indices.specs.declared.RequiredIndices.{RequiredIndices}
 use Rattle.required_indices.proofs.Building.{list-add, list_start}
 use Rattle.required_indices.proofs.Methods.{all-asks}
 use Rattle.request.specs.Requests.{RequestIs}
-use Rattle.request.specs.declared.Requested.{Requested}
 
 -- the first i indices are taken: each is at least `least` below the next
 pub record Taken (width : ℕ) (is : List ℕ) (set : RequiredIndices) (least i : ℕ) : Type 0 where
@@ -42,11 +45,15 @@ module _ (width : ℕ) (is : List ℕ) (set : RequiredIndices) (least i : ℕ) (
   unfolding fault_from
   at_next h = t.fault ∙ ap (fault_from i least width) (drop-cons is i 0 h)
 
-  pub too_low : i < length is → get_or is i 0 < least → request_fault width is ≡ some i
+  too_low : i < length is → get_or is i 0 < least → request_fault width is ≡ some i
   too_low h l = at_next h ∙ ap (λ b. pick (b && ltb (get_or is i 0) width) (fault_from (suc i) (suc (get_or is i 0)) width (drop (suc i) is)) (some i)) (lt-leb least (get_or is i 0) l)
 
-  pub too_high : i < length is → least ≤ get_or is i 0 → width ≤ get_or is i 0 → request_fault width is ≡ some i
+  too_high : i < length is → least ≤ get_or is i 0 → width ≤ get_or is i 0 → request_fault width is ≡ some i
   too_high h l m = at_next h ∙ ap₂ (λ b c. pick (b && c) (fault_from (suc i) (suc (get_or is i 0)) width (drop (suc i) is)) (some i)) (le-leb least (get_or is i 0) l) (le-ltb (get_or is i 0) width m)
+
+  -- the next index is not above the one before it, or not below the width
+  pub refused : (e : Refusal) → (e.reason ≡ reason.Request) × (e.place ≡ i) → i < length is → (get_or is i 0 < least) ⊎ ((least ≤ get_or is i 0) × (width ≤ get_or is i 0)) → RequestIs width is (Err e) (request_fault width is)
+  refused e f h t = subst (RequestIs width is (Err e)) (sym (⊎_elim (λ l. too_low h l) (λ m. too_high h m.0 m.1) t)) f
 
   pub taken_more : (out : RequiredIndices) → i < length is → least ≤ get_or is i 0 → get_or is i 0 < width → Holds out (bit_or (set_of set) (2 ^ get_or is i 0)) (flag_of set) → Taken width is out (get_or is i 0 + 1) (i + 1)
   taken_more out h l m o = record {
@@ -57,11 +64,11 @@ module _ (width : ℕ) (is : List ℕ) (set : RequiredIndices) (least i : ℕ) (
     flag = o.flag ∙ t.flag;
   }
 
-  pub taken-all : (r : Requested) → length is ≤ i → r.set ≡ set → r.refused ≡ false → r.place ≡ 0 → RequestIs width is r (request_fault width is)
+  pub taken-all : length is ≤ i → RequestIs width is (Ok set) (request_fault width is)
   unfolding fault_from
-  taken-all r h e f z =
-      subst (RequestIs width is r) (sym (t.fault ∙ ap (fault_from i least width) (drop_of_length-le is h)))
-      (f, z, subst (λ x. Asks x (mask_of width is)) (sym e) (subst (λ xs. Asks set (mask_of width xs)) (take_all i is h) t.asks), ap flag_of e ∙ t.flag)
+  taken-all h =
+      subst (RequestIs width is (Ok set)) (sym (t.fault ∙ ap (fault_from i least width) (drop_of_length-le is h)))
+      (subst (λ xs. Asks set (mask_of width xs)) (take_all i is h) t.asks, t.flag)
 
 -- ── all fields ──────────────────────────────────────────────────────────────────────────────
 

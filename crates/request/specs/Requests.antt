@@ -1,11 +1,15 @@
 -- What an answer on a request stands for. "REQUEST: not strictly increasing or not below the root's field count; first such position"
-use Rattle.std.specs.Prelude.{◌≡◌, true, false, List, ℕ}
+use Rattle.std.specs.Prelude.{◌≡◌, false, List, ℕ, Result, Ok, Err}
 use Rattle.std.proofs.Math.Option.{Option, none, some}
 use Rattle.rules.specs.Request.{mask_of}
-use Rattle.required_indices.specs.Request.{Asks, Holds, flag_of}
-use Rattle.request.specs.declared.Requested.{Requested}
+use Rattle.refusals.specs.declared.Reason.TheVariants as reason
+use Rattle.refusals.specs.declared.Refusal.{Refusal}
+use Rattle.required_indices.specs.Request.{Asks, flag_of}
+use Rattle.required_indices.specs.declared.RequiredIndices.{RequiredIndices}
 
--- refused at a position, with no index; or the set of the indices asked for
-abbrev pub RequestIs : (width : ℕ) (request : List ℕ) → Requested → (fault : Option ℕ) → Type 0
-RequestIs width is r none = (r.refused ≡ false) × (r.place ≡ 0) × Asks r.set (mask_of width is) × (flag_of r.set ≡ false)
-RequestIs width is r (some p) = (r.refused ≡ true) × (r.place ≡ p) × Holds r.set 0 false
+-- the set of the indices asked for; or refused at a position
+abbrev pub RequestIs : (width : ℕ) (request : List ℕ) → Result RequiredIndices Refusal → (fault : Option ℕ) → Type 0
+RequestIs width is (Ok set) none = Asks set (mask_of width is) × (flag_of set ≡ false)
+RequestIs width is (Ok set) (some p) = ⊥
+RequestIs width is (Err e) none = ⊥
+RequestIs width is (Err e) (some p) = (e.reason ≡ reason.Request) × (e.place ≡ p)

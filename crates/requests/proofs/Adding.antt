@@ -21,7 +21,7 @@ use Rattle.rules.proofs.Plus.{plus_absent, plus-bin, plus-found, plus_none, plus
 use Rattle.required_indices.specs.Request.{Asks, Holds, flag_of, set_of}
 use Rattle.required_indices.specs.declared.RequiredIndices.{RequiredIndices}
 use Rattle.required_indices.proofs.Methods.{index-asks, new_asks}
-use Rattle.requests.specs.Asked.{Adds, of_words}
+use Rattle.requests.specs.Asked.{Adds}
 
 -- ── expressions ─────────────────────────────────────────────────────────────────────────────
 
@@ -34,15 +34,6 @@ adds_none = adds_nothing [] (λ R f. plus_none f)
 
 pub adds_then : (ds es : List Expr) {fs : List Pair} {r s out : RequiredIndices} → Adds ds fs r s → Adds es fs s out → Adds (ds ++ es) fs r out
 adds_then ds es {fs} {out = out} d e = record { flag = e.flag ∙ d.flag; asks = λ R f a. subst (Asks out) (plus_then ds es fs R) (e.asks (plus ds fs R) (plus-fit ds f) (d.asks R f a)) }
-
--- columns that were added to a request's words are added to the request, whose flag stays
-pub adds_words : (es : List Expr) {fs : List Pair} {r out : RequiredIndices} → flag_of out ≡ flag_of r → Adds es fs (of_words r.indices r.used) (of_words out.indices out.used) → Adds es fs r out
-adds_words es f d = record {
-  flag = f;
-  asks = λ R g a.
-      let b = d.asks R g (record { mask = a.mask; within = a.within }) in
-      record { mask = b.mask; within = b.within };
-}
 
 -- an expression that is known to be x
 known_as : {fs : List Pair} {r out : RequiredIndices} {e x : Expr} → e ≡ x → Adds (x ∷ []) fs r out → Adds (e ∷ []) fs r out

@@ -1,25 +1,24 @@
 -- Loops over lists of things, of which some are picked: what is left to be added. Assumes nothing.
-use mathlib.Core.Path.{◌≡◌, refl, sym, ap, ap₂, subst, ◌∙◌}
-use mathlib.Core.Bool.{Bool, true, false}
-use mathlib.Core.List.{List, [], ◌∷◌, ◌++◌, map}
-use Prim.Native.Nat.{ℕ, zero, suc, ◌+◌, ◌*◌, ◌-◌, ◌<◌, ◌≤◌}
+use mathlib.Core.Path.{◌≡◌, refl, ap, ◌∙◌}
+use mathlib.Core.Bool.{true, false}
+use mathlib.Core.List.{List, [], ◌∷◌, map}
+use Prim.Native.Nat.{ℕ, zero, suc, ◌+◌, ◌-◌, ◌<◌, ◌≤◌}
 use native.Mathlib.Numerals.{add-one}
 use native.Mathlib.Omega.{arith}
-use lib.ListN.{drop, get_or, length}
+use lib.ListN.{drop}
 use lib.Seq.{drop-cons}
-use Rattle.cpl.specs.Exprs.{agg_exprs, call_exprs, win_exprs}
-use Rattle.cpl.specs.Plan.{Agg, Call, Expr, Item, Key, On, Pair, Win, agg, item_expr, key, key_expr, on, on_left, on_right, pair, win}
+use Rattle.cpl.specs.Plan.{Expr, Item, Pair, item_expr, key_expr, on_left, on_right}
 use Rattle.cpl.specs.Tests.{concat_map}
 use Rattle.rules.specs.Mask.{Mask, select}
 use Rattle.rules.proofs.Masks.{select_nil}
 use Rattle.required_indices.specs.Set.{has, set_mask}
 use Rattle.required_indices.specs.declared.RequiredIndices.{RequiredIndices}
 use Rattle.required_indices.proofs.Masks.{mask_at, mask-length}
-use Rattle.arena.specs.Cells.{Wf, expr_at}
-use Rattle.arena.specs.Rows.{item_at, items_at, mark_at, root_at}
-use Rattle.tree.specs.Rows.{AllAt, EachOk, ExprOk, KeyOk, OnOk, exprs_at, key_at, key_of, keys_at, list_at, on_at, one, ons_at}
+use Rattle.arena.specs.Cells.{expr_at}
+use Rattle.arena.specs.Rows.{item_at, items_at}
+use Rattle.tree.specs.Rows.{AllAt, key_at, key_of, keys_at, list_at, on_at, one, ons_at}
 use Rattle.lookup.proofs.Lists.{list-map, rest, rest_all, rest-next, rest-none}
-use Rattle.requests.specs.Asked.{Adds, RootsOk, place_at, roots_at}
+use Rattle.requests.specs.Asked.{Adds, place_at, roots_at}
 use Rattle.requests.proofs.Adding.{Toward, toward_all, toward_more, toward_none, toward_same}
 
 -- ── lists ───────────────────────────────────────────────────────────────────────────────────
@@ -54,9 +53,6 @@ abbrev root_here : (s cells : List ℕ) (at j : ℕ) → Expr
 root_here s cells at j = expr_at cells (place_at s at j)
 
 module _ (s cells : List ℕ) (at f n : ℕ) {fs : List Pair} {r : RequiredIndices} where
-  pub rooted_none : Rooted s cells at f n fs r 0 r
-  rooted_none = record { upto = omega arith; toward = toward_same (roots_at s cells at f n) (rest_all (root_here s cells at) f n) (toward_none (roots_at s cells at f n)) }
-
   pub rooted_more : {i : ℕ} {cur cur' : RequiredIndices} → i < n → Rooted s cells at f n fs r i cur → Adds (root_here s cells at (f + i) ∷ []) fs cur cur' → Rooted s cells at f n fs r (i + 1) cur'
   rooted_more {i} h t d = record { upto = omega arith; toward = toward_more (roots_at s cells at f n) (root_here s cells at (f + i) ∷ []) (rest (root_here s cells at) f n (i + 1)) (rest-next (root_here s cells at) f n i h) t.toward d }
 
@@ -75,19 +71,6 @@ ons_left s cells f n = list-map on_left (on_at s cells) one f n
 pub ons_right : (s cells : List ℕ) (f n : ℕ) → map on_right (ons_at s cells f n) ≡ roots_at s cells 3 f n
 unfolding on_right on_at
 ons_right s cells f n = list-map on_right (on_at s cells) one f n
-
-module _ {s cells : List ℕ} {f n : ℕ} where
-  pub exprs_ok : EachOk (ExprOk s cells) s f n → RootsOk s cells 3 f n
-  exprs_ok o = record { place = omega arith; rows = record { room = o.room; each = λ k h l. (o.each k h l).node } }
-
-  pub keys-ok : EachOk (KeyOk s cells) s f n → RootsOk s cells 3 f n
-  keys-ok o = record { place = omega arith; rows = record { room = o.room; each = λ k h l. (o.each k h l).node } }
-
-  pub lefts_ok : EachOk (OnOk s cells) s f n → RootsOk s cells 2 f n
-  lefts_ok o = record { place = omega arith; rows = record { room = o.room; each = λ k h l. (o.each k h l).left } }
-
-  pub rights_ok : EachOk (OnOk s cells) s f n → RootsOk s cells 3 f n
-  rights_ok o = record { place = omega arith; rows = record { room = o.room; each = λ k h l. (o.each k h l).right } }
 
 -- ── things that are picked by a set ─────────────────────────────────────────────────────────
 

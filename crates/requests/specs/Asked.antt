@@ -13,15 +13,15 @@ use Rattle.tree.specs.Node.{join_is}
 use Rattle.tree.specs.Rows.{EachOk, list_at, one}
 use Rattle.tree.specs.declared.JoinType.{JoinType}
 use Rattle.lookup.specs.Fields.{RowIn}
+use Rattle.lookup.specs.declared.Schema.{Schema}
 
 -- the fields of an input lie in the array, and a set has room for them
 pub record Below (fields : List ℕ) (start width : ℕ) : Type 0 where
   pub inside : RowIn fields start width
   pub few : width ≤ words_n * 64
 
--- the request of the first `used` of some words, without the flag
-abbrev pub of_words : (ws : List ℕ) (used : ℕ) → RequiredIndices
-of_words ws used = record { indices = ws; used = used; projection_beneficial = 0 }
+abbrev pub SchemaBelow : Schema → Type 0
+SchemaBelow s = Below s.fields.now s.first s.width
 
 -- a request with the columns that the references of the expressions find; the flag stays
 pub record Adds (es : List Expr) (fs : List Pair) (r out : RequiredIndices) : Type 0 where

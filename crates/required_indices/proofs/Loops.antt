@@ -8,7 +8,7 @@ use native.Mathlib.Omega.{arith}
 use lib.Count.{ones, ones-le}
 use lib.Dec.{eqb}
 use lib.ListN.{length, get_or, take, drop, set, length-set}
-use lib.Seq.{take_all, take-suc, take-suc-set, take-length, drop-cons}
+use lib.Seq.{take-suc, take-suc-set, take-length, drop-cons}
 use borrow.Author.Tests.{eq-eqb, ne_eqb}
 use Rattle.cpl.specs.Lists.{All, a[], ◌a∷◌, Fit, z[], ◌z∷◌}
 use Rattle.required_indices.specs.Words.{number, Word}
@@ -59,7 +59,7 @@ unfolding ones_w
 ones-most a[] = omega arith
 ones-most (◌a∷◌ {x = w} {xs = ws} h hs) = let ih = ones-most hs in omega (arith, ones-le 64 w h, ih)
 
--- ---- a loop that compares, k of them equal
+-- ---- words that are compared
 
 pub number_inj : {ws vs : List ℕ} → Fit ws vs → All Word ws → All Word vs → number ws ≡ number vs → ws ≡ vs
 unfolding number
@@ -69,14 +69,8 @@ number_inj (_ z∷ f) (◌a∷◌ {x = w} {xs = ws} h hs) (◌a∷◌ {x = v} {x
     let b : number ws ≡ number vs = omega arith in
     ap₂ ◌∷◌ a (number_inj f hs ks b)
 
-module _ (ws vs : List ℕ) (k : ℕ) (same : length ws ≡ length vs) where
-  pub same_turn : take k ws ≡ take k vs → k < length ws → get_or ws k 0 ≡ get_or vs k 0 → take (k + 1) ws ≡ take (k + 1) vs
-  same_turn e l d =
-      ap (λ (x : ℕ). take x ws) (add-one k) ∙ take-suc ws k 0 l ∙ ap₂ (λ (xs : List ℕ) (x : ℕ). xs ++ (x ∷ [])) e d
-      ∙ sym (ap (λ (x : ℕ). take x vs) (add-one k) ∙ take-suc vs k 0 (omega arith))
+pub same_end : (ws vs : List ℕ) → ws ≡ vs → true ≡ eqb (number ws) (number vs)
+same_end ws vs e = sym (eq-eqb (number ws) (number vs) (ap number e))
 
-  pub same_end : take k ws ≡ take k vs → length ws ≤ k → true ≡ eqb (number ws) (number vs)
-  same_end e l = sym (eq-eqb (number ws) (number vs) (ap number (sym (take_all k ws l) ∙ e ∙ take_all k vs (omega arith))))
-
-  pub same_not : All Word ws → All Word vs → (get_or ws k 0 ≡ get_or vs k 0 → ⊥) → false ≡ eqb (number ws) (number vs)
-  same_not hs ks d = sym (ne_eqb (number ws) (number vs) (λ g. d (ap (λ (xs : List ℕ). get_or xs k 0) (number_inj (fit ws vs same) hs ks g))))
+pub same_not : (ws vs : List ℕ) (k : ℕ) → length ws ≡ length vs → All Word ws → All Word vs → (get_or ws k 0 ≡ get_or vs k 0 → ⊥) → false ≡ eqb (number ws) (number vs)
+same_not ws vs k same hs ks d = sym (ne_eqb (number ws) (number vs) (λ g. d (ap (λ (xs : List ℕ). get_or xs k 0) (number_inj (fit ws vs same) hs ks g))))

@@ -7,20 +7,19 @@ use native.Mathlib.Nat.{lt_of_lt_of_le}
 use native.Mathlib.Omega.{arith}
 use lib.Arith.{lt-one}
 use lib.Pow.{pow-add, pow_mono}
-use lib.ListN.{length, get_or, take, replicate, length-append, length-take, length-replicate, get_or-eq_default}
-use lib.Seq.{get_or-take, take_all, take-suc, take-take, take-append_seam}
+use lib.ListN.{length, get_or, take, replicate, length-append, length-take, length-replicate}
+use lib.Seq.{get_or-take, take_all, take-suc}
 use Rattle.cpl.specs.Lists.{All, a[], ◌a∷◌}
 use Rattle.required_indices.specs.Words.{number, Word}
 use Rattle.required_indices.proofs.Members.{side}
 use Rattle.required_indices.proofs.Words.{number_lt}
-use Rattle.required_indices.proofs.Loops.{Filled, fill_turn}
 
 number-zeros : (q : ℕ) → number (replicate q 0) ≡ 0
 unfolding number
 number-zeros zero = refl
 number-zeros (suc q) = let ih = number-zeros q in omega (arith, ih)
 
-number_pad : (ws : List ℕ) (q : ℕ) → number (ws ++ replicate q 0) ≡ number ws
+pub number_pad : (ws : List ℕ) (q : ℕ) → number (ws ++ replicate q 0) ≡ number ws
 unfolding number
 number_pad [] q = number-zeros q
 number_pad (w ∷ ws) q = ap (λ (x : ℕ). x * 2 ^ 64 + w) (number_pad ws q)
@@ -64,7 +63,7 @@ pub number-wide : (c : ℕ) (ws : List ℕ) → number ws < 2 ^ (c * 64) → num
 unfolding wide
 number-wide c ws fits = number-take c (ws ++ replicate c 0) (subst (λ (x : ℕ). x < 2 ^ (c * 64)) (sym (number_pad ws c)) fits) ∙ number_pad ws c
 
-words_pad : {ws : List ℕ} (q : ℕ) → All Word ws → All Word (ws ++ replicate q 0)
+pub words_pad : {ws : List ℕ} (q : ℕ) → All Word ws → All Word (ws ++ replicate q 0)
 words_pad zero a[] = a[]
 words_pad (suc q) a[] = ◌a∷◌ {x = 0} (omega arith) (words_pad q a[])
 words_pad q (h a∷ hs) = h a∷ words_pad q hs
@@ -96,26 +95,3 @@ trim n k ws e z =
     (λ (l : k < length ws).
     sym (ap number (ap (λ (x : ℕ). take x ws) e ∙ take-suc ws k 0 l ∙ ap (λ (x : ℕ). take k ws ++ (x ∷ [])) z) ∙ number_pad (take k ws) 1))
     (side (length ws) k)
-
--- ---- more words come into use, k of them are: ws are the ones that were, cur all that there are
-
-pub extend_start : (u : ℕ) (cur : List ℕ) (c k : ℕ) → c ≡ length cur → k ≡ min u c → Filled (wide c (take u cur)) cur k
-unfolding wide
-extend_start u cur c k e d =
-    let ws = take u cur in
-    let long : length ws ≡ k = omega (arith, length-take u cur) in
-    record {
-      front =
-          sym (in_use u k cur (omega arith)) ∙ sym (take-append_seam ws (replicate c 0)) ∙ ap (λ (x : ℕ). take x (ws ++ replicate c 0)) long
-          ∙ sym (take-take k c (ws ++ replicate c 0) (omega arith));
-      long = omega (arith, wide-length c ws);
-      most = omega (arith, wide-length c ws);
-    }
-
-pub extend_turn : (c : ℕ) (ws cur : List ℕ) (k : ℕ) → Filled (wide c ws) cur k → k < c → length ws ≤ k → Filled (wide c ws) (lib.ListN.set cur k 0) (k + 1)
-extend_turn c ws cur k j l m = fill_turn (wide c ws) cur k j 0 (omega (arith, wide-length c ws)) (sym (wide_get c ws k l ∙ get_or-eq_default ws 0 m))
-
-pub extend_end : (c : ℕ) {ws : List ℕ} (cur : List ℕ) (k : ℕ) → Filled (wide c ws) cur k → All Word ws → length ws ≤ k → k ≤ c → number (take k cur) ≡ number ws
-extend_end c {ws} cur k j hs l m =
-    let e : number (wide c ws) ≡ number ws = number-wide c ws (fits-long c hs (omega arith)) in
-    ap number j.front ∙ number-take k (wide c ws) (subst (λ (x : ℕ). x < 2 ^ (k * 64)) (sym e) (fits-long k hs l)) ∙ e

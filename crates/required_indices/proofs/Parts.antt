@@ -1,7 +1,7 @@
 -- A loop that writes, word by word, a union, all indices below n, or those of a set below n; and one that compares two sets.
 use mathlib.Core.Path.{◌≡◌, refl, sym, ◌∙◌, ap, ap₂, subst}
 use mathlib.Core.Logic.{⊎_elim}
-use mathlib.Core.Bool.{true, false}
+use mathlib.Core.Bool.{Bool, true, false}
 use mathlib.Core.List.{List, [], ◌∷◌}
 use Prim.Native.Nat.{ℕ, zero, suc, ◌+◌, ◌-◌, ◌*◌, ◌%◌, ◌^◌, ◌≤◌, ◌<◌, min}
 use native.Mathlib.Nat.{mod-lt, mod-le, lt_of_lt_of_le, lt_of_le_of_lt}
@@ -10,11 +10,15 @@ use lib.Pow.{pow_pos, pow_mono}
 use lib.Bits.{bit_or, bit_and, and_mask}
 use lib.Dec.{eqb}
 use lib.ListN.{length, get_or, take, set}
+use lib.Seq.{ext_get_or}
+use Rattle.std.specs.Prelude.{MatchBool}
+use Rattle.std.specs.List.{AllWithin, HoldsAt, range_with_len}
+use Rattle.std.proofs.lemmas.List.FromFn.{get_or-range_with_len, length-range_with_len}
 use Rattle.cpl.specs.Lists.{All, Fit, z[], ◌z∷◌}
 use Rattle.required_indices.specs.Words.{number, Word}
 use Rattle.required_indices.proofs.Members.{side}
 use Rattle.required_indices.proofs.Words.{or_w, number_or, all_w, number-all, below_w, number-below}
-use Rattle.required_indices.proofs.Loops.{Filled, fit, fill_start, fill_turn, fill_end, same_turn, same_end, same_not}
+use Rattle.required_indices.proofs.Loops.{Filled, fit, fill_start, fill_turn, fill_end, same_end, same_not}
 use Rattle.required_indices.proofs.Pads.{fits-long, wide, wide-length, wide_get, number-wide, wide_words}
 
 -- ---- the union
@@ -125,22 +129,30 @@ module _ (c n : ℕ) (ws cur : List ℕ) (k : ℕ) (j : Filled (part_w c n ws) c
       ap (λ (x : ℕ). number (take x cur)) (sym (part_length c n ws)) ∙ ap number (fill_end (part_w c n ws) cur k j (omega (arith, part_length c n ws)))
       ∙ number-wide c (below_w n ws) (subst (λ (x : ℕ). x < 2 ^ (c * 64)) (sym (number-below n hs)) small) ∙ number-below n hs
 
--- ---- two sets compared over their first n words, which have all that are in use; k of them are equal
+-- ---- two sets compared over their first n words, which have all that are in use
 
-module _ (n : ℕ) (ws vs : List ℕ) (k : ℕ) where
+module _ (n : ℕ) (ws vs : List ℕ) (hs : All Word ws) (ks : All Word vs) (a : length ws ≤ n) (b : length vs ≤ n) where
+  same_numbers : eqb (number (wide n ws)) (number (wide n vs)) ≡ eqb (number ws) (number vs)
+  same_numbers = ap₂ eqb (number-wide n ws (fits-long n hs a)) (number-wide n vs (fits-long n ks b))
+
   same-long : length (wide n ws) ≡ length (wide n vs)
   same-long = wide-length n ws ∙ sym (wide-length n vs)
 
-  pub equal_turn : (w v : ℕ) → take k (wide n ws) ≡ take k (wide n vs) → k < n → w ≡ get_or ws k 0 → v ≡ get_or vs k 0 → w ≡ v → take (k + 1) (wide n ws) ≡ take (k + 1) (wide n vs)
-  equal_turn w v h l e d g = same_turn (wide n ws) (wide n vs) k same-long h (omega (arith, wide-length n ws)) (wide_get n ws k l ∙ sym e ∙ g ∙ d ∙ sym (wide_get n vs k l))
+  all-equal : ((k : ℕ) → k < n → get_or ws k 0 ≡ get_or vs k 0) → true ≡ eqb (number ws) (number vs)
+  all-equal h =
+      same_end (wide n ws) (wide n vs)
+      (ext_get_or 0 (wide n ws) (wide n vs) same-long (λ k l. let g : k < n = omega (arith, wide-length n ws) in wide_get n ws k g ∙ h k g ∙ sym (wide_get n vs k g)))
+      ∙ same_numbers
 
-  module _ (hs : All Word ws) (ks : All Word vs) (a : length ws ≤ n) (b : length vs ≤ n) where
-    same_numbers : eqb (number (wide n ws)) (number (wide n vs)) ≡ eqb (number ws) (number vs)
-    same_numbers = ap₂ eqb (number-wide n ws (fits-long n hs a)) (number-wide n vs (fits-long n ks b))
+  one-unequal : (k : ℕ) → k < n → (get_or ws k 0 ≡ get_or vs k 0 → ⊥) → false ≡ eqb (number ws) (number vs)
+  one-unequal k l f =
+      same_not (wide n ws) (wide n vs) k same-long (wide_words n hs) (wide_words n ks) (λ z. f (sym (wide_get n ws k l) ∙ z ∙ wide_get n vs k l)) ∙ same_numbers
 
-    pub equal_end : take k (wide n ws) ≡ take k (wide n vs) → n ≤ k → true ≡ eqb (number ws) (number vs)
-    equal_end h l = same_end (wide n ws) (wide n vs) k same-long h (omega (arith, wide-length n ws)) ∙ same_numbers
-
-    pub equal_not : (w v : ℕ) → k < n → w ≡ get_or ws k 0 → v ≡ get_or vs k 0 → (w ≡ v → ⊥) → false ≡ eqb (number ws) (number vs)
-    equal_not w v l e d f =
-        same_not (wide n ws) (wide n vs) k same-long (wide_words n hs) (wide_words n ks) (λ z. f (e ∙ sym (wide_get n ws k l) ∙ z ∙ wide_get n vs k l ∙ sym d)) ∙ same_numbers
+  pub equal_all : (r : Bool)
+      → MatchBool r (AllWithin (λ k. get_or ws k 0 ≡ get_or vs k 0) (range_with_len 0 n) 0 (length (range_with_len 0 n)))
+      ((k : ℕ) × (k < length (range_with_len 0 n)) × HoldsAt (λ k. get_or ws k 0 ≡ get_or vs k 0 → ⊥) (range_with_len 0 n) k)
+      → r ≡ eqb (number ws) (number vs)
+  equal_all true h = all-equal (λ k l. subst (λ (x : ℕ). get_or ws x 0 ≡ get_or vs x 0) (get_or-range_with_len 0 n k 0 l ∙ omega arith) (h k 0 (omega arith) (omega (arith, length-range_with_len 0 n))))
+  equal_all false h =
+      let l : h.0 < n = omega (arith, length-range_with_len 0 n, h.1) in
+      one-unequal h.0 l (subst (λ (x : ℕ). get_or ws x 0 ≡ get_or vs x 0 → ⊥) (get_or-range_with_len 0 n h.0 0 l ∙ omega arith) (h.2 0))

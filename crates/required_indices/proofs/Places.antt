@@ -1,37 +1,28 @@
 -- A set in words by the index of a word: which indices it has, one index added, and the next index at digit `at` of word k.
-use mathlib.Core.Path.{◌≡◌, sym, ◌∙◌, ap, ap₂}
+use mathlib.Core.Path.{◌≡◌, sym, subst, ◌∙◌, ap, ap₂}
 use mathlib.Core.Logic.{⊎_elim}
-use mathlib.Core.List.{List, [], ◌∷◌}
-use Prim.Native.Nat.{ℕ, zero, suc, ◌+◌, ◌-◌, ◌*◌, ◌/◌, ◌%◌, ◌^◌, ◌≤◌, ◌<◌}
+use mathlib.Core.List.{List, [], ◌∷◌, ◌++◌}
+use Prim.Native.Nat.{ℕ, suc, ◌+◌, ◌-◌, ◌*◌, ◌/◌, ◌%◌, ◌^◌, ◌≤◌, ◌<◌, min}
 use native.Mathlib.Omega.{arith}
 use lib.Bits.{bit_or}
-use lib.ListN.{length, get_or, set, length-set, length-take}
+use lib.ListN.{length, get_or, set, take, replicate, length-append, length-replicate, length-take}
+use lib.Seq.{take-set-lt, get_or-take}
 use mir.Val.{Fits}
 use mir.Syntax.{w64}
 use Rattle.cpl.specs.Lists.{All, a[], ◌a∷◌}
 use Rattle.required_indices.specs.Set.{has}
 use Rattle.required_indices.specs.Words.{number, Word}
-use Rattle.required_indices.specs.Request.{words_n, Lent, set_of}
+use Rattle.required_indices.specs.Request.{words_n, set_of}
 use Rattle.required_indices.specs.declared.RequiredIndices.{RequiredIndices}
 use Rattle.required_indices.proofs.Members.{side, has-none}
 use Rattle.required_indices.proofs.Words.{number-has, number-has-past, number-add, number-add-past}
-use Rattle.required_indices.proofs.Pads.{fits-long, words_take}
+use Rattle.required_indices.proofs.Pads.{fits-long, in_use, number_pad, words_pad, words_take}
+use Rattle.required_indices.proofs.Shifts.{shifted_one}
 
 -- the words of an array
 pub words : (ws : List ℕ) → ((i : ℕ) → Fits w64 (get_or ws i 0)) → All Word ws
 words [] f = a[]
 words (w ∷ ws) f = (f 0).fits a∷ words ws (λ i. f (suc i))
-
-each_set : (ws : List ℕ) (i x : ℕ) → Fits w64 x → ((j : ℕ) → Fits w64 (get_or ws j 0)) → (j : ℕ) → Fits w64 (get_or (set ws i x) j 0)
-each_set [] i x f h j = h j
-each_set (w ∷ ws) zero x f h zero = f
-each_set (w ∷ ws) zero x f h (suc j) = h (suc j)
-each_set (w ∷ ws) (suc i) x f h zero = h 0
-each_set (w ∷ ws) (suc i) x f h (suc j) = each_set ws i x f (λ k. h (suc k)) j
-
--- a word put among words that are lent
-pub lent-set : (ws : List ℕ) (i x : ℕ) → x < 2 ^ 64 → Lent ws → Lent (set ws i x)
-lent-set ws i x f h = (length-set ws i x ∙ h.0, each_set ws i x (record { fits = f }) h.1)
 
 -- index i is digit i % 64 of word i / 64
 pub has_at : {ws : List ℕ} → All Word ws → (i : ℕ) → has (number ws) i ≡ has (get_or ws (i / 64) 0) (i % 64)
@@ -76,3 +67,14 @@ pub record Whole (r : RequiredIndices) : Type 0 where
 -- a request is below what its words can hold
 pub set_lt : (r : RequiredIndices) → length r.indices ≡ words_n → All Word r.indices → set_of r < 2 ^ (words_n * 64)
 set_lt r long hs = fits-long words_n (words_take r.used hs) (omega (arith, length-take r.used r.indices))
+
+-- index i added behind n words that are in use, of the first `end` words of cur, which has words of 0 behind them
+pub added : (used i n end : ℕ) {ws : List ℕ} (cur : List ℕ) → All Word ws → n ≡ min used (length ws) → take end cur ≡ take n ws ++ replicate (end - n) 0 → i / 64 < end
+    → number (take end (set cur (i / 64) (bit_or (get_or cur (i / 64) 0) ((1 * 2 ^ (i % 64)) % 2 ^ 64)))) ≡ bit_or (number (take used ws)) (2 ^ i)
+added used i n end {ws} cur hs e f inside =
+    let ks : All Word (take end cur) = subst (All Word) (sym f) (words_pad (end - n) (words_take n hs)) in
+    let long : end ≤ length (take end cur) = omega (arith, ap length f, length-append (take n ws) (replicate (end - n) 0), length-replicate {A = ℕ} (end - n) 0, length-take n ws) in
+    ap number (take-set-lt end cur (i / 64) (bit_or (get_or cur (i / 64) 0) ((1 * 2 ^ (i % 64)) % 2 ^ 64)) inside)
+    ∙ ap₂ (λ (x y : ℕ). number (set (take end cur) (i / 64) (bit_or x y))) (sym (get_or-take end cur (i / 64) 0 inside)) (shifted_one (i % 64) (omega arith))
+    ∙ add_at ks i (omega arith)
+    ∙ ap (λ (x : ℕ). bit_or x (2 ^ i)) (ap number f ∙ number_pad (take n ws) (end - n) ∙ ap number (sym (in_use used n ws e)))

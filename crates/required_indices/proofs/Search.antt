@@ -15,7 +15,7 @@ use Rattle.required_indices.specs.Words.{number, Word}
 use Rattle.required_indices.proofs.Members.{side, different, has-add, has-past, has-none}
 use Rattle.required_indices.proofs.Lowest.{lowest_has, lowest_before}
 use Rattle.required_indices.specs.Request.{IsNext}
-use Rattle.required_indices.specs.declared.Next.TheVariants.{At, Nothing}
+use Rattle.std.specs.Prelude.{Some, None}
 use Rattle.required_indices.proofs.Words.{number_lt}
 use Rattle.required_indices.proofs.Places.{has_at}
 
@@ -57,9 +57,6 @@ pub record Searched (ws : List ℕ) (from k at : ℕ) : Type 0 where
   pub onward : from ≤ k * 64 + at
   pub none : (j : ℕ) → from ≤ j → j < k * 64 + at → has (number ws) j ≡ false
 
-pub search_start : (ws : List ℕ) (from : ℕ) → Searched ws from (from / 64) (from % 64)
-search_start ws from = record { inside = omega arith; onward = omega arith; none = λ j a b. absurd (omega arith) }
-
 module _ {ws : List ℕ} (hs : All Word ws) (from k at : ℕ) (s : Searched ws from k at) where
   -- the word has nothing more
   pub search_turn : get_or ws k 0 / 2 ^ at ≡ 0 → Searched ws from (k + 1) 0
@@ -73,7 +70,7 @@ module _ {ws : List ℕ} (hs : All Word ws) (from k at : ℕ) (s : Searched ws f
       }
 
   -- the word has the next index
-  pub search_found : (get_or ws k 0 / 2 ^ at ≡ 0 → ⊥) → Word (get_or ws k 0) → IsNext (number ws) from (At (k * 64 + at + count_trailing_zeros 64 (get_or ws k 0 / 2 ^ at)))
+  pub search_found : (get_or ws k 0 / 2 ^ at ≡ 0 → ⊥) → Word (get_or ws k 0) → IsNext (number ws) from (Some (k * 64 + at + count_trailing_zeros 64 (get_or ws k 0 / 2 ^ at)))
   search_found p w =
       let l : at < 64 = s.inside in
       let o : from ≤ k * 64 + at = s.onward in
@@ -85,7 +82,7 @@ module _ {ws : List ℕ} (hs : All Word ws) (from k at : ℕ) (s : Searched ws f
       )
 
   -- there are no more words
-  pub search_end : length ws ≤ k → IsNext (number ws) from Nothing
+  pub search_end : length ws ≤ k → IsNext (number ws) from None
   search_end m j a =
       ⊎_elim
       (λ (g : k * 64 + at ≤ j). has-past (length ws * 64) (number_lt hs) (omega arith))

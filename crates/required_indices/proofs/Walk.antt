@@ -13,8 +13,7 @@ use Rattle.rules.specs.Mask.{Mask, select, count_m}
 use Rattle.required_indices.specs.Set.{has}
 use Rattle.required_indices.specs.Request.{set_of, IsNext, Asks}
 use Rattle.required_indices.specs.declared.RequiredIndices.{RequiredIndices}
-use Rattle.required_indices.specs.declared.Next.{Next}
-use Rattle.required_indices.specs.declared.Next.TheVariants.{At, Nothing}
+use Rattle.std.specs.Prelude.{Option, Some, None}
 use Rattle.required_indices.proofs.Members.{side, different, has-past}
 use Rattle.required_indices.proofs.Methods.{contains-mask}
 
@@ -69,13 +68,13 @@ none [] k f = refl
 none (true ∷ m) k f = absurd (different (f 0))
 none (false ∷ m) k f = none m (suc k) (λ j. f (suc j))
 
-abbrev pub head_next : List ℕ → Next
-head_next [] = Nothing
-head_next (i ∷ is) = At i
+abbrev pub head_next : List ℕ → Option ℕ
+head_next [] = None
+head_next (i ∷ is) = Some i
 
 -- an index that was found is at or above `from`, and below every bound of the set
-module _ (s from : ℕ) (out : Next) (g : IsNext s from out) (i : ℕ) (e : out ≡ At i) where
-  here : IsNext s from (At i)
+module _ (s from : ℕ) (out : Option ℕ) (g : IsNext s from out) (i : ℕ) (e : out ≡ Some i) where
+  here : IsNext s from (Some i)
   here = subst (IsNext s from) e g
 
   pub next_ge : from ≤ i
@@ -88,7 +87,7 @@ module _ {r : RequiredIndices} {R : Mask} (a : Asks r R) where
   get_drop : (from j : ℕ) → get_or (drop from R) j false ≡ has (set_of r) (from + j)
   get_drop from j = get_or-drop from R j false ∙ sym (contains-mask a (from + j))
 
-  module _ (from i : ℕ) (g : IsNext (set_of r) from (At i)) where
+  module _ (from i : ℕ) (g : IsNext (set_of r) from (Some i)) where
     at_step : indices_at from R ≡ i ∷ indices_at (i + 1) R
     unfolding indices_at
     at_step =
@@ -98,9 +97,9 @@ module _ {r : RequiredIndices} {R : Mask} (a : Asks r R) where
         skip (drop from R) from (i - from) (λ j l. get_drop from j ∙ g.2 (from + j) (omega arith) (omega arith)) (get_drop from (i - from) ∙ ap (has (set_of r)) e ∙ g.1)
         ∙ ap₂ ◌∷◌ e (ap₂ indices_from (ap suc e ∙ sym (add-one i)) (drop-drop (suc (i - from)) from R ∙ ap (λ (x : ℕ). drop x R) f))
 
-  module _ (from : ℕ) (out : Next) (g : IsNext (set_of r) from out) where
+  module _ (from : ℕ) (out : Option ℕ) (g : IsNext (set_of r) from out) where
     -- an index that was found: it is one of the fields, and the walk goes on behind it
-    module _ (i : ℕ) (e : out ≡ At i) where
+    module _ (i : ℕ) (e : out ≡ Some i) where
       pub next_lt : i < length R
       next_lt = next-below (set_of r) from out g i e (length R) a.within
 
@@ -111,14 +110,14 @@ module _ {r : RequiredIndices} {R : Mask} (a : Asks r R) where
       next-step = at_step from i (here (set_of r) from out g i e)
 
     -- none was found: the walk ends
-    pub next-end : out ≡ Nothing → indices_at from R ≡ []
+    pub next-end : out ≡ None → indices_at from R ≡ []
     unfolding indices_at
     next-end e = none (drop from R) from (λ j. get_drop from j ∙ subst (IsNext (set_of r) from) e g (from + j) (omega arith))
 
   -- so there is one answer: the first place at or above `from` where the mask says yes
-  pub next-mask : (from : ℕ) (out : Next) → IsNext (set_of r) from out → out ≡ head_next (indices_at from R)
-  next-mask from (At i) g = sym (ap head_next (next-step from (At i) g i refl))
-  next-mask from Nothing g = sym (ap head_next (next-end from Nothing g refl))
+  pub next-mask : (from : ℕ) (out : Option ℕ) → IsNext (set_of r) from out → out ≡ head_next (indices_at from R)
+  next-mask from (Some i) g = sym (ap head_next (next-step from (Some i) g i refl))
+  next-mask from None g = sym (ap head_next (next-end from None g refl))
 
 -- as many indices as the mask counts, and what they select of as many things as there are fields
 pub indices_count : (R : Mask) → length (indices_at 0 R) ≡ count_m R

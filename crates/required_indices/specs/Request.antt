@@ -1,13 +1,9 @@
 -- What a request means: the set that its words hold, and the mask that it stands for. Every contract says it by `set_of`.
-use Rattle.std.specs.Prelude.{◌≡◌, Bool, true, false, List, ◌∷◌, ℕ, ◌+◌, ◌^◌, ◌≤◌, ◌<◌, min, eqb, length, get_or, take, drop}
-use Rattle.std.proofs.Common.{Fits}
-use Rattle.std.specs.Int.{w64}
+use Rattle.std.specs.Prelude.{◌≡◌, Bool, true, false, List, ◌∷◌, ℕ, ◌+◌, ◌^◌, ◌≤◌, ◌<◌, min, eqb, length, get_or, take, drop, Option, Some, None}
 use Rattle.rules.specs.Mask.{Mask}
 use Rattle.required_indices.specs.Set.{has, set_mask}
 use Rattle.required_indices.specs.Words.{number}
 use Rattle.required_indices.specs.declared.RequiredIndices.{RequiredIndices}
-use Rattle.required_indices.specs.declared.Next.{Next}
-use Rattle.required_indices.specs.declared.Next.TheVariants.{At, Nothing}
 
 -- how many words there are: WORDS of src/lib.rt. A wider set needs these two numbers and nothing else.
 abbrev pub words_n : ℕ
@@ -16,10 +12,6 @@ words_n = 8
 -- the words that are in use: what the others hold does not matter
 abbrev pub words_of : RequiredIndices → List ℕ
 words_of r = take r.used r.indices
-
--- words that are lent: as many as there are, each of 64 digits
-abbrev pub Lent : List ℕ → Type 0
-Lent ws = (length ws ≡ words_n) × ((j : ℕ) → Fits w64 (get_or ws j 0))
 
 -- the set that the first `used` of some words hold
 abbrev pub set_in : List ℕ → ℕ → ℕ
@@ -38,9 +30,9 @@ pub record Holds (r : RequiredIndices) (s : ℕ) (b : Bool) : Type 0 where
   pub flag : flag_of r ≡ b
 
 -- the first index of s at or above from
-abbrev pub IsNext : ℕ → ℕ → Next → Type 0
-IsNext s from (At i) = (from ≤ i) × (has s i ≡ true) × ((j : ℕ) → from ≤ j → j < i → has s j ≡ false)
-IsNext s from Nothing = (j : ℕ) → from ≤ j → has s j ≡ false
+abbrev pub IsNext : ℕ → ℕ → Option ℕ → Type 0
+IsNext s from (Some i) = (from ≤ i) × (has s i ≡ true) × ((j : ℕ) → from ≤ j → j < i → has s j ≡ false)
+IsNext s from None = (j : ℕ) → from ≤ j → has s j ≡ false
 
 -- the request as a mask over n fields
 abbrev pub request_mask : ℕ → RequiredIndices → Mask

@@ -6,8 +6,7 @@
 //! count, and every loop goes over these: what the others hold does not matter. Every contract says
 //! what a set is by `set_of`, the number that its words hold; `proofs/Methods.antt` says the same by masks.
 //!
-//! A function that only reads a set, or changes it in place, is lent its words and given how many are in
-//! use, so that the set is not copied: `RequiredIndices::contains(&r.indices, r.used, i)`.
+//! A function that only reads a set is lent it, as `insert` is to change it in place: a set is not copied where it is looked at.
 #![tactic(auto)]
 
 ghost use Rattle.std.specs.Prelude.{◌≡◌, true, false, ◌++◌, ◌+◌, ◌-◌, ◌*◌, ◌/◌, ◌%◌, ◌^◌, ◌≤◌, ◌<◌, min, eqb, get_or, length, replicate, take};
@@ -16,7 +15,7 @@ ghost use Rattle.std.specs.Int.Count.{ones};
 ghost use Rattle.std.proofs.Math.Seq.{paste};
 ghost use Rattle.required_indices.specs.Set.{has};
 ghost use Rattle.required_indices.specs.Words.{number};
-ghost use Rattle.required_indices.specs.Request.{words_n, Lent, set_in, set_of, flag_of, Holds, IsNext, stored_n, stored_in, stored_at};
+ghost use Rattle.required_indices.specs.Request.{words_n, set_in, set_of, flag_of, Holds, IsNext, stored, stored_n, stored_at};
 
 /// The number of words; `words_n` of specs/Request.antt is the same.
 pub const WORDS: usize = 8;
@@ -34,13 +33,6 @@ pub struct RequiredIndices {
     projection_beneficial: u64,
 }
 
-/// The next index of a set, if there is one.
-#[derive(Clone, Copy)]
-pub enum Next {
-    At(usize),
-    Nothing,
-}
-
 /// A set split at n: the indices below n, and the others less n.
 #[derive(Clone, Copy)]
 pub struct Split {
@@ -52,11 +44,7 @@ pub struct Split {
 fn low_bits(n: usize) -> u64
     ensures { result ≡ 2 ^ min n 64 - 1 }
 {
-    if n < 64 {
-        (1u64 << n) - 1
-    } else {
-        0xffff_ffff_ffff_ffff
-    }
+    if n < 64 { (1u64 << n) - 1 } else { u64::MAX }
 }
 
 // The n lowest digits of a word, as the uppermost of the word below it.
@@ -67,27 +55,6 @@ fn carry(w: u64, n: usize) -> u64
     if n == 0 { 0 } else { w << (64 - n) }
 }
 
-// Less by m, and no less than 0.
-fn less(n: usize, m: usize) -> usize
-    ensures { result ≡ n - m }
-{
-    if n < m { 0 } else { n - m }
-}
-
-// The smaller of two numbers.
-fn smaller(n: usize, m: usize) -> usize
-    ensures { result ≡ min n m }
-{
-    if n < m { n } else { m }
-}
-
-// The larger of two numbers.
-fn larger(n: usize, m: usize) -> usize
-    ensures { result ≡ n + (m - n) }
-{
-    if n < m { m } else { n }
-}
-
 // How many words the indices below n take, of the words that there are.
 fn words_for(n: usize) -> usize
     ensures { result ≡ min ((n + 63) / 64) words_n }
@@ -96,16 +63,16 @@ fn words_for(n: usize) -> usize
 }
 
 // Word k of the first n, and 0 past them.
-fn word(words: &[u64; WORDS], n: usize, k: usize) -> u64
-    requires { n ≤ words_n }
+fn word(words: &[u64], n: usize, k: usize) -> u64
+    requires { n ≤ length words.now }
     ensures { result ≡ get_or (take n words.now) k 0 }
 {
     if k < n { words[k] } else { 0 }
 }
 
 // Word k of the first n behind up words of 0, and 0 past them.
-fn word_behind(words: &[u64; WORDS], n: usize, up: usize, k: usize) -> u64
-    requires { n ≤ words_n }
+fn word_behind(words: &[u64], n: usize, up: usize, k: usize) -> u64
+    requires { n ≤ length words.now }
     ensures { result ≡ get_or (replicate up 0 ++ take n words.now) k 0 }
 {
     if k < up { 0 } else { word(words, n, k - up) }
@@ -116,10 +83,61 @@ fn trimmed(words: &[u64; WORDS], n: usize) -> usize
     requires { n ≤ words_n }
     ensures { number (take result words.now) ≡ number (take n words.now) }
 {
-    if n == 0 {
-        return 0;
+    if n > 0 && words[n - 1] == 0 { n - 1 } else { n }
+}
+
+// Whether i is in the set that the first `used` of these words hold.
+fn has_in(words: &[u64], used: usize, i: usize) -> bool
+    requires { length words.now ≡ words_n }
+    ensures { result ≡ has (set_in words.now used) i }
+{
+    let w = word(words, used.min(WORDS), i / 64);
+    (w >> (i % 64)) % 2 == 1
+}
+
+// How many indices the set has that the first `used` of these words hold.
+fn count_in(words: &[u64], used: usize) -> usize
+    requires { length words.now ≡ words_n }
+    ensures { result ≡ ones (set_in words.now used) }
+{
+    let last = used.min(WORDS);
+    let mut n: usize = 0;
+    for k in 0..last {
+        n += words[k].count_ones() as usize;
     }
-    if words[n - 1] == 0 { n - 1 } else { n }
+    n
+}
+
+// The first index at or above from of the set that the first `used` of these words hold.
+fn next_in(words: &[u64], used: usize, from: usize) -> Option<usize>
+    requires { length words.now ≡ words_n }
+    ensures { IsNext (set_in words.now used) from result }
+{
+    let last = used.min(WORDS);
+    let mut at = from % 64;
+    for k in from / 64..last {
+        let w = words[k] >> at;
+        if w != 0 {
+            return Some(k * 64 + at + w.trailing_zeros() as usize);
+        }
+        at = 0;
+    }
+    None
+}
+
+// The index i added to the set that the first `used` of these words hold; answers how many words are then in use.
+fn insert_in(words: &mut [u64], used: usize, i: usize) -> usize
+    requires long { length words.old ≡ words_n }
+    requires i_bound { i < words_n * 64 }
+    ensures kept_long { length words.new ≡ words_n }
+    ensures added { set_in words.new result ≡ bit_or (set_in words.old used) (2 ^ i) }
+{
+    let k = i / 64;
+    let n = used.min(WORDS);
+    let end = n.max(k + 1);
+    words[n..end].fill(0);
+    words[k] |= 1u64 << (i % 64);
+    end
 }
 
 impl RequiredIndices {
@@ -143,12 +161,8 @@ impl RequiredIndices {
         let mut out = RequiredIndices::new();
         let n = words_for(width);
         out.used = n;
-        let mut left = width;
-        let mut k = 0;
-        while k < n {
-            out.indices[k] = low_bits(left);
-            left = less(left, 64);
-            k += 1;
+        for k in 0..n {
+            out.indices[k] = low_bits(width.saturating_sub(k * 64));
         }
         out
     }
@@ -169,12 +183,10 @@ impl RequiredIndices {
     }
 
     /// Whether i is in a set. Rust: `indices().contains(&i)`.
-    pub fn contains(indices: &[u64; WORDS], used: usize, i: usize) -> bool
-        requires { Lent indices.now }
-        ensures { result ≡ has (set_in indices.now used) i }
+    pub fn contains(&self, i: usize) -> bool
+        ensures { result ≡ has (set_of self.now) i }
     {
-        let w = word(indices, smaller(used, WORDS), i / 64);
-        (w >> (i % 64)) % 2 == 1
+        has_in(&self.indices, self.used, i)
     }
 
     /// The index i added; the flag stays. Requires an index below 512.
@@ -182,28 +194,17 @@ impl RequiredIndices {
         requires { i < words_n * 64 }
         ensures { Holds result (bit_or (set_of self) (2 ^ i)) (flag_of self) }
     {
-        let n = self.used;
-        let used = RequiredIndices::insert(&mut self.indices, n, i);
-        self.used = used;
+        self.insert(i);
         self
     }
 
-    /// The index i added in place; answers how many words are then in use. Rust: the push and `compact` of
-    /// `add_expr`. Requires an index below 512, which every field's is.
-    pub fn insert(indices: &mut [u64; WORDS], used: usize, i: usize) -> usize
-        requires lent { Lent indices.old }
-        requires i_bound { i < words_n * 64 }
-        ensures result_after { set_in indices.new result ≡ bit_or (set_in indices.old used) (2 ^ i) }
-        ensures lent_2 { Lent indices.new }
+    /// The index i added in place; the flag stays. Rust: the push and `compact` of `add_expr`. Requires an index below 512, which every
+    /// field's is.
+    pub fn insert(&mut self, i: usize)
+        requires { i < words_n * 64 }
+        ensures { Holds self.new (bit_or (set_of self.old) (2 ^ i)) (flag_of self.old) }
     {
-        let k = i / 64;
-        let mut j = smaller(used, WORDS);
-        while j <= k {
-            indices[j] = 0;
-            j += 1;
-        }
-        indices[k] = indices[k] | (1u64 << (i % 64));
-        j
+        self.used = insert_in(&mut self.indices, self.used, i);
     }
 
     /// All indices of other added; the flag stays. Rust: `append`.
@@ -211,52 +212,30 @@ impl RequiredIndices {
         ensures { Holds result (bit_or (set_of self) (set_of other)) (flag_of self) }
     {
         let mut out = self;
-        let a = smaller(self.used, WORDS);
-        let b = smaller(other.used, WORDS);
-        let n = larger(a, b);
+        let a = self.used.min(WORDS);
+        let b = other.used.min(WORDS);
+        let n = a.max(b);
         out.used = n;
-        let mut k = 0;
-        while k < n {
+        for k in 0..n {
             let w = word(&self.indices, a, k);
             let v = word(&other.indices, b, k);
             out.indices[k] = w | v;
-            k += 1;
         }
         out
     }
 
     /// How many indices there are. Rust: `indices().len()`.
-    pub fn len(indices: &[u64; WORDS], used: usize) -> usize
-        requires { Lent indices.now }
-        ensures { result ≡ ones (set_in indices.now used) }
+    pub fn len(&self) -> usize
+        ensures { result ≡ ones (set_of self.now) }
     {
-        let last = smaller(used, WORDS);
-        let mut n: usize = 0;
-        let mut k = 0;
-        while k < last {
-            n += u64::count_ones(indices[k]) as usize;
-            k += 1;
-        }
-        n
+        count_in(&self.indices, self.used)
     }
 
     /// The first index at or above from. Rust: a turn of `indices().iter()`.
-    pub fn next(indices: &[u64; WORDS], used: usize, from: usize) -> Next
-        requires { Lent indices.now }
-        ensures { IsNext (set_in indices.now used) from result }
+    pub fn next(&self, from: usize) -> Option<usize>
+        ensures { IsNext (set_of self.now) from result }
     {
-        let last = smaller(used, WORDS);
-        let mut k = from / 64;
-        let mut at = from % 64;
-        while k < last {
-            let w = indices[k] >> at;
-            if w != 0 {
-                return Next::At(k * 64 + at + u64::trailing_zeros(w) as usize);
-            }
-            at = 0;
-            k += 1;
-        }
-        Next::Nothing
+        next_in(&self.indices, self.used, from)
     }
 
     /// The indices below n, and the others less n; both keep the flag. Rust: `split_off`.
@@ -284,14 +263,10 @@ impl RequiredIndices {
         ensures { Holds result (set_of self % 2 ^ n) (flag_of self) }
     {
         let mut out = self;
-        let last = smaller(self.used, words_for(n));
+        let last = self.used.min(words_for(n));
         out.used = last;
-        let mut left = n;
-        let mut k = 0;
-        while k < last {
-            out.indices[k] = self.indices[k] & low_bits(left);
-            left = less(left, 64);
-            k += 1;
+        for k in 0..last {
+            out.indices[k] = self.indices[k] & low_bits(n.saturating_sub(k * 64));
         }
         out
     }
@@ -306,36 +281,26 @@ impl RequiredIndices {
         let mut out = self;
         let q = n / 64;
         let m = n % 64;
-        let a = smaller(self.used, WORDS);
-        let last = smaller(less(a + up, q), WORDS);
-        let mut k = 0;
-        while k < last {
+        let a = self.used.min(WORDS);
+        let last = (a + up).saturating_sub(q).min(WORDS);
+        for k in 0..last {
             let w = word_behind(&self.indices, a, up, q + k);
             let v = word_behind(&self.indices, a, up, q + k + 1);
             out.indices[k] = (w >> m) | carry(v, m);
-            k += 1;
         }
         out.used = trimmed(&out.indices, last);
         out
     }
 
-    /// Whether the two sets have the same indices. Rust: `==` of `indices()`.
+    /// Whether the two sets have the same indices. Rust: `==` of `indices()`. No `PartialEq`: a derive compares words that do not count,
+    /// and `==` by this alone calls requests equal that differ in the flag.
     pub fn equals(self, other: RequiredIndices) -> bool
         ensures { result ≡ eqb (set_of self) (set_of other) }
     {
-        let a = smaller(self.used, WORDS);
-        let b = smaller(other.used, WORDS);
-        let n = larger(a, b);
-        let mut k = 0;
-        while k < n {
-            let w = word(&self.indices, a, k);
-            let v = word(&other.indices, b, k);
-            if w != v {
-                return false;
-            }
-            k += 1;
-        }
-        true
+        let a = self.used.min(WORDS);
+        let b = other.used.min(WORDS);
+        let n = a.max(b);
+        (0..n).all(|k| word(&self.indices, a, k) == word(&other.indices, b, k))
     }
 
     /// Whether there is no index. Rust: `indices().is_empty()`.
@@ -355,18 +320,13 @@ impl RequiredIndices {
 
     /// The set stored from `at` on: how many words are in use, and these. Requires room for all words. The
     /// flag is not stored.
-    pub fn store(indices: &[u64; WORDS], used: usize, words: &mut [u64], at: usize)
-        requires lent { Lent indices.now }
-        requires stored_n_in_bounds { at + stored_n ≤ length words.old }
-        ensures { words.new ≡ paste words.old at (stored_in indices.now used) (length (stored_in indices.now used)) }
+    pub fn store(&self, words: &mut [u64], at: usize)
+        requires { at + stored_n ≤ length words.old }
+        ensures { words.new ≡ paste words.old at (stored self.now) (length (stored self.now)) }
     {
-        let last = smaller(used, WORDS);
+        let last = self.used.min(WORDS);
         words[at] = last as u64;
-        let mut k = 0;
-        while k < last {
-            words[at + 1 + k] = indices[k];
-            k += 1;
-        }
+        words[at + 1..at + 1 + last].copy_from_slice(&self.indices[..last]);
     }
 
     /// The set that is stored from `at` on, without the flag.
@@ -374,14 +334,13 @@ impl RequiredIndices {
         requires { at + stored_n ≤ length words.now }
         ensures { Holds result (stored_at words.now at) false }
     {
-        let mut out = RequiredIndices::new();
-        let last = smaller(words[at] as usize, WORDS);
-        out.used = last;
-        let mut k = 0;
-        while k < last {
-            out.indices[k] = words[at + 1 + k];
-            k += 1;
+        let mut indices = [0u64; WORDS];
+        let used = (words[at] as usize).min(WORDS);
+        indices[..used].copy_from_slice(&words[at + 1..at + 1 + used]);
+        Self {
+            indices,
+            used,
+            projection_beneficial: 0,
         }
-        out
     }
 }

@@ -6,7 +6,6 @@ use native.Mathlib.Omega.{arith}
 use borrow.Author.Tests.{ne_eqb}
 use lib.ListN.{length, get_or, take, drop, set, length-set, length-take}
 use lib.Seq.{paste, drop-drop, get_or-drop, get_or-set_same, get_or-set_other}
-use Rattle.arena.specs.Kept.{Kept}
 use Rattle.required_indices.specs.Request.{words_n, words_of, set_of, stored, stored_at}
 use Rattle.required_indices.specs.Words.{number}
 use Rattle.required_indices.specs.declared.RequiredIndices.{RequiredIndices}

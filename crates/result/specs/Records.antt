@@ -1,5 +1,5 @@
 -- A record taken apart, what it stands for over its inputs, and when code can go through the records.
-use Rattle.std.specs.Prelude.{◌≡◌, List, ℕ, ◌+◌, ◌*◌, ◌^◌, ◌<◌, ◌≤◌, eqb, length}
+use Rattle.std.specs.Prelude.{◌≡◌, List, Result, Ok, Err, ℕ, ◌+◌, ◌*◌, ◌^◌, ◌<◌, ◌≤◌, eqb, length}
 use Rattle.cpl.specs.Exprs.{item_tags}
 use Rattle.cpl.specs.Fields.{columns_of, fields_of}
 use Rattle.cpl.specs.Limits.{max_nodes, max_tags}
@@ -7,13 +7,12 @@ use Rattle.cpl.specs.Plan.{Catalogue, names_of, Leaf, scan, empty, Unary, projec
 use Rattle.cpl.specs.Read.{pick}
 use Rattle.cpl.specs.ReadPlan.{Head, h0, h1, h2}
 use Rattle.cpl.specs.Tests.{sum_of}
+use Rattle.arena.specs.declared.Full.{Full}
 use Rattle.arena.specs.Kept.{Kept}
 use Rattle.arena.specs.Rows.{RowsOk, items_at, root_at}
 use Rattle.tree.specs.Node.{node_at}
 use Rattle.tree.specs.Tree.{Arrays, head_of, plan_at}
 use Rattle.result.specs.Result.{Results, columns_node, first_at, form_at, kept_node, nothing_left, old_at, record_n, second_at, set_at}
-use Rattle.result.specs.declared.Pushed.{Pushed}
-use Rattle.result.specs.declared.Pushed.TheVariants.{At, Full}
 use Rattle.result.specs.declared.Record.{Record}
 use Rattle.result.specs.declared.Record.TheVariants.{Columns, Items, Nothing}
 use Rattle.result.specs.declared.Record.TheVariants
@@ -125,9 +124,9 @@ pub record Appended (s s' : List ℕ) (i : ℕ) (x : Record) (set : ℕ) : Type 
   pub is : record_at s' i ≡ x
   pub set_is : set_at s' i ≡ set
 
-abbrev pub PushedIs : (s s' : List ℕ) (used : ℕ) → Record → (set : ℕ) → Pushed → Type 0
-PushedIs s s' used x set (At i) = (i ≡ used) × (used < max_nodes) × Appended s s' used x set
-PushedIs s s' used x set Full = (max_nodes ≤ used) × (s' ≡ s)
+abbrev pub PushedIs : (s s' : List ℕ) (used : ℕ) → Record → (set : ℕ) → Result ℕ Full → Type 0
+PushedIs s s' used x set (Ok i) = (i ≡ used) × (used < max_nodes) × Appended s s' used x set
+PushedIs s s' used x set (Err full) = (max_nodes ≤ used) × (s' ≡ s)
 
 -- records, rows and nodes were appended after the first n, m and k
 pub record Grown (n m k : ℕ) (r r' : Results) : Type 0 where

@@ -6,14 +6,15 @@
 
 ghost use Rattle.std.specs.Prelude.{◌≡◌, false, ◌+◌, ◌*◌, ◌≤◌, ◌<◌, length};
 ghost use Rattle.cpl.specs.Limits.{max_nodes};
-ghost use Rattle.required_indices.specs.Request.{Holds, Lent, set_in};
+ghost use Rattle.required_indices.specs.Request.{Holds, set_of, words_n};
 ghost use Rattle.result.specs.Result.{record_n, set_at};
 ghost use Rattle.result.specs.Records.{record_at, Appended, PushedIs, Stored};
 
+use arena::Full;
 use required_indices::{RequiredIndices, WORDS};
 
-// The numbers of a record: `record_n` of specs/Result.antt is the same.
-const RECORD: usize = 13;
+// The numbers of a record: four, and a set as it is stored. `record_n` of specs/Result.antt is the same.
+const RECORD: usize = 4 + 1 + WORDS;
 
 // The most nodes of a plan.
 const RECORDS: usize = 256;
@@ -37,13 +38,6 @@ pub enum Record {
         first: usize,
     },
     Nothing,
-}
-
-/// Where a record was put, or that there is no room for it.
-#[derive(Clone, Copy)]
-pub enum Pushed {
-    At(usize),
-    Full,
 }
 
 /// Record `i`, taken apart. It lies in the array. Forms are told apart here and nowhere else.
@@ -76,7 +70,7 @@ pub fn set_at(records: &[u64], i: usize) -> RequiredIndices
     RequiredIndices::load(records, i * RECORD + 4)
 }
 
-// The four numbers and the set of record `i`, which lies in the array. The set is that of the first `words` of `indices`.
+// The four numbers and the set of record `i`, which lies in the array. A form is a number, as it stands in a word of the lent array.
 fn put_record(
     records: &mut [u64],
     i: usize,
@@ -84,52 +78,41 @@ fn put_record(
     old: usize,
     first: usize,
     second: usize,
-    indices: &[u64; WORDS],
-    words: usize,
+    set: &RequiredIndices,
 )
     requires record_n_in_bounds { i * record_n + record_n ≤ length records.old }
-    requires lent { Lent indices.now }
-    ensures { Stored records.old records.new i form old first second (set_in indices.now words) }
+    requires lent { length set.now.indices ≡ words_n }
+    ensures { Stored records.old records.new i form old first second (set_of set.now) }
 {
     let at = i * RECORD;
     records[at] = form;
     records[at + 1] = old as u64;
     records[at + 2] = first as u64;
     records[at + 3] = second as u64;
-    RequiredIndices::store(indices, words, records, at + 4);
+    set.store(records, at + 4);
 }
 
-/// A record with its set, that of the first `words` of `indices`, appended to the first `used`: its number, or `Full` where all 256 are used.
+/// A record with its set, appended to the first `used`: its number, or `Full` where all 256 are used.
 pub fn push_record(
     records: &mut [u64],
     used: usize,
     node: Record,
-    indices: &[u64; WORDS],
-    words: usize,
-) -> Pushed
+    set: &RequiredIndices,
+) -> Result<usize, Full>
     requires record_n_in_bounds { max_nodes * record_n ≤ length records.old }
-    requires lent { Lent indices.now }
-    ensures { PushedIs records.old records.new used node (set_in indices.now words) result }
+    requires lent { length set.now.indices ≡ words_n }
+    ensures { PushedIs records.old records.new used node (set_of set.now) result }
 {
-    if RECORDS <= used {
-        return Pushed::Full;
+    if used >= RECORDS {
+        return Err(Full);
     }
     match node {
         Record::Kept { old, first, second } => {
-            put_record(records, used, 0, old, first, second, indices, words);
-            Pushed::At(used)
+            put_record(records, used, 0, old, first, second, set);
         }
-        Record::Columns { old, first } => {
-            put_record(records, used, 1, old, first, 0, indices, words);
-            Pushed::At(used)
-        }
-        Record::Items { row, count, first } => {
-            put_record(records, used, 2, row, first, count, indices, words);
-            Pushed::At(used)
-        }
-        Record::Nothing => {
-            put_record(records, used, 3, 0, 0, 0, indices, words);
-            Pushed::At(used)
-        }
+        Record::Columns { old, first } => put_record(records, used, 1, old, first, 0, set),
+        Record::Items { row, count, first } => put_record(records, used, 2, row, first, count, set),
+        Record::Nothing => put_record(records, used, 3, 0, 0, 0, set),
     }
+    Ok(used)
 }

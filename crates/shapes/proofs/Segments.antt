@@ -1,6 +1,9 @@
 -- A head from its number and its two segments: how long it is, and how it came about. Assumes nothing.
 use mathlib.Core.Path.{◌≡◌, refl, sym, ap, ◌∙◌}
-use mathlib.Core.Bool.{false}
+use Rattle.std.proofs.Common.{Bor, Bool, true, false, not, Option, option_copied}
+use Rattle.std.specs.Bool.{then_some}
+use Rattle.required_indices.specs.Request.{set_of}
+use Rattle.required_indices.specs.declared.RequiredIndices.{RequiredIndices}
 use mathlib.Core.List.{List, ◌∷◌, ◌++◌, append_assoc}
 use Prim.Native.Nat.{ℕ, ◌+◌, ◌-◌, ◌<◌}
 use native.Mathlib.Omega.{arith}
@@ -10,7 +13,7 @@ use Rattle.cpl.specs.Codes.{join_number}
 use Rattle.tree.specs.Node.{join_is}
 use Rattle.tree.specs.declared.JoinType.{JoinType}
 use Rattle.tree.specs.declared.JoinType.TheVariants.{Inner, Left, Right, Full, LeftSemi, LeftAnti, RightSemi, RightAnti}
-use Rattle.writer_parts.specs.Lists.{counted_list, list_tags, which}
+use Rattle.writer_parts.specs.Lists.{counted_list, list_tags, which, which_of}
 use Rattle.writer_parts.specs.Wrote.{Laid, Wrote}
 use Rattle.writer_parts.specs.declared.Part.{Part}
 use Rattle.writer_parts.proofs.Over.{length-bytes, part, so, start, then}
@@ -38,6 +41,17 @@ module _ (k : ℕ) (p : Part) (s c : List ℕ) (f n : ℕ) (own : ℕ) {x : ℕ}
 
   pub own-tags : list_tags p s c f n (which false own) ≡ chosen_tags p s c f n x
   own-tags = ap (chosen_tags p s c f n) e
+
+-- a list of which all is taken, or those that a set has
+module _ {o : Option (Bor RequiredIndices)} (set : Bor RequiredIndices) where
+  module _ (k : ℕ) (p : Part) (s c : List ℕ) (f n : ℕ) where
+    pub taken-list : (b : Bool) → o ≡ then_some (not b) set → counted_list k p s c f n (which_of (option_copied o)) ≡ counted_list k p s c f n (which b (set_of set.now))
+    taken-list true e = rw e
+    taken-list false e = rw e
+
+    pub taken-tags : (b : Bool) → o ≡ then_some (not b) set → list_tags p s c f n (which_of (option_copied o)) ≡ list_tags p s c f n (which b (set_of set.now))
+    taken-tags true e = rw e
+    taken-tags false e = rw e
 
 -- a join's type is a number below eight
 pub join-small : (t : JoinType) → join_number (join_is t) < 8

@@ -1,15 +1,13 @@
 //! shapes: what is written of a node. A node's head is a number and two segments; those are counted, and written over the start of a buffer.
 #![tactic(auto)]
 
-ghost use Rattle.std.specs.Prelude.{true, ◌≡◌, ◌+◌, ◌*◌, ◌^◌, ◌<◌, ◌≤◌, length};
-ghost use Rattle.cpl.specs.Codes.{join_number};
-ghost use Rattle.required_indices.specs.Request.{Lent, set_in, set_of};
-ghost use Rattle.tree.specs.Node.{join_is};
+ghost use Rattle.std.specs.Prelude.{true, false, ◌≡◌, ◌+◌, ◌*◌, ◌^◌, ◌<◌, ◌≤◌, length};
+ghost use Rattle.required_indices.specs.Request.{set_of};
 ghost use Rattle.writer_parts.specs.Wrote.{Countable, Counts, Wrote};
 ghost use Rattle.shapes.specs.Shapes.{empty_shape, head_shape, join_shape, part_of, scan_shape, seg_bytes, SegOk, seg_tags, shape_bytes, shape_of, ShapeOk, shape_tags, Sums};
 
-use required_indices::{RequiredIndices, WORDS};
-use tree::{JoinNode, JoinType, Node, ScanNode};
+use required_indices::RequiredIndices;
+use tree::{JoinNode, Node, ScanNode};
 use writer_parts::{Part, Size};
 
 /// A part of a node's head that is no number of a known width: a list behind its count of `count` bytes, all of it or at the set; windows at
@@ -51,33 +49,6 @@ pub struct Shape {
     pub second: Segment,
 }
 
-fn join_number(t: JoinType) -> u64
-    ensures { result ≡ join_number (join_is t) }
-{
-    match t {
-        JoinType::Inner => 0,
-        JoinType::Left => 1,
-        JoinType::Right => 2,
-        JoinType::Full => 3,
-        JoinType::LeftSemi => 4,
-        JoinType::LeftAnti => 5,
-        JoinType::RightSemi => 6,
-        JoinType::RightAnti => 7,
-    }
-}
-
-fn wide_of(x: u32) -> u64
-    ensures { result ≡ x }
-{
-    x as u64
-}
-
-fn wide16(x: u16) -> u64
-    ensures { result ≡ x }
-{
-    x as u64
-}
-
 /// A head that is a tag alone, or a tag and a number: k bytes.
 pub fn plain(k: usize, x: u64, first: Segment) -> Shape
     ensures { result ≡ head_shape k x first Segment.Nothing }
@@ -94,22 +65,16 @@ pub fn plain(k: usize, x: u64, first: Segment) -> Shape
 fn join_shape(j: JoinNode) -> Shape
     ensures { result ≡ join_shape j }
 {
-    let first = all_of(1, Part::On, j.first, j.n);
-    let kind = j.join_type;
-    let x = join_number(kind) * 256 + 10;
-    if j.has_filter {
-        return Shape {
-            k: 2,
-            x,
-            first,
-            second: Segment::Present(j.filter),
-        };
-    }
+    let second = if j.has_filter {
+        Segment::Present(j.filter)
+    } else {
+        Segment::Absent
+    };
     Shape {
         k: 2,
-        x,
-        first,
-        second: Segment::Absent,
+        x: u64::from(j.join_type) * 256 + 10,
+        first: all_of(1, Part::On, j.first, j.n),
+        second,
     }
 }
 
@@ -118,36 +83,17 @@ fn scan_shape(s: ScanNode, width: usize, wide: usize, late: usize) -> Shape
     requires { s.first + s.n < 2 ^ 64 }
     ensures { result ≡ scan_shape wide late s width }
 {
-    let x = 4294967296 + wide16(s.qualifier) * 65536 + ((s.table % 256) as u64) * 256 + 11;
     let behind = s.first + s.n;
-    let second = all_of(late, Part::Expr, behind, s.filters);
-    if s.given {
-        let first = Segment::List {
-            count: wide,
-            part: Part::Column(wide),
-            first: s.first,
-            n: s.n,
-            all: false,
-        };
-        return Shape {
-            k: 5,
-            x,
-            first,
-            second,
-        };
-    }
-    let first = Segment::List {
-        count: wide,
-        part: Part::Index(wide),
-        first: 0,
-        n: width,
-        all: false,
+    let (part, first, n) = if s.given {
+        (Part::Column(wide), s.first, s.n)
+    } else {
+        (Part::Index(wide), 0, width)
     };
     Shape {
         k: 5,
-        x,
-        first,
-        second,
+        x: 4294967296 + u64::from(s.qualifier) * 65536 + ((s.table % 256) as u64) * 256 + 11,
+        first: at_set(wide, part, first, n),
+        second: all_of(late, Part::Expr, behind, s.filters),
     }
 }
 
@@ -155,11 +101,11 @@ fn scan_shape(s: ScanNode, width: usize, wide: usize, late: usize) -> Shape
 pub fn empty_shape(one_row: bool, first: usize, n: usize, wide: usize) -> Shape
     ensures { result ≡ empty_shape wide one_row first n }
 {
-    let list = all_of(wide, Part::Pair, first, n);
-    if one_row {
-        return plain(2, 268, list);
-    }
-    plain(2, 12, list)
+    plain(
+        2,
+        u64::from(one_row) * 256 + 12,
+        all_of(wide, Part::Pair, first, n),
+    )
 }
 
 /// A node's head, of which the set's part of its list is kept. A scan that names no columns has `width` of them. A count has
@@ -174,8 +120,8 @@ pub fn shape_of(node: Node, width: usize, wide: usize, late: usize) -> Shape
         Node::Sort { first, n } => plain(1, 3, all_of(1, Part::Key, first, n)),
         Node::Limit { skip, fetch } => plain(
             5,
-            wide_of(skip) * 256 + 4,
-            Segment::Word(wide_of(fetch)),
+            u64::from(skip) * 256 + 4,
+            Segment::Word(u64::from(fetch)),
         ),
         Node::Aggregate {
             first,
@@ -212,9 +158,9 @@ pub fn shape_of(node: Node, width: usize, wide: usize, late: usize) -> Shape
             },
         ),
         Node::SubqueryAlias { qualifier } => {
-            plain(3, wide16(qualifier) * 256 + 7, Segment::Nothing)
+            plain(3, u64::from(qualifier) * 256 + 7, Segment::Nothing)
         }
-        Node::Union { right: _ } => plain(1, 8, Segment::Nothing),
+        Node::Union { .. } => plain(1, 8, Segment::Nothing),
         Node::Distinct => plain(1, 9, Segment::Nothing),
         Node::Join(j) => join_shape(j),
         Node::Scan(s) => scan_shape(s, width, wide, late),
@@ -235,19 +181,24 @@ pub fn all_of(count: usize, part: Part, first: usize, n: usize) -> Segment
     }
 }
 
-// The n indices of a set from `from` on, counted from there.
-fn part_of(indices: &[u64; WORDS], used: usize, from: usize, n: usize) -> RequiredIndices
-    requires { Lent indices.now }
-    ensures { set_of result ≡ part_of (set_in indices.now used) from n }
+/// Those rows of a list that the set has.
+pub fn at_set(count: usize, part: Part, first: usize, n: usize) -> Segment
+    ensures { result ≡ Segment.List count part first n false }
 {
-    let words = *indices;
-    let mut set = RequiredIndices::new();
-    set.indices = words;
-    set.used = used;
-    let split = set.split_off(from);
-    let rest = split.rest;
-    let own = rest.split_off(n);
-    own.below
+    Segment::List {
+        count,
+        part,
+        first,
+        n,
+        all: false,
+    }
+}
+
+// The n indices of a set from `from` on, counted from there.
+fn part_of(set: RequiredIndices, from: usize, n: usize) -> RequiredIndices
+    ensures { set_of result ≡ part_of (set_of set) from n }
+{
+    set.split_off(from).rest.split_off(n).below
 }
 
 /// A segment of a head.
@@ -255,14 +206,12 @@ pub fn write_segment(
     segment: Segment,
     rows: &[u16],
     cells: &[u64],
-    indices: &[u64; WORDS],
-    used: usize,
+    set: &RequiredIndices,
     out: &mut [u8],
 ) -> usize
-    requires lent { Lent indices.now }
-    requires seg_ok { SegOk segment rows.now cells.now (set_in indices.now used) }
-    requires used_in_bounds { length (seg_bytes segment rows.now cells.now (set_in indices.now used)) ≤ length out.old }
-    ensures { Wrote (seg_bytes segment rows.now cells.now (set_in indices.now used)) out.old result out.new }
+    requires seg_ok { SegOk segment rows.now cells.now (set_of set.now) }
+    requires used_in_bounds { length (seg_bytes segment rows.now cells.now (set_of set.now)) ≤ length out.old }
+    ensures { Wrote (seg_bytes segment rows.now cells.now (set_of set.now)) out.old result out.new }
 {
     match segment {
         Segment::Nothing => 0,
@@ -273,20 +222,18 @@ pub fn write_segment(
             n,
             all,
         } => writer_parts::write_counted(
-            count, part, rows, cells, first, n, all, indices, used, out,
+            count,
+            part,
+            rows,
+            cells,
+            first,
+            n,
+            (!all).then_some(set),
+            out,
         ),
         Segment::Wins { count, first, n } => {
-            let a = writer_parts::put_at(out, 0, count, RequiredIndices::len(indices, used) as u64);
-            let m = writer_parts::write_wins(
-                rows,
-                cells,
-                first,
-                n,
-                false,
-                indices,
-                used,
-                &mut out[a..],
-            );
+            let a = writer_parts::put_at(out, 0, count, set.len() as u64);
+            let m = writer_parts::write_wins(rows, cells, first, n, Some(set), &mut out[a..]);
             a + m
         }
         Segment::Expr(root) => writer_parts::write_expr(cells, root, out),
@@ -304,34 +251,16 @@ pub fn write_segment(
             first,
             n,
         } => {
-            let own = part_of(indices, used, from, n);
-            writer_parts::write_counted(
-                count,
-                part,
-                rows,
-                cells,
-                first,
-                n,
-                false,
-                &own.indices,
-                own.used,
-                out,
-            )
+            let own = part_of(*set, from, n);
+            writer_parts::write_counted(count, part, rows, cells, first, n, Some(&own), out)
         }
     }
 }
 
-pub fn segment_size(
-    segment: Segment,
-    rows: &[u16],
-    cells: &[u64],
-    indices: &[u64; WORDS],
-    used: usize,
-) -> Size
-    requires lent { Lent indices.now }
-    requires seg_ok { SegOk segment rows.now cells.now (set_in indices.now used) }
-    requires countable { Countable (length (seg_bytes segment rows.now cells.now (set_in indices.now used))) (seg_tags segment rows.now cells.now (set_in indices.now used)) }
-    ensures { Counts (length (seg_bytes segment rows.now cells.now (set_in indices.now used))) (seg_tags segment rows.now cells.now (set_in indices.now used)) result }
+pub fn segment_size(segment: Segment, rows: &[u16], cells: &[u64], set: &RequiredIndices) -> Size
+    requires seg_ok { SegOk segment rows.now cells.now (set_of set.now) }
+    requires countable { Countable (length (seg_bytes segment rows.now cells.now (set_of set.now))) (seg_tags segment rows.now cells.now (set_of set.now)) }
+    ensures { Counts (length (seg_bytes segment rows.now cells.now (set_of set.now))) (seg_tags segment rows.now cells.now (set_of set.now)) result }
 {
     let one = Size { bytes: 1, tags: 0 };
     match segment {
@@ -342,16 +271,15 @@ pub fn segment_size(
             first,
             n,
             all,
-        } => writer_parts::counted_size(count, part, rows, cells, first, n, all, indices, used),
-        Segment::Wins { count, first, n } => writer_parts::both(
+        } => writer_parts::counted_size(count, part, rows, cells, first, n, (!all).then_some(set)),
+        Segment::Wins { count, first, n } => {
             Size {
                 bytes: count,
                 tags: 0,
-            },
-            writer_parts::wins_size(rows, cells, first, n, false, indices, used),
-        ),
+            } + writer_parts::wins_size(rows, cells, first, n, Some(set))
+        }
         Segment::Expr(root) => writer_parts::expr_size(cells, root),
-        Segment::Present(root) => writer_parts::both(one, writer_parts::expr_size(cells, root)),
+        Segment::Present(root) => one + writer_parts::expr_size(cells, root),
         Segment::Absent => one,
         Segment::Word(_) => Size { bytes: 4, tags: 0 },
         Segment::Chosen {
@@ -361,18 +289,8 @@ pub fn segment_size(
             first,
             n,
         } => {
-            let own = part_of(indices, used, from, n);
-            writer_parts::counted_size(
-                count,
-                part,
-                rows,
-                cells,
-                first,
-                n,
-                false,
-                &own.indices,
-                own.used,
-            )
+            let own = part_of(*set, from, n);
+            writer_parts::counted_size(count, part, rows, cells, first, n, Some(&own))
         }
     }
 }
@@ -382,45 +300,29 @@ pub fn write_shape(
     shape: Shape,
     rows: &[u16],
     cells: &[u64],
-    indices: &[u64; WORDS],
-    used: usize,
+    set: &RequiredIndices,
     out: &mut [u8],
 ) -> usize
-    requires lent { Lent indices.now }
-    requires shape_ok { ShapeOk shape rows.now cells.now (set_in indices.now used) }
-    requires used_in_bounds { length (shape_bytes shape rows.now cells.now (set_in indices.now used)) ≤ length out.old }
-    ensures { Wrote (shape_bytes shape rows.now cells.now (set_in indices.now used)) out.old result out.new }
+    requires shape_ok { ShapeOk shape rows.now cells.now (set_of set.now) }
+    requires used_in_bounds { length (shape_bytes shape rows.now cells.now (set_of set.now)) ≤ length out.old }
+    ensures { Wrote (shape_bytes shape rows.now cells.now (set_of set.now)) out.old result out.new }
 {
-    let first = shape.first;
-    let second = shape.second;
     let a = writer_parts::put_at(out, 0, shape.k, shape.x);
-    let m = write_segment(first, rows, cells, indices, used, &mut out[a..]);
+    let m = write_segment(shape.first, rows, cells, set, &mut out[a..]);
     let b = a + m;
-    let n = write_segment(second, rows, cells, indices, used, &mut out[b..]);
+    let n = write_segment(shape.second, rows, cells, set, &mut out[b..]);
     b + n
 }
 
-pub fn shape_size(
-    shape: Shape,
-    rows: &[u16],
-    cells: &[u64],
-    indices: &[u64; WORDS],
-    used: usize,
-) -> Size
-    requires lent { Lent indices.now }
-    requires shape_ok { ShapeOk shape rows.now cells.now (set_in indices.now used) }
-    requires countable { Countable (length (shape_bytes shape rows.now cells.now (set_in indices.now used))) (shape_tags shape rows.now cells.now (set_in indices.now used)) }
-    ensures { Counts (length (shape_bytes shape rows.now cells.now (set_in indices.now used))) (shape_tags shape rows.now cells.now (set_in indices.now used)) result }
+pub fn shape_size(shape: Shape, rows: &[u16], cells: &[u64], set: &RequiredIndices) -> Size
+    requires shape_ok { ShapeOk shape rows.now cells.now (set_of set.now) }
+    requires countable { Countable (length (shape_bytes shape rows.now cells.now (set_of set.now))) (shape_tags shape rows.now cells.now (set_of set.now)) }
+    ensures { Counts (length (shape_bytes shape rows.now cells.now (set_of set.now))) (shape_tags shape rows.now cells.now (set_of set.now)) result }
 {
-    let first = shape.first;
-    let second = shape.second;
-    let a = segment_size(first, rows, cells, indices, used);
-    let b = segment_size(second, rows, cells, indices, used);
-    writer_parts::both(
-        Size {
-            bytes: shape.k,
-            tags: 0,
-        },
-        writer_parts::both(a, b),
-    )
+    let a = segment_size(shape.first, rows, cells, set);
+    let b = segment_size(shape.second, rows, cells, set);
+    Size {
+        bytes: shape.k,
+        tags: 0,
+    } + (a + b)
 }

@@ -1,18 +1,17 @@
 -- A file's listing by what was found of the file: refused, or accepted with its plan in the lent arrays. Assumes nothing.
-use mathlib.Core.Path.{◌≡◌, refl, sym, ap, ◌∙◌}
-use mathlib.Core.List.{List, [], ◌∷◌, ◌++◌}
+use mathlib.Core.Path.{◌≡◌, refl}
+use mathlib.Core.List.{List}
 use mathlib.Core.Option.{Option, none, some}
-use Prim.Native.Nat.{ℕ, zero, suc, ◌+◌, ◌^◌, ◌<◌, ◌≤◌}
+use Prim.Native.Nat.{ℕ, ◌^◌, ◌<◌}
 use native.Mathlib.Omega.{arith}
 use lib.ListN.{length}
 use Rattle.cpl.specs.Accept.{Fault, fault, check}
-use Rattle.cpl.specs.Exprs.{plan_nodes, plan_tags}
-use Rattle.cpl.specs.Limits.{max_nodes, max_tags}
+use Rattle.cpl.specs.Exprs.{plan_nodes}
 use Rattle.cpl.specs.Plan.{Catalogue, Plan, Source, leaf, unary, binary}
 use Rattle.cpl.specs.Read.{Res, ok, bad}
 use Rattle.cpl.specs.ReadPlan.{read_file}
-use Rattle.cpl.specs.Writable.{FitCatalogue, Writable}
-use Rattle.rules.specs.Answer.{Answer, refusal, written}
+use Rattle.cpl.specs.Writable.{FitCatalogue}
+use Rattle.rules.specs.Answer.{refusal, written}
 use Rattle.rules.specs.Check.{check_file, finding, numbers_of}
 use Rattle.rules.specs.Success.{source_of}
 use Rattle.plan_text.specs.Answers as text
@@ -20,7 +19,6 @@ use Rattle.plan_text.specs.Answers.{delivered, faultless, list_answer, list_of}
 use Rattle.plan_text.specs.Listing.{listing}
 use Rattle.plan_text.proofs.Long.{listing_short}
 use Rattle.tree.specs.Tree.{WfTree, lent, plan_at}
-use Rattle.text_plan.specs.Heads.{Walks}
 
 -- a plan that was read but has a fault, and a file that was not read
 fault-refuses : (make : Source → List ℕ) (s : Source) (next tags nodes : ℕ) (f : Option Fault) (out : List ℕ) → check s.catalogue s.plan 0 ≡ f →

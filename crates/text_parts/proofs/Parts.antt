@@ -1,15 +1,15 @@
 -- The texts of what rows hold, put one after the other: a law for each way through a function. Assumes nothing.
-use mathlib.Core.Path.{◌≡◌, refl, sym, ap, ◌∙◌}
+use mathlib.Core.Path.{◌≡◌, refl, sym, ap}
 use mathlib.Core.Bool.{Bool, true, false, true≢false}
-use mathlib.Core.List.{List, [], ◌∷◌, ◌++◌}
-use Prim.Native.Nat.{ℕ, zero, suc, ◌+◌, ◌*◌, ◌-◌, ◌/◌, ◌%◌, ◌<◌, ◌≤◌}
+use mathlib.Core.List.{List, ◌++◌}
+use Prim.Native.Nat.{ℕ, zero, suc, ◌+◌, ◌-◌, ◌/◌, ◌%◌, ◌<◌}
 use native.Mathlib.Omega.{arith}
 use borrow.Author.Tests.{ne_eqb}
 use lib.Dec.{eqb}
 use Rattle.cpl.specs.Codes.{fn_of, op1_of, op2_of, signed}
 use Rattle.cpl.specs.Plan as plan
 use Rattle.plan_text.specs.Words.{w_as, w_by, w_close, w_close_list, w_comma, w_down, w_equals, w_first, w_missing, w_number, w_open, w_open_list, w_order, w_rows, w_space}
-use Rattle.plan_text.specs.Write.{Text, ◌·◌, agg_text, call_text, expr_text, fn_text, if, integer, item_text, key_text, list_text, members_text, more_text, nothing, on_text, op1_text, op2_text, pair_text, win_text, word}
+use Rattle.plan_text.specs.Write.{Text, ◌·◌, agg_text, call_text, expr_text, fn_text, if, integer, item_text, key_text, list_text, members_text, more_text, on_text, op1_text, op2_text, pair_text, win_text, word}
 use Rattle.arena.specs.Cells.{expr_at}
 use Rattle.arena.specs.Rows.{RowIs, RowOk, RowsOk, item_at}
 use Rattle.arena.specs.View.{Shows}
@@ -67,14 +67,14 @@ module _ {s : List ℕ} {i q n m k : ℕ} (cells : List ℕ) (row : RowIs s i q 
   item_is : (x : plan.Item) → item_at s cells i ≡ x → Puts (item_text x) at xs r ys → Puts (item_text (item_at s cells i)) at xs r ys
   item_is x h p = rw h p
 
-  pub item-bare : m ≡ 0 → Puts (pair_text (plan.pair q n)) at xs r ys → Puts (item_text (item_at s cells i)) at xs r ys
+  pub item_bare : m ≡ 0 → Puts (pair_text (plan.pair q n)) at xs r ys → Puts (item_text (item_at s cells i)) at xs r ys
   unfolding item_text
-  item-bare e p = item_is _ (read_bare_lem cells row e) p
+  item_bare e p = item_is _ (read_bare_lem cells row e) p
 
-  pub item-named : {b c : ℕ} {us vs : List ℕ} → (m ≡ 0 → ⊥) → Puts (expr_text (expr_at cells k)) at xs b us → Puts (word w_as) b us c vs → Puts (pair_text (plan.pair q n)) c vs r ys →
+  pub item_named : {b c : ℕ} {us vs : List ℕ} → (m ≡ 0 → ⊥) → Puts (expr_text (expr_at cells k)) at xs b us → Puts (word w_as) b us c vs → Puts (pair_text (plan.pair q n)) c vs r ys →
       Puts (item_text (item_at s cells i)) at xs r ys
   unfolding item_text
-  item-named e p₁ p₂ p₃ = item_is _ (read_named cells row e) (p₁ then p₂ then p₃)
+  item_named e p₁ p₂ p₃ = item_is _ (read_named cells row e) (p₁ then p₂ then p₃)
 
 pub key_put : {s : List ℕ} {i x k at b c r : ℕ} {xs ys us vs : List ℕ} (cells : List ℕ) → KeyIs s i x k → Puts (expr_text (expr_at cells k)) at xs b us →
     Puts (if (eqb (x % 2) 1) (word w_down)) b us c vs → Puts (if (eqb (x / 2) 1) (word w_first)) c vs r ys → Puts (key_text (key_at s cells i)) at xs r ys

@@ -28,6 +28,7 @@ pub enum Part {
 }
 
 /// A word, or nothing.
+#[tactic(auto, using(crate::proofs::Parts::yes_put, crate::proofs::Parts::no_put))]
 pub fn put_if(out: &mut [u8], at: usize, yes: bool, s: &[u8]) -> usize
     ensures { Puts (if yes (word s.now)) at out.old result out.new }
 {
@@ -38,6 +39,7 @@ pub fn put_if(out: &mut [u8], at: usize, yes: bool, s: &[u8]) -> usize
 }
 
 // The bracket and the operator with one operand, by its tag.
+#[tactic(auto, unfolding(cpl::specs::Codes::op1_of, plan_text::specs::Write::op1_text))]
 fn put_one(out: &mut [u8], at: usize, t: u64) -> usize
     requires { (3 ≤ t) × (t < 5) }
     ensures { Puts (word w_open · op1_text (op1_of t)) at out.old result out.new }
@@ -49,6 +51,7 @@ fn put_one(out: &mut [u8], at: usize, t: u64) -> usize
 }
 
 // The operator with two operands, by its tag, between spaces.
+#[tactic(auto, unfolding(cpl::specs::Codes::op2_of, plan_text::specs::Write::op2_text))]
 fn put_two(out: &mut [u8], at: usize, t: u64) -> usize
     requires { (5 ≤ t) × (t < 12) }
     ensures { Puts (word w_space · op2_text (op2_of t)) at out.old result out.new }
@@ -90,6 +93,7 @@ pub fn put_expr(cells: &[u64], i: usize, out: &mut [u8], at: usize) -> usize
 }
 
 /// An item: a column, or an expression with its alias.
+#[tactic(auto, using(crate::proofs::Parts::item_bare, arena::proofs::Rows::read_wf))]
 pub fn put_item(rows: &[u16], cells: &[u64], i: usize, out: &mut [u8], at: usize) -> usize
     requires { RowOk rows.now cells.now i }
     ensures { Puts (item_text (item_at rows.now cells.now i)) at out.old result out.new }
@@ -115,6 +119,7 @@ pub fn put_key(rows: &[u16], cells: &[u64], i: usize, out: &mut [u8], at: usize)
 }
 
 // The name of a function with an expression, by its number, and the bracket.
+#[tactic(auto, unfolding(cpl::specs::Codes::fn_of, plan_text::specs::Write::fn_text))]
 fn put_fn(out: &mut [u8], at: usize, f: u16) -> usize
     requires { (0 < f) × (f < 5) }
     ensures { Puts (fn_text (fn_of f)) at out.old result out.new }
@@ -128,6 +133,7 @@ fn put_fn(out: &mut [u8], at: usize, f: u16) -> usize
 }
 
 /// A function with its expression; function 0 has none, and the word `alone`.
+#[tactic(auto, using(crate::proofs::Parts::call_none, crate::proofs::Parts::call_over_lem))]
 pub fn put_call(
     cells: &[u64],
     f: u16,
@@ -148,6 +154,7 @@ pub fn put_call(
 }
 
 /// An aggregate: its function, and its pair.
+#[tactic(auto, using(crate::proofs::Parts::agg_put))]
 pub fn put_agg(rows: &[u16], cells: &[u64], i: usize, out: &mut [u8], at: usize) -> usize
     requires { AggOk rows.now cells.now i }
     ensures { Puts (agg_text (agg_at rows.now cells.now i)) at out.old result out.new }
@@ -159,6 +166,7 @@ pub fn put_agg(rows: &[u16], cells: &[u64], i: usize, out: &mut [u8], at: usize)
 }
 
 /// A pair of a join: its two expressions.
+#[tactic(auto, using(crate::proofs::Parts::on_put))]
 pub fn put_on(rows: &[u16], cells: &[u64], i: usize, out: &mut [u8], at: usize) -> usize
     requires { OnOk rows.now cells.now i }
     ensures { Puts (on_text (on_at rows.now cells.now i)) at out.old result out.new }
@@ -212,13 +220,9 @@ fn put_more(
     ensures { Puts (more_at (part_text part rows.now cells.now) one first n) at out.old result out.new }
 {
     let mut end = at;
-    let mut row = first;
-    let mut left = n;
-    while left > 0 {
+    for i in 0..n {
         let a = put_text(out, end, b", ");
-        end = put_part(part, rows, cells, row, out, a);
-        row += 1;
-        left -= 1;
+        end = put_part(part, rows, cells, first + i, out, a);
     }
     put_text(out, end, b"]")
 }
@@ -272,12 +276,10 @@ fn put_more_wins(
 {
     let mut end = at;
     let mut row = first;
-    let mut left = n;
-    while left > 0 {
+    for _ in 0..n {
         let a = put_text(out, end, b", ");
         end = put_win(rows, cells, row, out, a);
         row = tree::win_at(rows, row).next;
-        left -= 1;
     }
     put_text(out, end, b"]")
 }

@@ -1,9 +1,9 @@
 -- The texts of nodes, put part after part: a law for each way through a function. Assumes nothing.
-use mathlib.Core.Path.{◌≡◌, refl, sym, ap, ◌∙◌}
+use mathlib.Core.Path.{◌≡◌, refl, sym, ap}
 use mathlib.Core.Bool.{Bool, true, false, true≢false}
-use mathlib.Core.List.{List, [], ◌∷◌, ◌++◌}
-use mathlib.Core.Option.{Option, none, some}
-use Prim.Native.Nat.{ℕ, zero, suc, ◌+◌, ◌-◌, ◌<◌, ◌≤◌}
+use mathlib.Core.List.{List, ◌∷◌, ◌++◌}
+use mathlib.Core.Option.{Option}
+use Prim.Native.Nat.{ℕ, zero, suc, ◌+◌, ◌-◌, ◌<◌}
 use native.Mathlib.Omega.{arith}
 use borrow.Author.Tests.{eq-eqb, ne_eqb}
 use Rattle.cpl.specs.Limits.{no_fetch}
@@ -42,27 +42,27 @@ unfolding cond_text
 condition_none true e h = absurd (true≢false h)
 condition_none false e h = none_put
 
-pub columns-some : {at b r : ℕ} {xs ys zs : List ℕ} (given : Bool) (s : List ℕ) (first n : ℕ) → given ≡ true → Puts (word w_columns) at xs b ys →
+pub columns_some : {at b r : ℕ} {xs ys zs : List ℕ} (given : Bool) (s : List ℕ) (first n : ℕ) → given ≡ true → Puts (word w_columns) at xs b ys →
     Puts (members_at (λ i. number (number_at s i)) one first n) b ys r zs → Puts (columns_text (if? given (columns_at s first n))) at xs r zs
 unfolding columns_text
-columns-some true s first n h p q = p then members_put number (number_at s) one first n q
-columns-some false s first n h p q = absurd (true≢false (sym h))
+columns_some true s first n h p q = p then members_put number (number_at s) one first n q
+columns_some false s first n h p q = absurd (true≢false (sym h))
 
-pub columns-none : {at : ℕ} {xs : List ℕ} (given : Bool) (s : List ℕ) (first n : ℕ) → given ≡ false → Puts (columns_text (if? given (columns_at s first n))) at xs at xs
+pub columns_none : {at : ℕ} {xs : List ℕ} (given : Bool) (s : List ℕ) (first n : ℕ) → given ≡ false → Puts (columns_text (if? given (columns_at s first n))) at xs at xs
 unfolding columns_text
-columns-none true s first n h = absurd (true≢false h)
-columns-none false s first n h = none_put
+columns_none true s first n h = absurd (true≢false h)
+columns_none false s first n h = none_put
 
-pub filters-none : {at : ℕ} {xs : List ℕ} (s cells : List ℕ) (first n : ℕ) → n ≡ 0 → Puts (filters_text (exprs_at s cells first n)) at xs at xs
+pub filters_none : {at : ℕ} {xs : List ℕ} (s cells : List ℕ) (first n : ℕ) → n ≡ 0 → Puts (filters_text (exprs_at s cells first n)) at xs at xs
 unfolding filters_text list_at
-filters-none s cells first zero h = none_put
-filters-none s cells first (suc n) h = absurd (omega arith)
+filters_none s cells first zero h = none_put
+filters_none s cells first (suc n) h = absurd (omega arith)
 
-pub filters-some : {at b r : ℕ} {xs ys zs : List ℕ} (s cells : List ℕ) (first n : ℕ) → 0 < n → Puts (word w_where) at xs b ys →
+pub filters_some : {at b r : ℕ} {xs ys zs : List ℕ} (s cells : List ℕ) (first n : ℕ) → 0 < n → Puts (word w_where) at xs b ys →
     Puts (members_at (λ i. expr_text (expr_at cells (root_at s i))) one first n) b ys r zs → Puts (filters_text (exprs_at s cells first n)) at xs r zs
 unfolding filters_text list_at
-filters-some s cells first zero h p q = absurd (omega arith)
-filters-some s cells first (suc n) h p q = p then members_put expr_text (λ i. expr_at cells (root_at s i)) one first (suc n) q
+filters_some s cells first zero h p q = absurd (omega arith)
+filters_some s cells first (suc n) h p q = p then members_put expr_text (λ i. expr_at cells (root_at s i)) one first (suc n) q
 
 -- ── nodes ───────────────────────────────────────────────────────────────────────────────────
 

@@ -1,22 +1,23 @@
 -- The lines of a plan in the lent arrays: a node's own, then those of its inputs. Assumes nothing.
-use mathlib.Core.Path.{◌≡◌, refl, sym, ap, ◌∙◌}
-use mathlib.Core.List.{List, [], ◌∷◌, ◌++◌}
-use Prim.Native.Nat.{ℕ, suc, ◌+◌, ◌<◌, ◌≤◌}
+use mathlib.Core.Path.{◌≡◌, refl, ap}
+use mathlib.Core.List.{List, [], ◌++◌}
+use Prim.Native.Nat.{ℕ, suc, ◌+◌, ◌<◌}
 use native.Mathlib.Omega.{arith}
 use Rattle.cpl.specs.Plan.{Binary, Leaf, Unary, leaf}
 use Rattle.cpl.specs.ReadPlan.{Head, h0, h1, h2}
 use Rattle.plan_text.specs.Listing.{indent, line_text, plan_text}
 use Rattle.plan_text.specs.Words.{w_newline}
-use Rattle.plan_text.specs.Write.{Text, ◌·◌, head_text, word}
+use Rattle.plan_text.specs.Write.{◌·◌, head_text, word}
 use Rattle.tree.specs.Shows.{HasInput, HasInputs, Shows, TakenApart}
 use Rattle.tree.specs.Tree.{PartsOk, head_of, lent, plan_at}
 use Rattle.tree.specs.declared.Node.{Node}
 use Rattle.tree.specs.declared.Node.TheVariants.{Projection, Filter, Sort, Limit, Aggregate, Window, SubqueryAlias, Union, Distinct, Join, Scan, Empty}
 use Rattle.text_put.specs.Puts.{Puts}
 use Rattle.text_put.proofs.Laws.{◌then◌, as_text}
-use Rattle.text_plan.specs.Heads.{NodeOk, Walks, inputs_of, node_text}
-use Rattle.text_plan.specs.declared.Inputs.{Inputs}
-use Rattle.text_plan.specs.declared.Inputs.TheVariants.{Nothing, One, Two}
+use Rattle.tree.specs.Node.{inputs_of}
+use Rattle.text_plan.specs.Heads.{NodeOk, Walks, node_text}
+use Rattle.tree.specs.declared.Inputs.{Inputs}
+use Rattle.tree.specs.declared.Inputs.TheVariants.{Nothing, One, Two}
 
 -- a node's text and its rows do not depend on the array of nodes
 head-same : (cells s xs ys : List ℕ) (n : Node) → head_of (lent cells s xs) n ≡ head_of (lent cells s ys) n

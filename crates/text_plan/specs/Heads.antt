@@ -8,10 +8,7 @@ use Rattle.tree.specs.Rows.{EachOk, ExprOk, Inside, OnOk, columns_at, exprs_at, 
 use Rattle.tree.specs.Tree.{WfTree, PartsOk, head_of, if?, lent}
 use Rattle.tree.specs.declared.JoinNode.{JoinNode}
 use Rattle.tree.specs.declared.Node.{Node}
-use Rattle.tree.specs.declared.Node.TheVariants.{Projection, Filter, Sort, Limit, Aggregate, Window, SubqueryAlias, Union, Distinct, Join, Scan, Empty}
 use Rattle.tree.specs.declared.ScanNode.{ScanNode}
-use Rattle.text_plan.specs.declared.Inputs.{Inputs}
-use Rattle.text_plan.specs.declared.Inputs.TheVariants.{Nothing, One, Two}
 
 -- ── nodes ───────────────────────────────────────────────────────────────────────────────────
 
@@ -35,21 +32,6 @@ abbrev pub NodeOk : (rows cells : List ℕ) → Node → Type 0
 NodeOk s cells n = PartsOk (lent cells s []) n
 
 -- ── plans ───────────────────────────────────────────────────────────────────────────────────
-
--- the inputs of a node: none, the next node, or that and the node with this number
-abbrev pub inputs_of : Node → Inputs
-inputs_of (Projection f n) = One
-inputs_of (Filter r) = One
-inputs_of (Sort f n) = One
-inputs_of (Limit s n) = One
-inputs_of (Aggregate f g v) = One
-inputs_of (Window f n) = One
-inputs_of (SubqueryAlias q) = One
-inputs_of (Union r) = Two r
-inputs_of Distinct = One
-inputs_of (Join j) = Two j.right
-inputs_of (Scan s) = Nothing
-inputs_of (Empty b f n) = Nothing
 
 -- node k of a plan that code can walk
 pub record Walks (cells rows nodes : List ℕ) (k : ℕ) : Type 0 where

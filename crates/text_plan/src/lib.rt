@@ -14,43 +14,25 @@ ghost use Rattle.tree.specs.Rows.{AggOk, EachOk, ExprOk, Inside, aggs_at, column
 ghost use Rattle.tree.specs.Tree.{if?, lent, plan_at};
 ghost use Rattle.text_put.specs.Puts.{Puts};
 ghost use Rattle.text_parts.specs.Parts.{PartsOk, WinsOk, members_at, part_text};
-ghost use Rattle.text_plan.specs.Heads.{JoinOk, NodeOk, ScanOk, Walks, inputs_of, join_at, node_text, scan_at};
+ghost use Rattle.text_plan.specs.Heads.{JoinOk, NodeOk, ScanOk, Walks, join_at, node_text, scan_at};
 
 use text_parts::Part;
 use text_put::{put_number, put_text};
-use tree::{JoinNode, JoinType, Node, ScanNode};
-
-/// The inputs of a node: none, the next node, or that and the node with this number.
-#[derive(Clone, Copy)]
-pub enum Inputs {
-    Nothing,
-    One,
-    Two(usize),
-}
-
-fn wide(x: u16) -> u64
-    ensures { result ≡ x }
-{
-    x as u64
-}
-
-fn wide_half(x: u32) -> u64
-    ensures { result ≡ x }
-{
-    x as u64
-}
+use tree::{Inputs, JoinNode, JoinType, Node, ScanNode};
 
 // How many rows are fetched: a number, or `none`.
+#[tactic(auto, using(crate::proofs::Heads::fetch_some, crate::proofs::Heads::fetch_none))]
 fn put_fetch(out: &mut [u8], at: usize, fetch: u32) -> usize
     ensures { Puts (fetch_text (fetch_of fetch)) at out.old result out.new }
 {
     if fetch == 4294967295 {
         return put_text(out, at, b"none");
     }
-    put_number(out, at, wide_half(fetch))
+    put_number(out, at, u64::from(fetch))
 }
 
 // A join's type, and the word before its pairs.
+#[tactic(auto, unfolding(plan_text::specs::Write::join_text))]
 fn put_type(out: &mut [u8], at: usize, t: JoinType) -> usize
     ensures { Puts (join_text (join_is t)) at out.old result out.new }
 {
@@ -67,6 +49,7 @@ fn put_type(out: &mut [u8], at: usize, t: JoinType) -> usize
 }
 
 // A join's condition, if it has one.
+#[tactic(auto, using(crate::proofs::Heads::condition_some, crate::proofs::Heads::condition_none))]
 fn put_condition(cells: &[u64], has: bool, root: usize, out: &mut [u8], at: usize) -> usize
     requires { has ≡ true → Wf cells.now (root + 1) }
     ensures { Puts (cond_text (if? has (expr_at cells.now root))) at out.old result out.new }
@@ -79,6 +62,7 @@ fn put_condition(cells: &[u64], has: bool, root: usize, out: &mut [u8], at: usiz
 }
 
 // The columns of a scan, if they are given.
+#[tactic(auto, using(text_parts::proofs::Parts::each_all, crate::proofs::Heads::columns_some, crate::proofs::Heads::columns_none))]
 fn put_columns(
     rows: &[u16],
     cells: &[u64],
@@ -99,6 +83,7 @@ fn put_columns(
 }
 
 // The filters of a scan, if it has any.
+#[tactic(auto, using(text_parts::proofs::Parts::each_all, crate::proofs::Heads::filters_some, crate::proofs::Heads::filters_none))]
 fn put_filters(
     rows: &[u16],
     cells: &[u64],
@@ -118,6 +103,7 @@ fn put_filters(
 }
 
 // A scan: its table, its qualifier, its columns, its filters.
+#[tactic(auto, using(crate::proofs::Heads::scan_put))]
 fn put_scan(s: ScanNode, rows: &[u16], cells: &[u64], out: &mut [u8], at: usize) -> usize
     requires { ScanOk rows.now cells.now s }
     ensures { Puts (scan_at rows.now cells.now s) at out.old result out.new }
@@ -125,12 +111,13 @@ fn put_scan(s: ScanNode, rows: &[u16], cells: &[u64], out: &mut [u8], at: usize)
     let a = put_text(out, at, b"scan ");
     let b = put_number(out, a, s.table as u64);
     let c = put_text(out, b, b" as q");
-    let d = put_number(out, c, wide(s.qualifier));
+    let d = put_number(out, c, u64::from(s.qualifier));
     let e = put_columns(rows, cells, s.given, s.first, s.n, out, d);
     put_filters(rows, cells, s.first + s.n, s.filters, out, e)
 }
 
 // A join: its type, its pairs, its condition.
+#[tactic(auto, using(text_parts::proofs::Parts::each_all, crate::proofs::Heads::join_put))]
 fn put_join(j: JoinNode, rows: &[u16], cells: &[u64], out: &mut [u8], at: usize) -> usize
     requires { JoinOk rows.now cells.now j }
     ensures { Puts (join_at rows.now cells.now j) at out.old result out.new }
@@ -143,6 +130,7 @@ fn put_join(j: JoinNode, rows: &[u16], cells: &[u64], out: &mut [u8], at: usize)
 }
 
 // An Empty: whether it has a row, its fields.
+#[tactic(auto, using(text_parts::proofs::Parts::each_all, crate::proofs::Heads::empty_put))]
 fn put_empty(
     row: bool,
     rows: &[u16],
@@ -188,16 +176,18 @@ fn put_filter(cells: &[u64], root: usize, out: &mut [u8], at: usize) -> usize
 }
 
 // A limit: how many rows are skipped, how many are fetched.
+#[tactic(auto, using(crate::proofs::Heads::limit_put))]
 fn put_limit(out: &mut [u8], at: usize, skip: u32, fetch: u32) -> usize
     ensures { Puts (unary_text (limit skip (fetch_of fetch))) at out.old result out.new }
 {
     let a = put_text(out, at, b"limit ");
-    let b = put_number(out, a, wide_half(skip));
+    let b = put_number(out, a, u64::from(skip));
     let c = put_text(out, b, b" ");
     put_fetch(out, c, fetch)
 }
 
 // An aggregate: its groups, its aggregates.
+#[tactic(auto, using(text_parts::proofs::Parts::each_all, text_parts::proofs::Parts::rows_all))]
 fn put_aggregate(
     rows: &[u16],
     cells: &[u64],
@@ -253,7 +243,7 @@ fn put_alias(out: &mut [u8], at: usize, qualifier: u16) -> usize
     ensures { Puts (unary_text (subquery_alias qualifier)) at out.old result out.new }
 {
     let a = put_text(out, at, b"subqueryalias q");
-    put_number(out, a, wide(qualifier))
+    put_number(out, a, u64::from(qualifier))
 }
 
 /// A node without its inputs: its kind, then what it holds.
@@ -282,7 +272,7 @@ pub fn put_head(node: Node, rows: &[u16], cells: &[u64], out: &mut [u8], at: usi
         } => put_aggregate(rows, cells, first, groups, aggregates, out, at),
         Node::Window { first, n } => put_window(rows, cells, first, n, out, at),
         Node::SubqueryAlias { qualifier } => put_alias(out, at, qualifier),
-        Node::Union { right: _ } => put_text(out, at, b"union"),
+        Node::Union { .. } => put_text(out, at, b"union"),
         Node::Distinct => put_text(out, at, b"distinct"),
         Node::Join(j) => put_join(j, rows, cells, out, at),
         Node::Scan(s) => put_scan(s, rows, cells, out, at),
@@ -295,10 +285,8 @@ fn put_indent(out: &mut [u8], at: usize, level: usize) -> usize
     ensures { Puts (indent level) at out.old result out.new }
 {
     let mut end = at;
-    let mut left = level;
-    while left > 0 {
+    for _ in 0..level {
         end = put_text(out, end, b"  ");
-        left -= 1;
     }
     end
 }
@@ -320,34 +308,6 @@ pub fn put_line(
     put_text(out, b, b"\n")
 }
 
-// The inputs of a node.
-fn node_inputs(node: Node) -> Inputs
-    ensures { result ≡ inputs_of node }
-{
-    match node {
-        Node::Projection { first: _, n: _ } => Inputs::One,
-        Node::Filter { root: _ } => Inputs::One,
-        Node::Sort { first: _, n: _ } => Inputs::One,
-        Node::Limit { skip: _, fetch: _ } => Inputs::One,
-        Node::Aggregate {
-            first: _,
-            groups: _,
-            aggregates: _,
-        } => Inputs::One,
-        Node::Window { first: _, n: _ } => Inputs::One,
-        Node::SubqueryAlias { qualifier: _ } => Inputs::One,
-        Node::Union { right } => Inputs::Two(right),
-        Node::Distinct => Inputs::One,
-        Node::Join(j) => Inputs::Two(j.right),
-        Node::Scan(_) => Inputs::Nothing,
-        Node::Empty {
-            one_row: _,
-            first: _,
-            n: _,
-        } => Inputs::Nothing,
-    }
-}
-
 /// The lines of the plan at node k, which stands at this level: its own, then those of its inputs.
 pub fn put_plan(
     cells: &[u64],
@@ -364,8 +324,7 @@ pub fn put_plan(
 {
     let node = tree::node_at(nodes, k);
     let a = put_line(level, node, rows, cells, out, at);
-    let i = node_inputs(node);
-    match i {
+    match tree::inputs_of(node) {
         Inputs::Nothing => a,
         Inputs::One => put_plan(cells, rows, nodes, k + 1, level + 1, out, a),
         Inputs::Two(right) => {

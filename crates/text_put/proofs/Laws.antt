@@ -2,11 +2,11 @@
 use mathlib.Core.Path.{◌≡◌, refl, sym, ap, ap₂, ◌∙◌}
 use mathlib.Core.Bool.{Bool, true, false}
 use mathlib.Core.List.{List, [], ◌∷◌, ◌++◌, append_assoc}
-use Prim.Native.Nat.{ℕ, zero, suc, ◌+◌, ◌-◌, ◌/◌, ◌%◌, ◌^◌, ◌<◌, ◌≤◌}
+use Prim.Native.Nat.{ℕ, zero, suc, min, ◌+◌, ◌-◌, ◌/◌, ◌%◌, ◌^◌, ◌<◌, ◌≤◌}
 use native.Mathlib.Omega.{arith}
-use borrow.Author.Tests.{lt-ltb, le-ltb}
+use borrow.Author.Tests.{lt-ltb, le-ltb, ltb-false, ltb-true}
 use lib.Dec.{ltb}
-use lib.ListN.{length, set, take, drop, get_or, length-set, length-append}
+use lib.ListN.{length, set, drop, drop_of_length-le, get_or, length-append}
 use lib.Seq.{set_out, set-append_seam, drop-cons}
 use Rattle.cpl.specs.Codes.{signed}
 use Rattle.cpl.specs.Plan.{pair}
@@ -55,23 +55,24 @@ past-below : (at : ℕ) → at < last_place → past at ≡ at + 1
 unfolding past
 past-below at h = let e : suc at ≡ at + 1 = omega arith in rw (lt-ltb at last_place h) e
 
-past-last : (at : ℕ) → last_place ≤ at → past at ≡ at
-unfolding past
-past-last at h = rw (le-ltb at last_place h)
-
 letter : {b at r : ℕ} {xs ys : List ℕ} → past at ≡ r → set xs at b ≡ ys → Puts (word (b ∷ [])) at xs r ys
 unfolding run
 letter {b} {at} {r} {xs} {ys} e f = record { leads = λ rest. ap (λ i. run rest i (set xs at b)) e ∙ ap (λ (zs : List ℕ). run rest r zs) f }
 
--- a letter in the buffer, behind its end, and behind the last place
-pub letter_in : {b at : ℕ} {xs : List ℕ} → at < length xs → length xs ≤ last_place → Puts (word (b ∷ [])) at xs (at + 1) (set xs at b)
-letter_in {b} {at} {xs} h l = letter (past-below at (omega arith)) refl
+past_is : (at : ℕ) → at ≤ last_place → past at ≡ min (at + 1) last_place
+unfolding past
+past_is at m = go (ltb at last_place) refl
+  where
+    go : (t : Bool) → ltb at last_place ≡ t → pick t (suc at) at ≡ min (at + 1) last_place
+    go true h = let l : at < last_place = ltb-true at last_place h in omega arith
+    go false h = let l : last_place ≤ at = ltb-false at last_place h in omega arith
 
-pub letter_out : {b at : ℕ} {xs : List ℕ} → length xs ≤ at → at < last_place → Puts (word (b ∷ [])) at xs (at + 1) xs
-letter_out {b} {at} {xs} h l = letter (past-below at l) (set_out xs at b h)
+-- a letter in the buffer, and one behind its end
+pub letter_at : {b at : ℕ} {xs : List ℕ} (r : ℕ) → r ≡ min (at + 1) last_place → at ≤ last_place → Puts (word (b ∷ [])) at xs r (set xs at b)
+letter_at {b} {at} {xs} r e m = letter (past_is at m ∙ sym e) refl
 
-pub letter_last : {b at : ℕ} {xs : List ℕ} → length xs ≤ at → last_place ≤ at → Puts (word (b ∷ [])) at xs at xs
-letter_last {b} {at} {xs} h l = letter (past-last at l) (set_out xs at b h)
+pub letter_behind : {b at : ℕ} {xs : List ℕ} (r : ℕ) → r ≡ min (at + 1) last_place → at ≤ last_place → length xs ≤ at → Puts (word (b ∷ [])) at xs r xs
+letter_behind {b} {at} {xs} r e m h = letter (past_is at m ∙ sym e) (set_out xs at b h)
 
 -- ── words ───────────────────────────────────────────────────────────────────────────────────
 
@@ -80,15 +81,8 @@ pub word_turn : {t : Text} {at b r : ℕ} {xs ys zs : List ℕ} (s : List ℕ) (
     Leads t at xs (word (drop (i + 1) s)) r zs
 word_turn s i h l p = let e : suc i ≡ i + 1 = omega arith in turn (word (drop (i + 1) s)) l p λ rest. ap (λ (bs : List ℕ). bs ++ rest) (drop-cons s i 0 h ∙ ap (λ k. get_or s i 0 ∷ drop k s) e)
 
--- nothing is behind the end
-drop_all : (i : ℕ) (s : List ℕ) → length s ≤ i → drop i s ≡ []
-drop_all zero [] h = refl
-drop_all (suc i) [] h = refl
-drop_all zero (x ∷ s) h = absurd (omega arith)
-drop_all (suc i) (x ∷ s) h = drop_all i s (omega arith)
-
 pub word-done : {t : Text} {at b : ℕ} {xs ys : List ℕ} (s : List ℕ) (i : ℕ) → length s ≤ i → Leads t at xs (word (drop i s)) b ys → Puts t at xs b ys
-word-done s i h l = finished l λ rest. ap (λ (bs : List ℕ). bs ++ rest) (drop_all i s h)
+word-done s i h l = finished l λ rest. ap (λ (bs : List ℕ). bs ++ rest) (drop_of_length-le s h)
 
 -- ── numbers ─────────────────────────────────────────────────────────────────────────────────
 
@@ -103,11 +97,10 @@ pub integer-pos : {at r : ℕ} {xs ys : List ℕ} (x : ℕ) → x < 2 ^ 63 → P
 unfolding signed integer
 integer-pos x h p = rw (lt-ltb x (2 ^ 63) h) p
 
-pub integer_neg : {at b r : ℕ} {xs ys zs : List ℕ} (x : ℕ) → 2 ^ 63 ≤ x → Puts (word w_minus) at xs b ys → Puts (number (2 ^ 64 - 1 - x + 1)) b ys r zs →
+pub integer_neg : {at b r : ℕ} {xs ys zs : List ℕ} (x n : ℕ) → 2 ^ 63 ≤ x → n ≡ suc (2 ^ 64 - 1 - x) → Puts (word w_minus) at xs b ys → Puts (number n) b ys r zs →
     Puts (integer (signed x)) at xs r zs
 unfolding signed integer
-integer_neg {b = b} {r} {ys = ys} {zs} x h p q =
-    let e : 2 ^ 64 - 1 - x + 1 ≡ suc (2 ^ 64 - 1 - x) = omega arith in
+integer_neg {b = b} {r} {ys = ys} {zs} x n h e p q =
     let q' : Puts (number (suc (2 ^ 64 - 1 - x))) b ys r zs = rw e at q in
     rw (le-ltb x (2 ^ 63) h) (p then q')
 

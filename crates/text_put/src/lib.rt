@@ -13,12 +13,8 @@ pub fn put_byte(out: &mut [u8], at: usize, b: u8) -> usize
 {
     if at < out.len() {
         out[at] = b;
-        return at + 1;
     }
-    if at < 18446744073709551615 {
-        return at + 1;
-    }
-    at
+    at.saturating_add(1)
 }
 
 /// A word from `at` on; the place after it.
@@ -26,10 +22,8 @@ pub fn put_text(out: &mut [u8], at: usize, s: &[u8]) -> usize
     ensures { Puts (word s.now) at out.old result out.new }
 {
     let mut end = at;
-    let mut i = 0;
-    while i < s.len() {
-        end = put_byte(out, end, s[i]);
-        i += 1;
+    for &b in s {
+        end = put_byte(out, end, b);
     }
     end
 }
@@ -53,13 +47,7 @@ pub fn put_integer(out: &mut [u8], at: usize, x: u64) -> usize
         return put_number(out, at, x);
     }
     let a = put_text(out, at, b"-");
-    put_number(out, a, 18446744073709551615 - x + 1)
-}
-
-fn wide(x: u16) -> u64
-    ensures { result ≡ x }
-{
-    x as u64
+    put_number(out, a, x.wrapping_neg())
 }
 
 /// A pair from `at` on, its qualifier first where it has one; the place after it.
@@ -68,10 +56,10 @@ pub fn put_pair(out: &mut [u8], at: usize, q: u16, n: u16) -> usize
 {
     if q == 0 {
         let a = put_text(out, at, b"c");
-        return put_number(out, a, wide(n));
+        return put_number(out, a, u64::from(n));
     }
     let a = put_text(out, at, b"q");
-    let b = put_number(out, a, wide(q));
+    let b = put_number(out, a, u64::from(q));
     let c = put_text(out, b, b".c");
-    put_number(out, c, wide(n))
+    put_number(out, c, u64::from(n))
 }

@@ -26,9 +26,9 @@ module _ {s : List ℕ} {i q n m k : ℕ} (e : RowIs s i q n m k) where
     node = λ cells o. rw e.root_is o.node;
   }
 
-  pub agg-is : AggIs s i q n m k
+  pub agg_is : AggIs s i q n m k
   unfolding agg_at
-  agg-is = record {
+  agg_is = record {
     pair_is = e.pair_is;
     function_is = e.mark_is;
     root_is = e.root_is;
@@ -36,9 +36,9 @@ module _ {s : List ℕ} {i q n m k : ℕ} (e : RowIs s i q n m k) where
     node = λ cells o h. rw e.root_is (o.node (rw e.mark_is at h));
   }
 
-  pub on-is : {l : ℕ} → l ≡ m → OnIs s i l k
+  pub on_is : {l : ℕ} → l ≡ m → OnIs s i l k
   unfolding on_at
-  on-is d = record {
+  on_is d = record {
     left_is = d ∙ e.mark_is;
     right_is = e.root_is;
     means = λ cells. rw (d, e.mark_is, e.root_is);
@@ -55,9 +55,9 @@ module _ {s : List ℕ} {i q n m k : ℕ} (e : RowIs s i q n m k) where
     keys_are : l ≡ number_at s (keys_row s i)
     keys_are = d ∙ number_is f ∙ ap (number_at s) mid
 
-    pub win-is : WinIs s i q n m k (i + 1 + k + 1) l z (i + 1 + k + 1 + l)
+    pub win_is : WinIs s i q n m k (i + 1 + k + 1) l z (i + 1 + k + 1 + l)
     unfolding win_at win_size
-    win-is =
+    win_is =
         let root : z ≡ root_at s (keys_row s i) = f.root_is ∙ ap (root_at s) mid in
         let after : i + 1 + k + 1 ≡ keys_row s i + 1 = ap (λ x. x + 1) mid in
         record {

@@ -1,5 +1,6 @@
 -- What the seven numbers of a node stand for, whatever they are. Node k is the numbers at 7 * k.
 use Rattle.std.specs.Prelude.{◌≡◌, List, [], ◌∷◌, ℕ, ◌+◌, ◌*◌, ◌^◌, ◌<◌, eqb, length, get_or}
+use Rattle.cpl.specs.Codes.{join_number}
 use Rattle.cpl.specs.Plan.{j_inner, j_left, j_right, j_full, j_lsemi, j_lanti, j_rsemi, j_ranti}
 use Rattle.cpl.specs.Plan
 use Rattle.cpl.specs.Read.{pick}
@@ -7,6 +8,8 @@ use Rattle.tree.specs.declared.Words.{Words}
 use Rattle.tree.specs.declared.JoinType.{JoinType}
 use Rattle.tree.specs.declared.JoinType.TheVariants.{Inner, Left, Right, Full, LeftSemi, LeftAnti, RightSemi, RightAnti}
 use Rattle.tree.specs.declared.JoinNode.{JoinNode}
+use Rattle.tree.specs.declared.Inputs.{Inputs}
+use Rattle.tree.specs.declared.Inputs.TheVariants.{Nothing, One, Two}
 use Rattle.tree.specs.declared.ScanNode.{ScanNode}
 use Rattle.tree.specs.declared.Node.{Node}
 use Rattle.tree.specs.declared.Node.TheVariants.{Projection, Filter, Sort, Limit, Aggregate, Window, SubqueryAlias, Union, Distinct, Join, Scan, Empty}
@@ -37,6 +40,10 @@ join_is LeftSemi = j_lsemi
 join_is LeftAnti = j_lanti
 join_is RightSemi = j_rsemi
 join_is RightAnti = j_ranti
+
+-- the number of a type
+abbrev pub type_number : JoinType → ℕ
+type_number t = join_number (join_is t)
 
 unfoldable pub join_node : Words → JoinNode
 join_node w = record { join_type = type_of w.a; first = w.first; n = w.n; has_filter = eqb w.b 1; filter = w.c; right = w.right }
@@ -73,3 +80,18 @@ pub record Fits (w : Words) : Type 0 where
 pub record NodeFits (s : List ℕ) (k : ℕ) : Type 0 where
   pub inside : k * 7 + 6 < length s
   pub numbers : Fits (words_at s k)
+
+-- the inputs of a node: none, the next node, or that and the node with this number
+abbrev pub inputs_of : Node → Inputs
+inputs_of (Projection f n) = One
+inputs_of (Filter r) = One
+inputs_of (Sort f n) = One
+inputs_of (Limit s n) = One
+inputs_of (Aggregate f g v) = One
+inputs_of (Window f n) = One
+inputs_of (SubqueryAlias q) = One
+inputs_of (Union r) = Two r
+inputs_of Distinct = One
+inputs_of (Join j) = Two j.right
+inputs_of (Scan s) = Nothing
+inputs_of (Empty b f n) = Nothing

@@ -8,11 +8,11 @@ ghost use Rattle.std.specs.Prelude.{◌≡◌, ◌+◌, ◌*◌, ◌<◌, length
 ghost use Rattle.cpl.specs.Plan.{pair};
 ghost use Rattle.arena.specs.Rows.{pair_at};
 ghost use Rattle.tree.specs.Rows.{Inside, last_row, number_at};
-ghost use Rattle.tree.specs.Node.{Fits, NodeFits, join_node, node_of, scan_node, type_of, words_at};
+ghost use Rattle.tree.specs.Node.{Fits, NodeFits, inputs_of, join_node, node_of, scan_node, type_number, type_of, words_at};
 ghost use Rattle.tree.specs.Shows.{AggIs, KeyIs, OnIs, TakenApart, WinIs};
 
 /// A join's type, in the order of document 01's numbers.
-#[derive(Clone, Copy)]
+#[derive(Clone, Copy, PartialEq, Eq)]
 pub enum JoinType {
     Inner,
     Left,
@@ -22,6 +22,24 @@ pub enum JoinType {
     LeftAnti,
     RightSemi,
     RightAnti,
+}
+
+impl From<JoinType> for u64 {
+    ghost from_gives = { λ join_type n. n ≡ type_number join_type };
+
+    #[tactic(auto, unfolding(cpl::specs::Codes::join_number))]
+    fn from(join_type: JoinType) -> u64 {
+        match join_type {
+            JoinType::Inner => 0,
+            JoinType::Left => 1,
+            JoinType::Right => 2,
+            JoinType::Full => 3,
+            JoinType::LeftSemi => 4,
+            JoinType::LeftAnti => 5,
+            JoinType::RightSemi => 6,
+            JoinType::RightAnti => 7,
+        }
+    }
 }
 
 /// A join: its type, its pairs' rows, the root of its condition if it has one, the number of its second input.
@@ -35,7 +53,8 @@ pub struct JoinNode {
     pub right: usize,
 }
 
-/// A scan: its table, its qualifier, the rows of its column indices if they are given, and how many filters have their rows behind those.
+/// A scan: its table, its qualifier, the rows of its column indices if they are given, and how many filters have their rows behind those. `first`
+/// and `n` stand beside `given`, since they say where the filters' rows start also where no indices are given.
 #[derive(Clone, Copy)]
 pub struct ScanNode {
     pub table: usize,
@@ -90,6 +109,33 @@ pub enum Node {
     },
 }
 
+/// The inputs of a node: none, the next node, or that and the node with this number.
+#[derive(Clone, Copy)]
+pub enum Inputs {
+    Nothing,
+    One,
+    Two(usize),
+}
+
+/// The inputs of a node.
+pub fn inputs_of(node: Node) -> Inputs
+    ensures { result ≡ inputs_of node }
+{
+    match node {
+        Node::Union { right } => Inputs::Two(right),
+        Node::Join(join) => Inputs::Two(join.right),
+        Node::Scan(_) | Node::Empty { .. } => Inputs::Nothing,
+        Node::Projection { .. }
+        | Node::Filter { .. }
+        | Node::Sort { .. }
+        | Node::Limit { .. }
+        | Node::Aggregate { .. }
+        | Node::Window { .. }
+        | Node::SubqueryAlias { .. }
+        | Node::Distinct => Inputs::One,
+    }
+}
+
 /// The seven numbers of a node.
 #[derive(Clone, Copy)]
 struct Words {
@@ -103,6 +149,7 @@ struct Words {
 }
 
 /// The numbers of node `k`, which lies in the array.
+#[tactic(auto, unfolding(crate::specs::Node::words_at))]
 fn words_at(nodes: &[u64], k: usize) -> Words
     requires { k * 7 + 6 < length nodes.now }
     ensures { result ≡ words_at nodes.now k }
@@ -119,7 +166,9 @@ fn words_at(nodes: &[u64], k: usize) -> Words
     }
 }
 
-/// The join type of a number.
+/// The join type of a number. A match on the number: a node's words hold numbers, and what stands in them was read as allowed, so none is
+/// refused.
+#[tactic(auto, unfolding(crate::specs::Node::type_of))]
 fn type_of(x: u64) -> JoinType
     ensures { result ≡ type_of x }
 {
@@ -136,6 +185,7 @@ fn type_of(x: u64) -> JoinType
 }
 
 /// A node's numbers as a join.
+#[tactic(auto, unfolding(crate::specs::Node::join_node))]
 fn join_node(w: Words) -> JoinNode
     ensures { result ≡ join_node w }
 {
@@ -150,6 +200,7 @@ fn join_node(w: Words) -> JoinNode
 }
 
 /// A node's numbers as a scan. Its qualifier is a 16-bit number.
+#[tactic(auto, unfolding(crate::specs::Node::scan_node))]
 fn scan_node(w: Words) -> ScanNode
     requires { w.b < 65536 }
     ensures { result ≡ scan_node w }
@@ -164,7 +215,9 @@ fn scan_node(w: Words) -> ScanNode
     }
 }
 
-/// A node by its numbers, which fit their types. Kinds are told apart here and nowhere else.
+/// A node by its numbers, which fit their types. Kinds are told apart here and nowhere else, by a match on the number: a node's
+/// words hold numbers, and what stands in them was read as allowed.
+#[tactic(auto, unfolding(crate::specs::Node::node_of))]
 fn node_of(w: Words) -> Node
     requires { Fits w }
     ensures { result ≡ node_of w }
@@ -205,6 +258,7 @@ fn node_of(w: Words) -> Node
 }
 
 /// Node `k`, taken apart. It lies in the array, and its numbers fit their types.
+#[tactic(auto, using(crate::proofs::Plans::taken))]
 pub fn node_at(nodes: &[u64], k: usize) -> Node
     requires { NodeFits nodes.now k }
     ensures { TakenApart nodes.now k result }
@@ -221,6 +275,7 @@ pub struct KeyRow {
 }
 
 /// The key of row `i`, which lies in the array.
+#[tactic(auto, using(crate::proofs::Parts::key_is))]
 pub fn key_at(rows: &[u16], i: usize) -> KeyRow
     requires { Inside rows.now i }
     ensures { KeyIs rows.now i result.flags result.root }
@@ -242,6 +297,7 @@ pub struct AggRow {
 }
 
 /// The aggregate of row `i`, which lies in the array.
+#[tactic(auto, using(crate::proofs::Parts::agg_is))]
 pub fn agg_at(rows: &[u16], i: usize) -> AggRow
     requires { Inside rows.now i }
     ensures { AggIs rows.now i result.qualifier result.name result.function result.root }
@@ -279,7 +335,7 @@ pub fn win_at(rows: &[u16], i: usize) -> WinRow
     let mid = i + 1 + parts;
     let row = arena::row_at(rows, mid);
     let key = mid + 1;
-    let keys = wide(row.qualifier);
+    let keys = usize::from(row.qualifier);
     WinRow {
         qualifier: head.qualifier,
         name: head.name,
@@ -306,41 +362,35 @@ pub fn on_at(rows: &[u16], i: usize) -> OnRow
 {
     let row = arena::row_at(rows, i);
     OnRow {
-        left: wide(row.mark),
+        left: usize::from(row.mark),
         right: row.root,
     }
 }
 
-/// A 16-bit number as an index.
-fn wide(x: u16) -> usize
-    ensures { result ≡ x }
-{
-    x as usize
-}
-
 /// The first number of row `i`, which lies in the array: a column index.
+#[tactic(auto, using(crate::proofs::Parts::number_is))]
 pub fn column_at(rows: &[u16], i: usize) -> usize
     requires { Inside rows.now i }
     ensures { result ≡ number_at rows.now i }
 {
     let row = arena::row_at(rows, i);
-    wide(row.qualifier)
+    usize::from(row.qualifier)
 }
 
-/// A pair.
-#[derive(Clone, Copy)]
-pub struct PairRow {
+/// A pair, as a row holds it and as a field is named: a qualifier, 0 for none, and a name.
+#[derive(Clone, Copy, PartialEq, Eq)]
+pub struct Field {
     pub qualifier: u16,
     pub name: u16,
 }
 
 /// The pair of row `i`, which lies in the array.
-pub fn pair_at(rows: &[u16], i: usize) -> PairRow
+pub fn pair_at(rows: &[u16], i: usize) -> Field
     requires { Inside rows.now i }
     ensures { pair result.qualifier result.name ≡ pair_at rows.now i }
 {
     let row = arena::row_at(rows, i);
-    PairRow {
+    Field {
         qualifier: row.qualifier,
         name: row.name,
     }

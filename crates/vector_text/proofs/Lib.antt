@@ -1,5 +1,4 @@
 -- The laws of texts, bottom up.
-pub mod Pieces
 pub mod Numbers
 pub mod Stores
 pub mod Samples

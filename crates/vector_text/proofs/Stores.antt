@@ -2,28 +2,25 @@
 use mathlib.Core.Path.{◌≡◌, refl, sym, ap, ap₂, subst, ◌∙◌}
 use mathlib.Core.Bool.{Bool, true, false, cond}
 use mathlib.Core.List.{List, [], ◌∷◌, ◌++◌, append_assoc, append-nil}
-use mathlib.Core.Option.{Option, none, some}
+use Rattle.std.specs.Prelude.{Option, Some, None}
 use Prim.Native.Nat.{ℕ, suc, ◌+◌, ◌-◌, ◌<◌, ◌≤◌}
 use native.Mathlib.Numerals.{add-one}
 use native.Mathlib.Omega.{arith}
-use borrow.Author.Tests.{eqb-true, le-ltb, lt-ltb, ltb-false, ltb-true}
-use lib.Dec.{eqb, ltb}
+use borrow.Author.Tests.{eqb-true}
+use lib.Dec.{eqb}
 use lib.ListN.{drop, drop_of_length-le, get_or, length, length-append, length-set, set, take, take-append-drop}
 use lib.Seq.{drop-cons, drop-drop, drop-set-lt, length-take-le, take-suc-set}
-use Rattle.vector_text.specs.declared.Parsed.TheVariants.{Number, Not}
-use Rattle.vector_text.specs.Answers.{Stored}
-use Rattle.vector_text.specs.Text.{before, both, byte_of, bytes_of, dash, list_of, onto, pairs, pieces, short_of, shorts}
-use Rattle.vector_text.proofs.Pieces.{last, more}
+use Rattle.vector_text.specs.Text.{Stored, both, byte_of, bytes_of, dash, list_of, onto, pairs, pieces, short_of, shorts}
 
 onto-none : (o : Option (List ℕ)) → onto [] o ≡ o
 unfolding onto
-onto-none none = refl
-onto-none (some ys) = refl
+onto-none None = refl
+onto-none (Some ys) = refl
 
 onto-next : (xs : List ℕ) (x : ℕ) (o : Option (List ℕ)) → onto xs (onto (x ∷ []) o) ≡ onto (xs ++ (x ∷ [])) o
 unfolding onto
-onto-next xs x none = refl
-onto-next xs x (some ys) = ap some (sym (append_assoc xs (x ∷ []) ys))
+onto-next xs x None = refl
+onto-next xs x (Some ys) = ap Some (sym (append_assoc xs (x ∷ []) ys))
 
 -- Of what a text says in all, `left` is still to be read; n things are stored at the front of the array, which is as before behind them.
 pub record Reads (all left : Option (List ℕ)) (s s' : List ℕ) (n : ℕ) : Type 0 where
@@ -40,7 +37,7 @@ module _ {all : Option (List ℕ)} {s s' : List ℕ} {n : ℕ} where
   pub reads_as : {o o' : Option (List ℕ)} → Reads all o s s' n → o ≡ o' → Reads all o' s s' n
   reads_as p e = subst (λ o. Reads all o s s' n) e p
 
-  pub reads_more : (x : ℕ) {o : Option (List ℕ)} → Reads all (both (some x) o) s s' n → n < length s' → Reads all o s (set s' n x) (n + 1)
+  pub reads_more : (x : ℕ) {o : Option (List ℕ)} → Reads all (both (Some x) o) s s' n → n < length s' → Reads all o s (set s' n x) (n + 1)
   unfolding both
   reads_more x {o} p h = record {
     long = length-set s' n x ∙ p.long;
@@ -54,26 +51,26 @@ module _ {all : Option (List ℕ)} {s s' : List ℕ} {n : ℕ} where
       next = sym (drop-drop 1 n s') ∙ ap (drop 1) p.kept ∙ drop-drop 1 n s
 
   -- the text is not of the form
-  pub reads-bad : (s'' : List ℕ) → Reads all none s s' n → Stored all s s'' Not
+  pub reads-bad : (s'' : List ℕ) → Reads all None s s' n → Stored all s s'' None
   unfolding onto
-  reads-bad s'' p = subst (λ o. Stored o s s'' Not) p.same tt
+  reads-bad s'' p = subst (λ o. Stored o s s'' None) p.same tt
 
   -- there is no room
-  pub reads-full : (s'' : List ℕ) (x : ℕ) (o : Option (List ℕ)) → Reads all (both (some x) o) s s' n → length s' ≤ n → Stored all s s'' Not
+  pub reads-full : (s'' : List ℕ) (x : ℕ) (o : Option (List ℕ)) → Reads all (both (Some x) o) s s' n → length s' ≤ n → Stored all s s'' None
   unfolding both onto
-  reads-full s'' x o p h = subst (λ u. Stored u s s'' Not) p.same (go o)
+  reads-full s'' x o p h = subst (λ u. Stored u s s'' None) p.same (go o)
     where
       m : length (take n s') ≡ n
       m = length-take-le n s' (omega (arith, p.long, p.upto))
 
-      go : (u : Option (List ℕ)) → Stored (onto (take n s') (onto (x ∷ []) u)) s s'' Not
-      go none = tt
-      go (some ys) = omega (arith, length-append (take n s') (x ∷ ys), m, p.long)
+      go : (u : Option (List ℕ)) → Stored (onto (take n s') (onto (x ∷ []) u)) s s'' None
+      go None = tt
+      go (Some ys) = omega (arith, length-append (take n s') (x ∷ ys), m, p.long)
 
-  pub reads_all : Reads all (some []) s s' n → Stored all s s' (Number n)
+  pub reads_all : Reads all (Some []) s s' n → Stored all s s' (Some n)
   unfolding onto
   reads_all p =
-      subst (λ o. Stored o s s' (Number n)) (ap some (sym (append-nil (take n s'))) ∙ p.same)
+      subst (λ o. Stored o s s' (Some n)) (ap Some (sym (append-nil (take n s'))) ∙ p.same)
       (sym (length-take-le n s' (omega (arith, p.long, p.upto))), sym (take-append-drop n s') ∙ ap (take n s' ++◌) p.kept)
 
 -- ── `-` ─────────────────────────────────────────────────────────────────────────────────────
@@ -94,65 +91,52 @@ dash-not (x ∷ y ∷ xs) h = refl
 
 -- ── lists ───────────────────────────────────────────────────────────────────────────────────
 
-pub list-dash : (xs : List ℕ) (s : List ℕ) → xs ≡ 45 ∷ [] → Stored (list_of xs) s s (Number 0)
+pub list-dash : (xs : List ℕ) (s : List ℕ) → xs ≡ 45 ∷ [] → Stored (list_of xs) s s (Some 0)
 unfolding list_of
-list-dash xs s e = subst (λ o. Stored o s s (Number 0)) (ap (λ t. cond t (some []) (shorts (pieces 44 xs))) (sym (dash-is xs e))) (refl, refl)
+list-dash xs s e = subst (λ o. Stored o s s (Some 0)) (ap (λ t. cond t (Some []) (shorts (pieces 44 xs))) (sym (dash-is xs e))) (refl, refl)
 
-abbrev pub Listed : (text s s' : List ℕ) (n from : ℕ) → Type 0
-Listed text s s' n from = (from ≤ length text) × Reads (list_of text) (shorts (pieces 44 (drop from text))) s s' n
+-- n pieces are read
+abbrev pub Listed : (text s s' : List ℕ) (n : ℕ) → Type 0
+Listed text s s' n = Reads (list_of text) (shorts (drop n (pieces 44 text))) s s' n
 
-pub listed-none : (text s : List ℕ) → (text ≡ 45 ∷ [] → ⊥) → Listed text s s 0 0
+pub listed-none : (text s : List ℕ) → (text ≡ 45 ∷ [] → ⊥) → Listed text s s 0
 unfolding list_of
-listed-none text s h =
-    (omega arith, reads_as (reads_none (list_of text) s) (ap (λ t. cond t (some []) (shorts (pieces 44 text))) (dash-not text h)))
+listed-none text s h = reads_as (reads_none (list_of text) s) (ap (λ t. cond t (Some []) (shorts (pieces 44 text))) (dash-not text h))
 
--- what stands behind the piece that ends at `to`
-after : (text : List ℕ) (to : ℕ) → Option (List ℕ)
-after text to = cond (ltb to (length text)) (shorts (pieces 44 (drop (to + 1) text))) (some [])
+module _ (text s s' : List ℕ) (n : ℕ) (p : Listed text s s' n) where
+  pub listed-end : n ≡ length (pieces 44 text) → Stored (list_of text) s s' (Some n)
+  unfolding shorts
+  listed-end h = reads_all (reads_as p (ap shorts (drop_of_length-le (pieces 44 text) (omega arith))))
 
--- the piece from an offset up to another
-abbrev piece : (text : List ℕ) (from to : ℕ) → List ℕ
-piece text from to = take (to - from) (drop from text)
+  -- the piece that is read next
+  module _ (piece : List ℕ) (h : n < length (pieces 44 text)) (e : piece ≡ get_or (pieces 44 text) n piece) where
+    piece_left : shorts (drop n (pieces 44 text)) ≡ both (short_of piece) (shorts (drop (n + 1) (pieces 44 text)))
+    unfolding shorts
+    piece_left =
+        ap shorts (drop-cons (pieces 44 text) n piece h)
+        ∙ ap₂ (λ q j. both (short_of q) (shorts (drop j (pieces 44 text)))) (sym e) (sym (add-one n))
 
-module _ (text : List ℕ) (from to : ℕ) (l : from ≤ to) (e : to ≡ from + before 44 (drop from text)) where
-  piece_left : shorts (pieces 44 (drop from text)) ≡ both (short_of (piece text from to)) (after text to)
-  unfolding shorts after
-  piece_left = go (ltb to (length text)) refl
-    where
-      go : (t : Bool) → ltb to (length text) ≡ t
-          → shorts (pieces 44 (drop from text)) ≡ both (short_of (piece text from to)) (cond t (shorts (pieces 44 (drop (to + 1) text))) (some []))
-      go true h = ap shorts (more 44 text from to l (ltb-true to (length text) h) e)
-      go false h = ap shorts (last 44 text from to l (ltb-false to (length text) h) e)
-
-  module _ (s s' : List ℕ) (n : ℕ) (p : Listed text s s' n from) where
-    pub listed-bad : (s'' : List ℕ) → none ≡ short_of (piece text from to) → Stored (list_of text) s s'' Not
+    pub listed-bad : (s'' : List ℕ) → None ≡ short_of piece → Stored (list_of text) s s'' None
     unfolding both
-    listed-bad s'' g = reads-bad s'' (reads_as p.1 (piece_left ∙ ap (λ o. both o (after text to)) (sym g)))
+    listed-bad s'' g = reads-bad s'' (reads_as p (piece_left ∙ ap (λ o. both o (shorts (drop (n + 1) (pieces 44 text)))) (sym g)))
 
-    module _ (x : ℕ) (g : some x ≡ short_of (piece text from to)) where
-      listed_at : Reads (list_of text) (both (some x) (after text to)) s s' n
-      listed_at = reads_as p.1 (piece_left ∙ ap (λ o. both o (after text to)) (sym g))
+    module _ (x : ℕ) (g : Some x ≡ short_of piece) where
+      listed_at : Reads (list_of text) (both (Some x) (shorts (drop (n + 1) (pieces 44 text)))) s s' n
+      listed_at = reads_as p (piece_left ∙ ap (λ o. both o (shorts (drop (n + 1) (pieces 44 text)))) (sym g))
 
-      pub listed-full : (s'' : List ℕ) → length s' ≤ n → Stored (list_of text) s s'' Not
-      listed-full s'' h = reads-full s'' x (after text to) listed_at h
+      pub listed-full : (s'' : List ℕ) → length s' ≤ n → Stored (list_of text) s s'' None
+      listed-full s'' h = reads-full s'' x (shorts (drop (n + 1) (pieces 44 text))) listed_at h
 
-      pub listed-end : n < length s' → length text ≤ to → Stored (list_of text) s (set s' n x) (Number (n + 1))
-      unfolding after
-      listed-end h m =
-          reads_all (reads_as (reads_more x listed_at h) (ap (λ t. cond t (shorts (pieces 44 (drop (to + 1) text))) (some [])) (le-ltb to (length text) m)))
-
-      pub listed_more : n < length s' → to < length text → Listed text s (set s' n x) (n + 1) (to + 1)
-      unfolding after
-      listed_more h m =
-          (omega arith, reads_as (reads_more x listed_at h) (ap (λ t. cond t (shorts (pieces 44 (drop (to + 1) text))) (some [])) (lt-ltb to (length text) m)))
+      pub listed_more : n < length s' → Listed text s (set s' n x) (n + 1)
+      listed_more h = reads_more x listed_at h
 
 -- ── bytes ───────────────────────────────────────────────────────────────────────────────────
 
-pub bytes-dash : (xs : List ℕ) (s : List ℕ) → xs ≡ 45 ∷ [] → Stored (bytes_of xs) s s (Number 0)
+pub bytes-dash : (xs : List ℕ) (s : List ℕ) → xs ≡ 45 ∷ [] → Stored (bytes_of xs) s s (Some 0)
 unfolding bytes_of dash
-bytes-dash xs s e = subst (λ ys. Stored (bytes_of ys) s s (Number 0)) (sym e) (refl, refl)
+bytes-dash xs s e = subst (λ ys. Stored (bytes_of ys) s s (Some 0)) (sym e) (refl, refl)
 
-pub bytes-empty : (xs : List ℕ) (s s' : List ℕ) → length xs ≡ 0 → Stored (bytes_of xs) s s' Not
+pub bytes-empty : (xs : List ℕ) (s s' : List ℕ) → length xs ≡ 0 → Stored (bytes_of xs) s s' None
 unfolding bytes_of
 bytes-empty [] s s' h = tt
 bytes-empty (x ∷ xs) s s' h = absurd (omega arith)
@@ -166,15 +150,15 @@ bytes-none text s h n = (omega arith, reads_as (reads_none (bytes_of text) s) (g
   where
     go : (xs : List ℕ) → (xs ≡ 45 ∷ [] → ⊥) → (length xs ≡ 0 → ⊥) → bytes_of xs ≡ pairs xs
     go [] h n = absurd (n refl)
-    go (x ∷ xs) h n = ap (λ t. cond t (some []) (pairs (x ∷ xs))) (dash-not (x ∷ xs) h)
+    go (x ∷ xs) h n = ap (λ t. cond t (Some []) (pairs (x ∷ xs))) (dash-not (x ∷ xs) h)
 
 module _ (text s s' : List ℕ) (n from : ℕ) (p : Bytes text s s' n from) where
-  pub bytes-all : length text ≤ from → Stored (bytes_of text) s s' (Number n)
+  pub bytes-all : length text ≤ from → Stored (bytes_of text) s s' (Some n)
   unfolding pairs
   bytes-all h = reads_all (reads_as p.1 (ap pairs (drop_of_length-le text h)))
 
   -- one digit is left
-  pub bytes-odd : (s'' : List ℕ) → length text - from ≡ 1 → Stored (bytes_of text) s s'' Not
+  pub bytes-odd : (s'' : List ℕ) → length text - from ≡ 1 → Stored (bytes_of text) s s'' None
   unfolding pairs
   bytes-odd s'' h =
       let a : from < length text = omega arith in
@@ -192,15 +176,15 @@ module _ (text s s' : List ℕ) (n from : ℕ) (p : Bytes text s s' n from) wher
         ap pairs (drop-cons text from 0 a ∙ ap (get_or text from 0 ∷◌) (drop-cons text (suc from) 0 b))
         ∙ ap₂ (λ i j. both (byte_of (get_or text from 0) (get_or text i 0)) (pairs (drop j text))) c d
 
-    pub bytes-bad : (s'' : List ℕ) → none ≡ byte_of (get_or text from 0) (get_or text (from + 1) 0) → Stored (bytes_of text) s s'' Not
+    pub bytes-bad : (s'' : List ℕ) → None ≡ byte_of (get_or text from 0) (get_or text (from + 1) 0) → Stored (bytes_of text) s s'' None
     unfolding both
     bytes-bad s'' g = reads-bad s'' (reads_as p.1 (two-left ∙ ap (λ o. both o (pairs (drop (from + 2) text))) (sym g)))
 
-    module _ (x : ℕ) (g : some x ≡ byte_of (get_or text from 0) (get_or text (from + 1) 0)) where
-      bytes_at : Reads (bytes_of text) (both (some x) (pairs (drop (from + 2) text))) s s' n
+    module _ (x : ℕ) (g : Some x ≡ byte_of (get_or text from 0) (get_or text (from + 1) 0)) where
+      bytes_at : Reads (bytes_of text) (both (Some x) (pairs (drop (from + 2) text))) s s' n
       bytes_at = reads_as p.1 (two-left ∙ ap (λ o. both o (pairs (drop (from + 2) text))) (sym g))
 
-      pub bytes-full : (s'' : List ℕ) → length s' ≤ n → Stored (bytes_of text) s s'' Not
+      pub bytes-full : (s'' : List ℕ) → length s' ≤ n → Stored (bytes_of text) s s'' None
       bytes-full s'' m = reads-full s'' x (pairs (drop (from + 2) text)) bytes_at m
 
       pub bytes-more : n < length s' → Bytes text s (set s' n x) (n + 1) (from + 2)

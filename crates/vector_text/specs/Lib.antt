@@ -1,3 +1,2 @@
--- What a text says, and what the answers of this crate's functions stand for, bottom up.
+-- What a text says, and how it is stored.
 pub mod Text
-pub mod Answers

@@ -5,6 +5,7 @@ use mathlib.Core.List.{List, [], ◌∷◌, ◌++◌, map}
 use mathlib.Core.Option.{Option}
 use Prim.Native.Nat.{ℕ, ◌+◌}
 use native.Mathlib.Omega.{arith}
+use Rattle.std.specs.Prelude.{Ok}
 use Rattle.cpl.specs.Accept.{each_passes, binary_passes, on_passes}
 use Rattle.cpl.specs.Exprs.{cond_exprs, leaf_exprs}
 use Rattle.cpl.specs.Fields.{columns_of, leaf_input, scan_field, table_fields}
@@ -16,11 +17,10 @@ use Rattle.tree.specs.Rows.{exprs_at, list_at}
 use Rattle.tree.specs.Tree.{head_of, if?}
 use Rattle.tree.specs.declared.Node.{Node}
 use Rattle.tree.specs.declared.Node.TheVariants.{Projection, Filter, Sort, Limit, Aggregate, Window, SubqueryAlias, Union, Distinct, Join, Scan, Empty}
-use Rattle.lookup.specs.Answers.{resolving, worse}
+use Rattle.tree.specs.declared.ScanNode.{ScanNode}
+use Rattle.lookup.specs.Answers.{Resolved, resolving, worse}
 use Rattle.lookup.specs.Fields.{Filled, RowIn, left_row, row_at}
 use Rattle.lookup.specs.declared.Sides.{Sides}
-use Rattle.lookup.specs.declared.Resolved.{Resolved}
-use Rattle.lookup.specs.declared.Resolved.TheVariants.{Fine}
 use Rattle.lookup.proofs.Resolving.{seen, worse-both, worse-fine}
 use Rattle.parts.specs.Catalogue.{catalogue_at, table_at}
 use Rattle.parts.proofs.Exprs.{seen_one}
@@ -42,7 +42,7 @@ module _ (t : JoinType) (os : List On) (e : Expr) (fl fr : List Pair) where
   pub join-without : {b : Bool} {x : Resolved} → b ≡ false → x ≡ resolving (λ test. all_b (on_passes fl fr test) os) → x ≡ resolving (binary_passes (join t os (if? b e)) fl fr)
   unfolding binary_passes cond_exprs all_b
   join-without {x = x} h p =
-      sym (worse-fine x) ∙ ap (λ y. worse y Fine) p ∙ worse-both (λ test. all_b (on_passes fl fr test) os) (λ test. true) ∙ ap (λ b. resolving (binary_passes (join t os (if? b e)) fl fr)) (sym h)
+      sym (worse-fine x) ∙ ap (λ y. worse y (Ok tt)) p ∙ worse-both (λ test. all_b (on_passes fl fr test) os) (λ test. true) ∙ ap (λ b. resolving (binary_passes (join t os (if? b e)) fl fr)) (sym h)
 
 -- the columns of a scan
 pub columns-given : (T xs : List ℕ) {b : Bool} → b ≡ true → xs ≡ columns_of T (if? b xs)
@@ -66,6 +66,22 @@ module _ {C : Catalogue} {free most : ℕ} {x : Sides} {s : List ℕ} (o : Sides
   pub looked_none : (h : Leaf) → leaf_exprs h ≡ [] → Looked C free (h0 h) x x s s
   unfolding all_b
   looked_none h e = record { clear = sides_clear o; kept = below-same free s; passes = ap (λ es. each_passes es (left_row s x)) e ∙ sym (ap (λ es. each_passes es (leaf_input C h)) e) }
+
+  -- any node but a scan
+  pub looked_other : (cells rows : List ℕ) (n : Node) → ((m : ScanNode) → n ≡ Scan m → ⊥) → Looked C free (head_of (parts cells rows) n) x x s s
+  unfolding leaf_exprs
+  looked_other cells rows (Projection f n) a = looked_one _
+  looked_other cells rows (Filter r) a = looked_one _
+  looked_other cells rows (Sort f n) a = looked_one _
+  looked_other cells rows (Limit y n) a = looked_one _
+  looked_other cells rows (Aggregate f g v) a = looked_one _
+  looked_other cells rows (Window f n) a = looked_one _
+  looked_other cells rows (SubqueryAlias q) a = looked_one _
+  looked_other cells rows (Union r) a = looked_two _
+  looked_other cells rows Distinct a = looked_one _
+  looked_other cells rows (Join j) a = looked_two _
+  looked_other cells rows (Scan m) a = absurd (a m refl)
+  looked_other cells rows (Empty b f n) a = looked_none _ refl
 
 -- a scan without filters
 pub no_filters : (rows cells : List ℕ) (f n : ℕ) (t q : ℕ) (is : Option (List ℕ)) → n ≡ 0 → leaf_exprs (scan t q is (exprs_at rows cells f n)) ≡ []

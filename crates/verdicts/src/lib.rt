@@ -21,27 +21,10 @@ ghost use Rattle.tree.specs.Node.{join_is};
 ghost use Rattle.tree.specs.Rows.{AllAt, columns_at, EachOk, Inside, list_at, pairs_at, win_size};
 ghost use Rattle.tree.specs.Tree.{head_of, if?, PartsOk};
 
-use lookup::{Resolved, Sides};
+use lookup::{Schema, Sides, Unresolved};
 use parts::{resolve_aggs, resolve_roots, resolve_wins};
+use refusals::{Reason, Refusal};
 use tree::{JoinNode, JoinType, Node, ScanNode};
-
-// The codes of documents 01 and 02.
-const CLASH: u8 = 7;
-
-const UNKNOWN: u8 = 8;
-
-const WIDTH: u8 = 9;
-
-const FIELDS: u8 = 10;
-
-const AMBIGUOUS: u8 = 17;
-
-/// No fault, with the number of the next free field; or a code with its node.
-#[derive(Clone, Copy)]
-pub enum Verdict {
-    Fine(usize),
-    Bad(u8, usize),
-}
 
 /// A node's row: the number of its first field, how many fields it has, how many of its first are known not to clash, and the number of the next
 /// free field.
@@ -57,61 +40,25 @@ pub struct Row {
 fn is_join(node: Node) -> bool
     ensures { result ≡ joins node }
 {
-    match node {
-        Node::Projection { first: _, n: _ } => false,
-        Node::Filter { root: _ } => false,
-        Node::Sort { first: _, n: _ } => false,
-        Node::Limit { skip: _, fetch: _ } => false,
-        Node::Aggregate {
-            first: _,
-            groups: _,
-            aggregates: _,
-        } => false,
-        Node::Window { first: _, n: _ } => false,
-        Node::SubqueryAlias { qualifier: _ } => false,
-        Node::Union { right: _ } => false,
-        Node::Distinct => false,
-        Node::Join(_) => true,
-        Node::Scan(_) => false,
-        Node::Empty {
-            one_row: _,
-            first: _,
-            n: _,
-        } => false,
-    }
+    matches!(node, Node::Join(_))
 }
 
 /// Are a Union's inputs equally wide? Other nodes' need not be.
 fn is_even(node: Node, left: usize, right: usize) -> bool
     ensures { result ≡ even_of node left right }
 {
-    match node {
-        Node::Projection { first: _, n: _ } => true,
-        Node::Filter { root: _ } => true,
-        Node::Sort { first: _, n: _ } => true,
-        Node::Limit { skip: _, fetch: _ } => true,
-        Node::Aggregate {
-            first: _,
-            groups: _,
-            aggregates: _,
-        } => true,
-        Node::Window { first: _, n: _ } => true,
-        Node::SubqueryAlias { qualifier: _ } => true,
-        Node::Union { right: _ } => left == right,
-        Node::Distinct => true,
-        Node::Join(_) => true,
-        Node::Scan(_) => true,
-        Node::Empty {
-            one_row: _,
-            first: _,
-            n: _,
-        } => true,
-    }
+    !matches!(node, Node::Union { .. }) | (left == right)
 }
 
 /// What a join's references find: pair halves each in their own side, the condition in both. Its rows and roots are well formed, and the
 /// sides lie in the array.
-fn join_resolved(cells: &[u64], rows: &[u16], j: JoinNode, fields: &[u16], sides: Sides) -> Resolved
+fn join_resolved(
+    cells: &[u64],
+    rows: &[u16],
+    j: JoinNode,
+    fields: &[u16],
+    sides: Sides,
+) -> Result<(), Unresolved>
     requires parts_ok { PartsOk (parts cells.now rows.now) (Node.Join j) }
     requires sides_clear { SidesClear fields.now sides }
     ensures { result ≡ resolving (passes_head (head_of (parts cells.now rows.now) (Node.Join j)) (left_row fields.now sides) (right_row fields.now sides)) }
@@ -125,45 +72,49 @@ fn join_resolved(cells: &[u64], rows: &[u16], j: JoinNode, fields: &[u16], sides
 }
 
 /// What a node's references find among the fields that they are over. Its rows and roots are well formed, and the sides lie in the array.
-fn node_resolved(cells: &[u64], rows: &[u16], node: Node, fields: &[u16], sides: Sides) -> Resolved
+#[tactic(auto, unfolding(cpl::specs::Exprs::unary_exprs, cpl::specs::Exprs::leaf_exprs, cpl::specs::Accept::binary_passes, cpl::specs::Tests::all_b))]
+fn node_resolved(
+    cells: &[u64],
+    rows: &[u16],
+    node: Node,
+    fields: &[u16],
+    sides: Sides,
+) -> Result<(), Unresolved>
     requires parts_ok { PartsOk (parts cells.now rows.now) node }
     requires sides_clear { SidesClear fields.now sides }
     ensures { result ≡ resolving (passes_head (head_of (parts cells.now rows.now) node) (left_row fields.now sides) (right_row fields.now sides)) }
 {
-    let at = sides.left;
-    let width = sides.lwidth;
+    let own = Schema {
+        fields,
+        first: sides.left,
+        width: sides.lwidth,
+    };
     let clear = sides.clear;
     match node {
-        Node::Projection { first, n } => resolve_roots(
-            cells, rows, first, n, fields, at, width, clear,
-        ),
-        Node::Filter { root } => lookup::resolve_expr(cells, root, fields, at, width, clear),
-        Node::Sort { first, n } => resolve_roots(cells, rows, first, n, fields, at, width, clear),
-        Node::Limit { skip: _, fetch: _ } => Resolved::Fine,
+        Node::Projection { first, n } => resolve_roots(cells, rows, first, n, &own, clear),
+        Node::Filter { root } => lookup::resolve_expr(cells, root, &own, clear),
+        Node::Sort { first, n } => resolve_roots(cells, rows, first, n, &own, clear),
         Node::Aggregate {
             first,
             groups,
             aggregates,
         } => {
-            let keys = resolve_roots(cells, rows, first, groups, fields, at, width, clear);
+            let keys = resolve_roots(cells, rows, first, groups, &own, clear);
             let next = first + groups;
-            let calls = resolve_aggs(cells, rows, next, aggregates, fields, at, width, clear);
+            let calls = resolve_aggs(cells, rows, next, aggregates, &own, clear);
             lookup::both_resolved(keys, calls)
         }
-        Node::Window { first, n } => resolve_wins(cells, rows, first, n, fields, at, width, clear),
-        Node::SubqueryAlias { qualifier: _ } => Resolved::Fine,
-        Node::Union { right: _ } => Resolved::Fine,
-        Node::Distinct => Resolved::Fine,
+        Node::Window { first, n } => resolve_wins(cells, rows, first, n, &own, clear),
         Node::Join(j) => join_resolved(cells, rows, j, fields, sides),
         Node::Scan(s) => {
             let next = s.first + s.n;
-            resolve_roots(cells, rows, next, s.filters, fields, at, width, clear)
+            resolve_roots(cells, rows, next, s.filters, &own, clear)
         }
-        Node::Empty {
-            one_row: _,
-            first: _,
-            n: _,
-        } => Resolved::Fine,
+        Node::Limit { .. }
+        | Node::SubqueryAlias { .. }
+        | Node::Union { .. }
+        | Node::Distinct
+        | Node::Empty { .. } => Ok(()),
     }
 }
 
@@ -192,26 +143,8 @@ fn input_sides(fields: &mut [u16], free: usize, names: &[u16], node: Node, sides
     ensures { (C : Catalogue) (cells rows : List ℕ) → Named C names.now node → Looked C free (head_of (parts cells rows) node) sides result fields.old fields.new }
 {
     match node {
-        Node::Projection { first: _, n: _ } => sides,
-        Node::Filter { root: _ } => sides,
-        Node::Sort { first: _, n: _ } => sides,
-        Node::Limit { skip: _, fetch: _ } => sides,
-        Node::Aggregate {
-            first: _,
-            groups: _,
-            aggregates: _,
-        } => sides,
-        Node::Window { first: _, n: _ } => sides,
-        Node::SubqueryAlias { qualifier: _ } => sides,
-        Node::Union { right: _ } => sides,
-        Node::Distinct => sides,
-        Node::Join(_) => sides,
         Node::Scan(s) => table_sides(fields, free, names, s, sides),
-        Node::Empty {
-            one_row: _,
-            first: _,
-            n: _,
-        } => sides,
+        _ => sides,
     }
 }
 
@@ -321,19 +254,17 @@ fn both_row(fields: &mut [u16], free: usize, most: usize, sides: Sides) -> Row
 }
 
 /// A join's fields, by its type: one side's, or both from field `free` on.
+#[tactic(auto, unfolding(cpl::specs::Fields::join_fields))]
 fn join_row(fields: &mut [u16], free: usize, most: usize, join_type: JoinType, sides: Sides) -> Row
     requires { SidesReady fields.old free most sides }
     ensures { Rowed free most result (join_fields (join_is join_type) (left_row fields.old sides) (right_row fields.old sides)) fields.old fields.new }
 {
     match join_type {
-        JoinType::Inner => both_row(fields, free, most, sides),
-        JoinType::Left => both_row(fields, free, most, sides),
-        JoinType::Right => both_row(fields, free, most, sides),
-        JoinType::Full => both_row(fields, free, most, sides),
-        JoinType::LeftSemi => same_row(sides.left, sides.lwidth, free),
-        JoinType::LeftAnti => same_row(sides.left, sides.lwidth, free),
-        JoinType::RightSemi => same_row(sides.right, sides.rwidth, free),
-        JoinType::RightAnti => same_row(sides.right, sides.rwidth, free),
+        JoinType::Inner | JoinType::Left | JoinType::Right | JoinType::Full => {
+            both_row(fields, free, most, sides)
+        }
+        JoinType::LeftSemi | JoinType::LeftAnti => same_row(sides.left, sides.lwidth, free),
+        JoinType::RightSemi | JoinType::RightAnti => same_row(sides.right, sides.rwidth, free),
     }
 }
 
@@ -369,6 +300,7 @@ fn scan_row(
 }
 
 /// A node's fields, at most `most`: an input's, or from field `free` on. What gives them lies in the arrays.
+#[tactic(auto, unfolding(cpl::specs::Fields::unary_fields, cpl::specs::Fields::binary_fields, cpl::specs::Fields::leaf_fields))]
 fn node_row(
     fields: &mut [u16],
     free: usize,
@@ -383,10 +315,14 @@ fn node_row(
     ensures { (C : Catalogue) (cells : List ℕ) → Named C names.now node → Rowed free most result (fields_head C (head_of (parts cells rows.now) node) (left_row fields.old sides) (right_row fields.old sides)) fields.old fields.new }
 {
     match node {
-        Node::Projection { first, n } => pairs_row(fields, free, most, rows, first, n),
-        Node::Filter { root: _ } => same_row(sides.left, sides.lwidth, free),
-        Node::Sort { first: _, n: _ } => same_row(sides.left, sides.lwidth, free),
-        Node::Limit { skip: _, fetch: _ } => same_row(sides.left, sides.lwidth, free),
+        Node::Projection { first, n } | Node::Empty { first, n, .. } => {
+            pairs_row(fields, free, most, rows, first, n)
+        }
+        Node::Filter { .. }
+        | Node::Sort { .. }
+        | Node::Limit { .. }
+        | Node::Union { .. }
+        | Node::Distinct => same_row(sides.left, sides.lwidth, free),
         Node::Aggregate {
             first,
             groups,
@@ -394,18 +330,8 @@ fn node_row(
         } => pairs_row(fields, free, most, rows, first, groups + aggregates),
         Node::Window { first, n } => window_row(fields, free, most, rows, first, n, sides),
         Node::SubqueryAlias { qualifier } => alias_row(fields, free, most, qualifier, sides),
-        Node::Union { right: _ } => same_row(sides.left, sides.lwidth, free),
-        Node::Distinct => same_row(sides.left, sides.lwidth, free),
-        Node::Join(j) => {
-            let t = j.join_type;
-            join_row(fields, free, most, t, sides)
-        }
+        Node::Join(j) => join_row(fields, free, most, j.join_type, sides),
         Node::Scan(s) => scan_row(fields, free, most, names, rows, s),
-        Node::Empty {
-            one_row: _,
-            first,
-            n,
-        } => pairs_row(fields, free, most, rows, first, n),
     }
 }
 
@@ -422,37 +348,34 @@ pub fn own_verdict(
     widths: &mut [u64],
     k: usize,
     free: usize,
-) -> Verdict
+) -> Result<usize, Refusal>
     requires parts_ok { PartsOk (parts cells.now rows.now) node × NodeInside most names.now rows.now node }
     requires sides_ready { SidesReady fields.old free most sides × (k < max_nodes) × (max_nodes + max_nodes ≤ length widths.old) }
     ensures { (C : Catalogue) → C.version.max_fields ≡ most → Named C names.now node → Judged C (head_of (parts cells.now rows.now) node) (left_row fields.old sides) (right_row fields.old sides) k free fields.old widths.old fields.new widths.new result }
 {
     let over = input_sides(fields, free, names, node, sides);
-    let resolved = node_resolved(cells, rows, node, fields, over);
-    match resolved {
-        Resolved::Fine => {}
-        Resolved::Unknown => return Verdict::Bad(UNKNOWN, k),
-        Resolved::Ambiguous => return Verdict::Bad(AMBIGUOUS, k),
+    match node_resolved(cells, rows, node, fields, over) {
+        Ok(()) => {}
+        Err(Unresolved::Unknown) => return Err(Refusal::new(Reason::Unknown, k)),
+        Err(Unresolved::Ambiguous) => return Err(Refusal::new(Reason::Ambiguous, k)),
     }
-    let even = is_even(node, sides.lwidth, sides.rwidth);
-    if !even {
-        return Verdict::Bad(WIDTH, k);
+    if !is_even(node, sides.lwidth, sides.rwidth) {
+        return Err(Refusal::new(Reason::Width, k));
     }
     let row = node_row(fields, free, most, names, rows, node, sides);
-    let width = row.width;
-    if most < width {
-        return Verdict::Bad(FIELDS, k);
+    if most < row.width {
+        return Err(Refusal::new(Reason::Fields, k));
     }
-    widths[k] = width as u64;
+    widths[k] = row.width as u64;
     widths[256 + k] = row.first as u64;
     if is_join(node) {
         if lookup::sides_clash(fields, sides) {
-            return Verdict::Bad(CLASH, k);
+            return Err(Refusal::new(Reason::Clash, k));
         }
-        return Verdict::Fine(row.next);
+        return Ok(row.next);
     }
-    if lookup::clash_from(fields, row.first, row.clear, width) {
-        return Verdict::Bad(CLASH, k);
+    if lookup::clash_from(fields, row.first, row.clear, row.width) {
+        return Err(Refusal::new(Reason::Clash, k));
     }
-    Verdict::Fine(row.next)
+    Ok(row.next)
 }

@@ -1,5 +1,5 @@
 -- What the steps of the walk say of the lent arrays, and of what they answer.
-use Rattle.std.specs.Prelude.{◌≡◌, Bool, true, false, List, map, ℕ, ◌+◌, ◌*◌, ◌/◌, ◌<◌, ◌≤◌, length}
+use Rattle.std.specs.Prelude.{◌≡◌, Bool, true, false, Result, Ok, Err, List, map, ℕ, ◌+◌, ◌*◌, ◌/◌, ◌<◌, ◌≤◌, length}
 use Rattle.cpl.specs.Exprs.{item_tags}
 use Rattle.cpl.specs.Limits.{max_nodes, max_tags, max_wide}
 use Rattle.cpl.specs.Plan.{Item, Pair, item_expr}
@@ -8,6 +8,7 @@ use Rattle.rules.specs.Rules.{used}
 use Rattle.required_indices.specs.Request.{Asks, flag_of, set_of}
 use Rattle.required_indices.specs.declared.RequiredIndices.{RequiredIndices}
 use Rattle.arena.specs.Rows.{RowsOk, items_at}
+use Rattle.arena.specs.declared.Full.{Full}
 use Rattle.arena_build.specs.Lists.{nodes_of}
 use Rattle.result.specs.Records.{Appended}
 use Rattle.result.specs.declared.Record.{Record}
@@ -16,17 +17,12 @@ use Rattle.jobs.specs.Job.{KeptOf, Leftover}
 use Rattle.jobs.specs.declared.Job.{Job}
 use Rattle.jobs.specs.declared.Todo.{Todo}
 use Rattle.jobs.specs.declared.Todo.TheVariants as todos
-use Rattle.projections.specs.Lists.{Copies, FieldsIn, is_bare, kept_items}
+use Rattle.projections.specs.Lists.{Copies, is_bare, kept_items}
 use Rattle.projections.specs.Tops.{ProjectionPut, ToppedUp}
 use Rattle.projections.specs.declared.Selection.{Selection}
 use Rattle.projections.specs.declared.Selection.TheVariants as selection
 use Rattle.projections.specs.declared.Topped.{Topped}
-use Rattle.projections.specs.declared.Topped.TheVariants as toppeds
 use Rattle.walk_steps.specs.declared.Chosen.{Chosen}
-use Rattle.walk_steps.specs.declared.End.{End}
-use Rattle.walk_steps.specs.declared.End.TheVariants as ends
-use Rattle.walk_steps.specs.declared.Ends.{Ends}
-use Rattle.walk_steps.specs.declared.Ends.TheVariants as inputs
 use Rattle.walk_steps.specs.declared.Inputs.{Inputs}
 use Rattle.walk_steps.specs.declared.Pending.{Pending}
 use Rattle.walk_steps.specs.declared.Used.{Used}
@@ -64,23 +60,24 @@ SelectionIs js u items cells items' cells' more selection.Columns = (all_b is_ba
 SelectionIs js u items cells items' cells' more (selection.Items row n) =
     (all_b is_bare js ≡ false) × (row ≡ u.rows) × (more ≡ record { records = u.records; rows = row + n; cells = more.cells }) × Copies js row n items cells u.cells more.cells items' cells'
 
-abbrev pub TakenIs : (js : List Item) (u : Used) (items cells items' cells' : List ℕ) (c : Chosen) (large : Bool) → Type 0
-TakenIs js u items cells items' cells' c true = (all_b is_bare js ≡ false) × (length cells / 3 < u.cells + nodes_of js)
-TakenIs js u items cells items' cells' c false = SelectionIs js u items cells items' cells' c.used c.list
-
 -- the items js of a projection over the fields fs: "ask the child for the columns they use"
-pub record Picked (js : List Item) (fs : List Pair) (u : Used) (items cells items' cells' : List ℕ) (c : Chosen) : Type 0 where
+pub record PickedIs (js : List Item) (fs : List Pair) (u : Used) (items cells items' cells' : List ℕ) (c : Chosen) : Type 0 where
   pub asks : Asks c.ask (used (map item_expr js) fs)
   pub flag : flag_of c.ask ≡ false
-  pub taken : TakenIs js u items cells items' cells' c c.large
+  pub taken : SelectionIs js u items cells items' cells' c.used c.list
+
+-- they are picked, or there was no room for them
+abbrev pub Picked : (js : List Item) (fs : List Pair) (u : Used) (items cells items' cells' : List ℕ) → Result Chosen Full → Type 0
+Picked js fs u items cells items' cells' (Ok c) = PickedIs js fs u items cells items' cells' c
+Picked js fs u items cells items' cells' (Err e) = (all_b is_bare js ≡ false) × (length cells / 3 < u.cells + nodes_of js)
 
 -- ── records ─────────────────────────────────────────────────────────────────────────────────
 
--- a record was put behind those in use, or all 256 are used
-abbrev pub PutAs : (s s' : List ℕ) (u : Used) → Record → (set : ℕ) → End → Type 0
-PutAs s s' u x set (ends.Done i more) =
-    (i ≡ u.records) × (more ≡ record { records = u.records + 1; rows = u.rows; cells = u.cells }) × (u.records < max_nodes) × Appended s s' u.records x set
-PutAs s s' u x set ends.Large = (max_nodes ≤ u.records) × (s' ≡ s)
+-- a record was put behind those in use, and the fields `kept` are left; or all 256 are used
+abbrev pub PutAs : (s s' : List ℕ) (u : Used) → Record → (set : ℕ) (kept : RequiredIndices) → Result Walked Full → Type 0
+PutAs s s' u x set kept (Ok w) =
+    (w.root ≡ u.records) × (w.used ≡ record { records = u.records + 1; rows = u.rows; cells = u.cells }) × (w.kept ≡ kept) × (u.records < max_nodes) × Appended s s' u.records x set
+PutAs s s' u x set kept (Err e) = (max_nodes ≤ u.records) × (s' ≡ s)
 
 -- a job whose fields that are left depend on the input
 abbrev pub LeftFor : Job → Todo → Type 0
@@ -90,50 +87,47 @@ LeftFor j todos.Same = Leftover j
 LeftFor j (todos.One topped) = Leftover j
 LeftFor j (todos.Two right) = Unit {0}
 
--- node k over its inputs, by what its job says is to be done
-abbrev pub DonePut : (s s' : List ℕ) (k : ℕ) (j : Job) (i : Inputs) (w : Walked) (first second : ℕ) (u : Used) → Todo → Type 0
-DonePut s s' k j i w f g u todos.Leaf = PutAs s s' u (records.Kept k f g) (set_of j.set) w.end × (w.kept ≡ j.kept)
-DonePut s s' k j i w f g u todos.Nothing = PutAs s s' u records.Nothing (set_of j.set) w.end × (w.kept ≡ j.kept)
-DonePut s s' k j i w f g u todos.Same = (s' ≡ s) × (w.end ≡ ends.Done f u) × KeptOf j i.kept w.kept
-DonePut s s' k j i w f g u (todos.One topped) = PutAs s s' u (records.Kept k f g) (set_of j.set) w.end × KeptOf j i.kept w.kept
-DonePut s s' k j i w f g u (todos.Two right) = PutAs s s' u (records.Kept k f g) (set_of j.set) w.end × (w.kept ≡ j.kept)
+-- the first input's record stands for node k, and these fields are left
+abbrev pub SameAs : (j : Job) (i : Inputs) → Result Walked Full → Type 0
+SameAs j i (Ok w) = (w.root ≡ i.first) × (w.used ≡ i.used) × KeptOf j i.kept w.kept
+SameAs j i (Err e) = ⊥
 
-abbrev pub NodePut : (s s' : List ℕ) (k : ℕ) (j : Job) (i : Inputs) (w : Walked) → Ends → Todo → Type 0
-NodePut s s' k j i w (inputs.Done f g u) t = DonePut s s' k j i w f g u t
-NodePut s s' k j i w inputs.Large t = w.end ≡ ends.Large
+-- a record was put, and of the input's fields those that the job leaves are left
+pub record OnePut (s s' : List ℕ) (k : ℕ) (j : Job) (i : Inputs) (w : Result Walked Full) : Type 0 where
+  pub kept : RequiredIndices
+  pub left : KeptOf j i.kept kept
+  pub put : PutAs s s' i.used (records.Kept k i.first i.second) (set_of j.set) kept w
+
+-- node k over its inputs, by what its job says is to be done
+abbrev pub NodePut : (s s' : List ℕ) (k : ℕ) (j : Job) (i : Inputs) (w : Result Walked Full) → Todo → Type 0
+NodePut s s' k j i w todos.Leaf = PutAs s s' i.used (records.Kept k i.first i.second) (set_of j.set) j.kept w
+NodePut s s' k j i w todos.Nothing = PutAs s s' i.used records.Nothing (set_of j.set) j.kept w
+NodePut s s' k j i w todos.Same = (s' ≡ s) × SameAs j i w
+NodePut s s' k j i w (todos.One topped) = OnePut s s' k j i w
+NodePut s s' k j i w (todos.Two right) = PutAs s s' i.used (records.Kept k i.first i.second) (set_of j.set) j.kept w
 
 -- ── projections on top ──────────────────────────────────────────────────────────────────────
 
-abbrev pub OverIs : Used → Topped → End → Type 0
-OverIs u (toppeds.Done i n) e = e ≡ ends.Done i (record { records = n; rows = u.rows; cells = u.cells })
-OverIs u toppeds.Full e = e ≡ ends.Large
+-- with a projection on top, the fields r are left
+abbrev pub over : Topped → Used → RequiredIndices → Walked
+over t u r = record { root = t.«record»; used = record { records = t.used; rows = u.rows; cells = u.cells }; kept = r }
 
--- with what a projection on top answered, the fields r are left
-pub record Over (t : Topped) (u : Used) (r : RequiredIndices) (w : Walked) : Type 0 where
-  pub end_is : OverIs u t w.end
-  pub kept_is : w.kept ≡ r
+-- with what a projection on top answered
+abbrev pub Over : Result Topped Full → Used → RequiredIndices → Result Walked Full → Type 0
+Over (Ok t) u r w = w ≡ Ok (over t u r)
+Over (Err e) u r w = w ≡ Err e
 
--- node k was asked for `ask` and became the record `rec`
-pub record Topping (s s' : List ℕ) (k : ℕ) (ask : RequiredIndices) (rec : ℕ) (u : Used) (w v : Walked) : Type 0 where
-  pub t : Topped
-  pub on_top : ToppedUp s s' u.records rec k ask w.kept t
-  pub over : Over t u ask v
+-- node k was asked for `ask` and became w
+pub record Topping (s s' : List ℕ) (k : ℕ) (ask : RequiredIndices) (w : Walked) (v : Result Walked Full) : Type 0 where
+  pub t : Result Topped Full
+  pub on_top : ToppedUp s s' w.used.records w.root k ask w.kept t
+  pub over : Over t w.used ask v
 
-abbrev pub ToppedIs : (s s' : List ℕ) (k : ℕ) (ask : RequiredIndices) (w v : Walked) (topped : Bool) → End → Type 0
-ToppedIs s s' k ask w v false e = (s' ≡ s) × (v ≡ w)
-ToppedIs s s' k ask w v true (ends.Done rec u) = Topping s s' k ask rec u w v
-ToppedIs s s' k ask w v true ends.Large = v.end ≡ ends.Large
+abbrev pub ToppedIs : (s s' : List ℕ) (k : ℕ) (ask : RequiredIndices) (w : Walked) (v : Result Walked Full) (topped : Bool) → Type 0
+ToppedIs s s' k ask w v false = (s' ≡ s) × (v ≡ Ok w)
+ToppedIs s s' k ask w v true = Topping s s' k ask w v
 
--- the fields of an input that are left lie in the array
-abbrev pub FieldsFor : (fields : List ℕ) (start width : ℕ) → Walked → End → Type 0
-FieldsFor fields start width w (ends.Done rec u) = FieldsIn fields start width w.kept
-FieldsFor fields start width w ends.Large = Unit {0}
-
-pub record Putting (s s' : List ℕ) (list : Selection) (fields : List ℕ) (top start width : ℕ) (r : RequiredIndices) (lower below rec : ℕ) (u : Used) (w v : Walked) : Type 0 where
-  pub t : Topped
-  pub on_top : ProjectionPut s s' u.records rec list fields top start width r lower below w.kept t
-  pub over : Over t u r v
-
-abbrev pub ListPut : (s s' : List ℕ) (list : Selection) (fields : List ℕ) (top start width : ℕ) (r : RequiredIndices) (lower below : ℕ) (w v : Walked) → End → Type 0
-ListPut s s' list fields top start width r lower below w v (ends.Done rec u) = Putting s s' list fields top start width r lower below rec u w v
-ListPut s s' list fields top start width r lower below w v ends.Large = v.end ≡ ends.Large
+pub record Putting (s s' : List ℕ) (list : Selection) (fields : List ℕ) (top start width : ℕ) (r : RequiredIndices) (lower below : ℕ) (w : Walked) (v : Result Walked Full) : Type 0 where
+  pub t : Result Topped Full
+  pub on_top : ProjectionPut s s' w.used.records w.root list fields top start width r lower below w.kept t
+  pub over : Over t w.used r v

@@ -12,14 +12,16 @@ ghost use Rattle.lookup.specs.Fields.{row_at};
 ghost use Rattle.requests.specs.Asked.{Below};
 ghost use Rattle.result.specs.Result.{record_n};
 ghost use Rattle.merge.specs.Step.{Reads, Stepped};
-ghost use Rattle.projections.specs.Lists.{FieldsIn, kept_items, Room};
-ghost use Rattle.walk_steps.specs.Steps.{FieldsFor, kept_pending, LeftFor, ListOk, ListPut, NodePut, Over, pending_items, Picked, PutAs, Scratch, ToppedIs};
+ghost use Rattle.projections.specs.Lists.{FieldsIn, Room};
+ghost use Rattle.walk_steps.specs.Steps.{kept_pending, LeftFor, ListOk, NodePut, over, pending_items, Picked, PutAs, Putting, Scratch, side, ToppedIs};
 
+use arena::{Full, Items};
 use jobs::{Job, Todo};
+use lookup::Schema;
 use merge::Step;
-use projections::{Copied, Selection, Topped};
+use projections::{Selection, Topped};
 use required_indices::RequiredIndices;
-use result::{Pushed, Record};
+use result::Record;
 
 /// How many records, rows and cells of the result are in use.
 #[derive(Clone, Copy)]
@@ -39,45 +41,55 @@ pub struct Pending {
     pub scratch: bool,
 }
 
-/// A rewritten plan: its record and what is now in use, or that the result is too large.
-#[derive(Clone, Copy)]
-pub enum End {
-    Done { record: usize, used: Used },
-    Large,
-}
-
-/// What rewriting a node answers, and which of the node's fields are left.
+/// A rewritten plan: the record of its root, what is now in use, and which of the node's fields are left.
 #[derive(Clone, Copy)]
 pub struct Walked {
-    pub end: End,
+    pub root: usize,
+    pub used: Used,
     pub kept: RequiredIndices,
 }
 
-/// The rewritten inputs of a node: their records, as far as it has them, and what is now in use; or that the result is too large.
-#[derive(Clone, Copy)]
-pub enum Ends {
-    Done {
-        first: usize,
-        second: usize,
-        used: Used,
-    },
-    Large,
-}
-
-/// What rewriting the inputs of a node answers, and which of the first input's fields are left.
+/// The rewritten inputs of a node: their records, 0 where it has none, what is now in use, and which of the first input's fields are left.
 #[derive(Clone, Copy)]
 pub struct Inputs {
-    pub end: Ends,
+    pub first: usize,
+    pub second: usize,
+    pub used: Used,
     pub kept: RequiredIndices,
 }
 
-/// The kept items of a list: what they ask of the input, whether there was no room to copy them, how they are to be put, and what is now in use.
+/// The kept items of a list: what they ask of the input, how they are to be put, and what is now in use.
 #[derive(Clone, Copy)]
 pub struct Chosen {
     pub ask: RequiredIndices,
-    pub large: bool,
     pub list: Selection,
     pub used: Used,
+}
+
+// The pending list: its items in the file's rows, or in the scratch rows.
+fn items_of<'a>(
+    list: Pending,
+    rows: &'a [u16],
+    cells: &'a [u64],
+    arows: &'a [u16],
+    acells: &'a [u64],
+) -> Items<'a>
+    ensures rows_are { result.rows.now ≡ side list.scratch arows.now rows.now }
+    ensures cells_are { result.cells.now ≡ side list.scratch acells.now cells.now }
+    ensures first_is { result.first ≡ list.first }
+    ensures count_is { result.count ≡ list.n }
+{
+    let (rows, cells) = if list.scratch {
+        (arows, acells)
+    } else {
+        (rows, cells)
+    };
+    Items {
+        rows,
+        cells,
+        first: list.first,
+        count: list.n,
+    }
 }
 
 /// One step of merging the pending list with the n items from row `first` on of the file: a merged list goes to the second scratch arrays. Each
@@ -94,85 +106,21 @@ pub fn merge_step(
     n: usize,
     brows: &mut [u16],
     bcells: &mut [u64],
-) -> Step
+) -> Result<Step, Full>
     requires list_ok { ListOk list rows.now cells.now arows.now acells.now }
     requires rows_ok { RowsOk rows.now cells.now first n }
     requires reads { Reads (pending_items list rows.now cells.now arows.now acells.now) (items_at rows.now cells.now first n) }
     requires scratch { Scratch brows.old bcells.old }
     ensures { Stepped house mask (pending_items list rows.now cells.now arows.now acells.now) (items_at rows.now cells.now first n) list.n result brows.new bcells.new }
 {
-    let from = list.first;
-    let size = list.n;
-    if list.scratch {
-        return merge::merge_consecutive_projections(
-            house, mask, arows, from, size, acells, rows, first, n, cells, brows, bcells,
-        );
-    }
-    merge::merge_consecutive_projections(
-        house, mask, rows, from, size, cells, rows, first, n, cells, brows, bcells,
-    )
-}
-
-// The kept items of the list of `size` items from row `from` on of `lrows`, over `width` fields from field `start` on.
-fn choose(
-    lrows: &[u16],
-    from: usize,
-    size: usize,
-    lcells: &[u64],
-    request: RequiredIndices,
-    fields: &[u16],
-    start: usize,
-    width: usize,
-    items: &mut [u16],
-    icells: &mut [u64],
-    used: Used,
-) -> Chosen
-    requires rows_ok { RowsOk lrows.now lcells.now from size }
-    requires request_bound { set_of request < 2 ^ size }
-    requires below { Below fields.now start width }
-    requires room { Room items.old icells.old used.rows used.cells }
-    ensures { Picked (kept_items lrows.now lcells.now from size request) (row_at fields.now start width) used items.old icells.old items.new icells.new result }
-{
-    let none = RequiredIndices::new();
-    let ask = requests::with_items(
-        none, lrows, from, size, lcells, request, fields, start, width,
-    );
-    if projections::all_bare(lrows, from, size, request) {
-        return Chosen {
-            ask,
-            large: false,
-            list: Selection::Columns,
-            used,
-        };
-    }
-    let row = used.rows;
-    let nodes = used.cells;
-    let c = projections::copy_kept(
-        lrows, from, size, lcells, request, items, row, icells, nodes,
-    );
-    let Copied::Done {
-        rows: count,
-        used: cells,
-    } = c
-    else {
-        return Chosen {
-            ask,
-            large: true,
-            list: Selection::Columns,
-            used,
-        };
-    };
-    let more = Used {
-        records: used.records,
-        rows: row + count,
+    let upper = items_of(list, rows, cells, arows, acells);
+    let lower = Items {
+        rows,
         cells,
+        first,
+        count: n,
     };
-    Chosen {
-        ask,
-        large: false,
-        list: Selection::Items { row, count },
-        used: more,
-    }
+    merge::merge_consecutive_projections(house, mask, &upper, &lower, brows, bcells)
 }
 
 /// The kept items of the pending list over an input whose fields are the `width` from field `start` on: those that are not all bare columns are
@@ -190,118 +138,105 @@ pub fn get_at_indices(
     items: &mut [u16],
     icells: &mut [u64],
     used: Used,
-) -> Chosen
+) -> Result<Chosen, Full>
     requires list_ok { ListOk list rows.now cells.now arows.now acells.now }
     requires request_bound { set_of request < 2 ^ list.n }
     requires below { Below fields.now start width }
     requires room { Room items.old icells.old used.rows used.cells }
     ensures { Picked (kept_pending list request rows.now cells.now arows.now acells.now) (row_at fields.now start width) used items.old icells.old items.new icells.new result }
 {
-    let from = list.first;
-    let size = list.n;
-    if list.scratch {
-        return choose(
-            arows, from, size, acells, request, fields, start, width, items, icells, used,
-        );
+    let upper = items_of(list, rows, cells, arows, acells);
+    let input = Schema {
+        fields,
+        first: start,
+        width,
+    };
+    let ask = requests::with_items(RequiredIndices::new(), &upper, request, &input);
+    if projections::all_bare(&upper, request) {
+        return Ok(Chosen {
+            ask,
+            list: Selection::Columns,
+            used,
+        });
     }
-    choose(
-        rows, from, size, cells, request, fields, start, width, items, icells, used,
-    )
+    let copied = projections::copy_kept(&upper, request, items, used.rows, icells, used.cells)?;
+    Ok(Chosen {
+        ask,
+        list: Selection::Items {
+            row: used.rows,
+            count: copied.rows,
+        },
+        used: Used {
+            records: used.records,
+            rows: used.rows + copied.rows,
+            cells: copied.used,
+        },
+    })
 }
 
-// A record put behind those in use.
-fn put(records: &mut [u64], used: Used, node: Record, set: RequiredIndices) -> End
+// A record put behind those in use: its plan, of which the fields `kept` are left.
+fn put(
+    records: &mut [u64],
+    used: Used,
+    node: Record,
+    set: RequiredIndices,
+    kept: RequiredIndices,
+) -> Result<Walked, Full>
     requires { max_nodes * record_n ≤ length records.old }
-    ensures { PutAs records.old records.new used node (set_of set) result }
+    ensures { PutAs records.old records.new used node (set_of set) kept result }
 {
-    let p = result::push_record(records, used.records, node, &set.indices, set.used);
-    let Pushed::At(record) = p else {
-        return End::Large;
-    };
-    let count = used.records + 1;
-    let more = Used {
-        records: count,
-        rows: used.rows,
-        cells: used.cells,
-    };
-    End::Done { record, used: more }
+    let root = result::push_record(records, used.records, node, &set)?;
+    Ok(Walked {
+        root,
+        used: Used {
+            records: used.records + 1,
+            rows: used.rows,
+            cells: used.cells,
+        },
+        kept,
+    })
 }
 
 /// Node `k` put over its rewritten inputs, as its job says.
-pub fn put_node(records: &mut [u64], k: usize, job: Job, inputs: Inputs) -> Walked
+pub fn put_node(records: &mut [u64], k: usize, job: Job, inputs: Inputs) -> Result<Walked, Full>
     requires record_n_in_bounds { max_nodes * record_n ≤ length records.old }
     requires left_for { LeftFor job job.todo }
-    ensures { NodePut records.old records.new k job inputs result inputs.end job.todo }
+    ensures { NodePut records.old records.new k job inputs result job.todo }
 {
-    let end = inputs.end;
-    let rest = job.rest;
-    let set = job.set;
-    let kept = job.kept;
-    let Ends::Done {
-        first,
-        second,
-        used,
-    } = end
-    else {
-        return Walked {
-            end: End::Large,
-            kept,
-        };
-    };
     let node = Record::Kept {
         old: k,
-        first,
-        second,
+        first: inputs.first,
+        second: inputs.second,
     };
-    let todo = job.todo;
-    match todo {
-        Todo::Leaf => Walked {
-            end: put(records, used, node, set),
-            kept,
-        },
-        Todo::Nothing => Walked {
-            end: put(records, used, Record::Nothing, set),
-            kept,
-        },
-        Todo::Same => Walked {
-            end: End::Done {
-                record: first,
-                used,
-            },
-            kept: jobs::kept_of(rest, set, kept, inputs.kept),
-        },
-        Todo::One { topped: _ } => Walked {
-            end: put(records, used, node, set),
-            kept: jobs::kept_of(rest, set, kept, inputs.kept),
-        },
-        Todo::Two { right: _ } => Walked {
-            end: put(records, used, node, set),
-            kept,
-        },
+    match job.todo {
+        Todo::Leaf => put(records, inputs.used, node, job.set, job.kept),
+        Todo::Nothing => put(records, inputs.used, Record::Nothing, job.set, job.kept),
+        Todo::Same => Ok(Walked {
+            root: inputs.first,
+            used: inputs.used,
+            kept: jobs::kept_of(job.rest, job.set, job.kept, inputs.kept),
+        }),
+        Todo::One { .. } => {
+            let kept = jobs::kept_of(job.rest, job.set, job.kept, inputs.kept);
+            put(records, inputs.used, node, job.set, kept)
+        }
+        Todo::Two { .. } => put(records, inputs.used, node, job.set, job.kept),
     }
 }
 
-/// What a walk answered, with the projection on top that was put by `topped`.
+// What a walk answered, with the projection on top that was put by `topped`: the fields `kept` are left.
 fn over(topped: Topped, used: Used, kept: RequiredIndices) -> Walked
-    ensures { Over topped used kept result }
+    ensures { result ≡ over topped used kept }
 {
-    let Topped::Done {
-        record,
-        used: records,
-    } = topped
-    else {
-        return Walked {
-            end: End::Large,
-            kept,
-        };
-    };
-    let more = Used {
-        records,
-        rows: used.rows,
-        cells: used.cells,
-    };
-    let end = End::Done { record, used: more };
-    Walked { end, kept }
+    Walked {
+        root: topped.record,
+        used: Used {
+            records: topped.used,
+            rows: used.rows,
+            cells: used.cells,
+        },
+        kept,
+    }
 }
 
 /// Top-up of node `k`, which was asked for `ask` and became `w`; where it is not wanted, `w` as it is.
@@ -311,30 +246,22 @@ pub fn top_up(
     k: usize,
     ask: RequiredIndices,
     w: Walked,
-) -> Walked
+) -> Result<Walked, Full>
     requires { max_nodes * record_n ≤ length records.old }
-    ensures { ToppedIs records.old records.new k ask w result topped w.end }
+    ensures { ToppedIs records.old records.new k ask w result topped }
 {
     if !topped {
-        return w;
+        return Ok(w);
     }
-    let end = w.end;
-    let kept = w.kept;
-    let End::Done { record, used } = end else {
-        return Walked {
-            end: End::Large,
-            kept,
-        };
-    };
     let t = projections::add_projection_on_top_if_helpful(
         records,
-        used.records,
-        record,
+        w.used.records,
+        w.root,
         k,
         ask,
-        kept,
-    );
-    over(t, used, ask)
+        w.kept,
+    )?;
+    Ok(over(t, w.used, ask))
 }
 
 /// The kept items of the pending list, whose pairs are the fields of node `top`, `width` from field `start` on, over an input that became `w`. Its
@@ -350,24 +277,16 @@ pub fn put_list(
     lower: usize,
     input_width: usize,
     w: Walked,
-) -> Walked
+) -> Result<Walked, Full>
     requires record_n_in_bounds { max_nodes * record_n ≤ length records.old }
     requires fields_in { FieldsIn fields.now start width request }
-    requires fields_for { FieldsFor fields.now lower input_width w w.end }
-    ensures { ListPut records.old records.new list fields.now top start width request lower input_width w result w.end }
+    requires fields_for { FieldsIn fields.now lower input_width w.kept }
+    ensures { Putting records.old records.new list fields.now top start width request lower input_width w result }
 {
-    let end = w.end;
-    let kept = w.kept;
-    let End::Done { record, used } = end else {
-        return Walked {
-            end: End::Large,
-            kept,
-        };
-    };
     let t = projections::put_projection(
         records,
-        used.records,
-        record,
+        w.used.records,
+        w.root,
         list,
         fields,
         top,
@@ -376,7 +295,7 @@ pub fn put_list(
         request,
         lower,
         input_width,
-        kept,
-    );
-    over(t, used, request)
+        w.kept,
+    )?;
+    Ok(over(t, w.used, request))
 }

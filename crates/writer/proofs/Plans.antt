@@ -1,11 +1,12 @@
 -- A plan from its node and its inputs: its bytes, its tags, its nodes. Assumes nothing.
 use mathlib.Core.Path.{◌≡◌, refl, subst, sym, ap, ap₂, ◌∙◌}
 use mathlib.Core.Bool.{Bool}
+use Rattle.std.proofs.Common.{Option, Some, None}
 use mathlib.Core.List.{List, [], ◌++◌, append_assoc, append-nil}
 use Prim.Native.Nat.{ℕ, zero, suc, ◌+◌, ◌*◌, ◌-◌, ◌^◌, ◌<◌, ◌≤◌}
 use native.Mathlib.Omega.{arith}
 use lib.ListN.{length, take, drop, length-append}
-use lib.Seq.{length-take-le, take_all}
+use lib.Seq.{length-take-le}
 use Rattle.cpl.specs.Bytes.{plan_bytes, unary_bytes}
 use Rattle.cpl.specs.Exprs.{plan_nodes, plan_tags}
 use Rattle.cpl.specs.Limits.{Version}
@@ -26,40 +27,36 @@ use Rattle.result.proofs.Steps.{result-step}
 use Rattle.writer_parts.specs.Wrote.{Countable, Counts, Wrote, over}
 use Rattle.writer_parts.specs.declared.Size.{Size}
 use Rattle.writer_parts.proofs.Over.{fits, length_back, part, so}
-use Rattle.writer.specs.Plans.{Shaped, Taken, Writes, WritesBy, cells_of, head_tags, inputs_of, node_inputs, plan_head, plan_of, record_shape, rows_of}
+use Rattle.writer.specs.Plans.{Shaped, Taken, Writes, cells_of, head_tags, inputs_of, node_inputs, plan_head, plan_of, record_shape, rows_of}
 use Rattle.shapes.specs.Shapes.{ShapeOk, shape_bytes, shape_tags}
-use Rattle.writer.specs.declared.Inputs.{Inputs}
-use Rattle.writer.specs.declared.Inputs.TheVariants as inputs
-use Rattle.writer.specs.declared.Second.{Second}
-use Rattle.writer.specs.declared.Second.TheVariants as seconds
 use Rattle.shapes.specs.declared.Shape.{Shape}
 use Rattle.writer.proofs.Records.{Small, Written, record_small, record_taken, record_written}
 
 -- ── a node and its inputs ───────────────────────────────────────────────────────────────────
 
 -- of a second input, where there is one, among the plans R
-abbrev pub rest_bytes : Version → (R : ℕ → Plan) → Second → List ℕ
-rest_bytes u R seconds.Nothing = []
-rest_bytes u R (seconds.At g) = plan_bytes u (R g)
+abbrev pub rest_bytes : Version → (R : ℕ → Plan) → Option ℕ → List ℕ
+rest_bytes u R None = []
+rest_bytes u R (Some g) = plan_bytes u (R g)
 
-abbrev pub rest_tags : (R : ℕ → Plan) → Second → ℕ
-rest_tags R seconds.Nothing = 0
-rest_tags R (seconds.At g) = plan_tags (R g)
+abbrev pub rest_tags : (R : ℕ → Plan) → Option ℕ → ℕ
+rest_tags R None = 0
+rest_tags R (Some g) = plan_tags (R g)
 
-abbrev pub rest_nodes : (R : ℕ → Plan) → Second → ℕ
-rest_nodes R seconds.Nothing = 0
-rest_nodes R (seconds.At g) = plan_nodes (R g)
+abbrev pub rest_nodes : (R : ℕ → Plan) → Option ℕ → ℕ
+rest_nodes R None = 0
+rest_nodes R (Some g) = plan_nodes (R g)
 
-abbrev pub Below : ℕ → Second → Type 0
-Below i seconds.Nothing = Unit {0}
-Below i (seconds.At g) = g < i
+abbrev pub Below : ℕ → Option ℕ → Type 0
+Below i None = Unit {0}
+Below i (Some g) = g < i
 
 pub record Alone (u : Version) (P : Plan) : Type 0 where
   pub bytes_are : plan_bytes u P ≡ plan_head u P
   pub tags_are : plan_tags P ≡ head_tags P
   pub nodes_are : plan_nodes P ≡ 1
 
-pub record Above (u : Version) (i f : ℕ) (x : Second) (R : ℕ → Plan) (P : Plan) : Type 0 where
+pub record Above (u : Version) (i f : ℕ) (x : Option ℕ) (R : ℕ → Plan) (P : Plan) : Type 0 where
   pub first_below : f < i
   pub second_below : Below i x
   pub bytes_are : plan_bytes u P ≡ plan_head u P ++ (plan_bytes u (R f) ++ rest_bytes u R x)
@@ -67,16 +64,16 @@ pub record Above (u : Version) (i f : ℕ) (x : Second) (R : ℕ → Plan) (P : 
   pub nodes_are : plan_nodes P ≡ suc (plan_nodes (R f) + rest_nodes R x)
 
 -- P is the plan of record i, R that of each
-abbrev pub Splits : Version → (i : ℕ) (R : ℕ → Plan) (P : Plan) → Inputs → Type 0
-Splits u i R P inputs.Leaf = Alone u P
-Splits u i R P (inputs.Over f x) = Above u i f x R P
+abbrev pub Splits : Version → (i : ℕ) (R : ℕ → Plan) (P : Plan) → Option (ℕ × Option ℕ) → Type 0
+Splits u i R P None = Alone u P
+Splits u i R P (Some (f, x)) = Above u i f x R P
 
 alone : {u : Version} (h : Leaf) → Alone u (leaf h)
 unfolding plan_bytes plan_head plan_tags head_tags plan_nodes
 alone h = record { bytes_are = refl; tags_are = refl; nodes_are = refl }
 
 module _ (u : Version) (R : ℕ → Plan) {i f : ℕ} where
-  above : (h : Unary) → f < i → Above u i f seconds.Nothing R (unary h (R f))
+  above : (h : Unary) → f < i → Above u i f None R (unary h (R f))
   unfolding plan_bytes plan_head plan_tags head_tags plan_nodes
   above h l =
       record {
@@ -87,7 +84,7 @@ module _ (u : Version) (R : ℕ → Plan) {i f : ℕ} where
         nodes_are = omega arith;
       }
 
-  joins : {g : ℕ} (h : Binary) → f < i → g < i → Above u i f (seconds.At g) R (binary h (R f) (R g))
+  joins : {g : ℕ} (h : Binary) → f < i → g < i → Above u i f (Some g) R (binary h (R f) (R g))
   unfolding plan_bytes plan_head plan_tags head_tags plan_nodes
   joins h l m = record { first_below = l; second_below = m; bytes_are = refl; tags_are = refl; nodes_are = refl }
 
@@ -119,15 +116,15 @@ module _ (u : Version) (C : Catalogue) (a : Arrays) (r : Results) (R : ℕ → P
 pub alone_length : {u : Version} {P : Plan} → Alone u P → length (plan_bytes u P) ≡ length (plan_head u P)
 alone_length o = ap length o.bytes_are
 
-pub above_length : {u : Version} {i f : ℕ} {x : Second} {R : ℕ → Plan} {P : Plan} → Above u i f x R P →
+pub above_length : {u : Version} {i f : ℕ} {x : Option ℕ} {R : ℕ → Plan} {P : Plan} → Above u i f x R P →
     length (plan_bytes u P) ≡ length (plan_head u P) + (length (plan_bytes u (R f)) + length (rest_bytes u R x))
 above_length {u} {f = f} {x} {R} {P} o =
     ap length o.bytes_are ∙ length-append (plan_head u P) (plan_bytes u (R f) ++ rest_bytes u R x)
     ∙ omega (arith, length-append (plan_bytes u (R f)) (rest_bytes u R x))
 
-pub two-length : {u : Version} {i f g : ℕ} {x : Second} {R : ℕ → Plan} {P : Plan} → x ≡ seconds.At g → Above u i f x R P →
+pub two-length : {u : Version} {i f g : ℕ} {x : Option ℕ} {R : ℕ → Plan} {P : Plan} → x ≡ Some g → Above u i f x R P →
     length (plan_bytes u P) ≡ length (plan_head u P) + (length (plan_bytes u (R f)) + length (plan_bytes u (R g)))
-two-length {u} {R = R} e o = above_length o ∙ omega (arith, ap (λ (y : Second). length (rest_bytes u R y)) e)
+two-length {u} {R = R} e o = above_length o ∙ omega (arith, ap (λ (y : Option ℕ). length (rest_bytes u R y)) e)
 
 -- what a plan takes
 abbrev size : Version → Plan → Size
@@ -190,7 +187,7 @@ module _ {version : versions.Version} {cells rows nodes fields widths records it
         rw (step, sym o.set) k
 
     -- ── its inputs ──
-    pub splits : {k : Inputs} → k ≡ inputs_of nodes rec → Splits (version_of version) i (plans w) (plan_of w) k
+    pub splits : {k : Option (ℕ × Option ℕ)} → k ≡ inputs_of nodes rec → Splits (version_of version) i (plans w) (plan_of w) k
     splits e =
         rw (e, step) (split_record (version_of version) w.standing.C (lent cells rows nodes) made (plans w) i (set_at records i) w.standing.count w.m w.n rec is_ok)
 
@@ -207,24 +204,24 @@ module _ {version : versions.Version} {cells rows nodes fields widths records it
           small = omega (arith, s, w.small);
         }
 
-    abbrev pub first-input : {f : ℕ} {x : Second} → Above (version_of version) i f x (plans w) (plan_of w) → Writes version cells rows nodes fields widths records items icells f
+    abbrev pub first-input : {f : ℕ} {x : Option ℕ} → Above (version_of version) i f x (plans w) (plan_of w) → Writes version cells rows nodes fields widths records items icells f
     first-input {f} o = input f o.first_below (omega (arith, o.nodes_are))
 
-    abbrev pub second-input : {f g : ℕ} {x : Second} → x ≡ seconds.At g → Above (version_of version) i f x (plans w) (plan_of w) →
+    abbrev pub second-input : {f g : ℕ} {x : Option ℕ} → x ≡ Some g → Above (version_of version) i f x (plans w) (plan_of w) →
         Writes version cells rows nodes fields widths records items icells g
     second-input {f} {g} e o = input g (rw e at o.second_below) (omega (arith, o.nodes_are, ap (rest_nodes (plans w)) e))
 
   -- ── a bound ──
-  bound_by : {i : ℕ} (w : Writes version cells rows nodes fields widths records items icells i) (k : Inputs) → Splits (version_of version) i (plans w) (plan_of w) k →
+  bound_by : {i : ℕ} (w : Writes version cells rows nodes fields widths records items icells i) (k : Option (ℕ × Option ℕ)) → Splits (version_of version) i (plans w) (plan_of w) k →
       ((j : ℕ) → j < i → (v : Writes version cells rows nodes fields widths records items icells j) → Bound (version_of version) (plan_of v)) → Bound (version_of version) (plan_of w)
-  bound_by w inputs.Leaf o go =
+  bound_by w None o go =
       let s = small-head w in
       (omega (arith, s.short, ap length o.bytes_are, o.nodes_are), omega (arith, s.few_tags, o.tags_are, o.nodes_are))
-  bound_by w (inputs.Over f seconds.Nothing) o go =
+  bound_by w (Some (f, None)) o go =
       let s = small-head w in
       let b = go f o.first_below (first-input w o) in
       (omega (arith, s.short, above_length o, o.nodes_are, b.0), omega (arith, s.few_tags, o.tags_are, o.nodes_are, b.1))
-  bound_by w (inputs.Over f (seconds.At g)) o go =
+  bound_by w (Some (f, Some g)) o go =
       let s = small-head w in
       let b = go f o.first_below (first-input w o) in
       let c = go g o.second_below (second-input w refl o) in
@@ -241,42 +238,27 @@ module _ {version : versions.Version} {cells rows nodes fields widths records it
       record { bytes_fit = omega (arith, b.0, w.small); tags_fit = omega (arith, b.1, w.small) }
 
   -- a plan is as long as its head, or longer
-  head_first : {i : ℕ} (w : Writes version cells rows nodes fields widths records items icells i) (k : Inputs) → Splits (version_of version) i (plans w) (plan_of w) k →
+  head_first : {i : ℕ} (w : Writes version cells rows nodes fields widths records items icells i) (k : Option (ℕ × Option ℕ)) → Splits (version_of version) i (plans w) (plan_of w) k →
       length (plan_head (version_of version) (plan_of w)) ≤ length (plan_bytes (version_of version) (plan_of w))
-  head_first w inputs.Leaf o = omega (arith, alone_length o)
-  head_first w (inputs.Over f x) o = omega (arith, above_length o)
+  head_first w None o = omega (arith, alone_length o)
+  head_first w (Some (f, x)) o = omega (arith, above_length o)
 
   pub head_le : {i : ℕ} (w : Writes version cells rows nodes fields widths records items icells i) → length (plan_head (version_of version) (plan_of w)) ≤ length (plan_bytes (version_of version) (plan_of w))
   head_le {i} w = head_first w (inputs_of nodes (record_at records i)) (splits w refl)
 
-module _ {wide late : ℕ} {cells rows nodes fields widths records items icells : List ℕ} {i : ℕ} (w : WritesBy wide late cells rows nodes fields widths records items icells i) where
-  -- another record of it
-  abbrev pub of_it : {f : ℕ} → Writes w.version cells rows nodes fields widths records items icells f → WritesBy wide late cells rows nodes fields widths records items icells f
-  of_it o = record { version = w.version; wide_is = w.wide_is; late_is = w.late_is; writes = o }
-
-  abbrev pub shaped : {h : Shape} → h ≡ record_shape wide late nodes widths (record_at records i) → Shaped h cells rows fields records items icells i
-  shaped e =
-      record {
-        version = w.version;
-        nodes = nodes;
-        widths = widths;
-        writes = w.writes;
-        shape_is = e ∙ ap₂ (λ (x y : ℕ). record_shape x y nodes widths (record_at records i)) (sym w.wide_is) (sym w.late_is);
-      }
-
--- a version's own numbers
-abbrev pub with_numbers : {version : versions.Version} {cells rows nodes fields widths records items icells : List ℕ} {i : ℕ} →
-    Writes version cells rows nodes fields widths records items icells i → WritesBy version.wide version.late cells rows nodes fields widths records items icells i
-with_numbers {version} w = record { version = version; wide_is = refl; late_is = refl; writes = w }
+-- the head of a record that is written
+abbrev pub shaped : {version : versions.Version} {cells rows nodes fields widths records items icells : List ℕ} {i : ℕ} (w : Writes version cells rows nodes fields widths records items icells i) {h : Shape} →
+    h ≡ record_shape version.wide version.late nodes widths (record_at records i) → Shaped h cells rows fields records items icells i
+shaped {version} {nodes = nodes} {widths = widths} w e = record { version = version; nodes = nodes; widths = widths; writes = w; shape_is = e }
 
 -- a head, once its record and its shape are known
 module _ {h : Shape} {cells rows fields records items icells : List ℕ} {i : ℕ} (s : Shaped h cells rows fields records items icells i) where
-  pub head_of_lem : {t : RequiredIndices} {b : Bool} {y : Record} (x : Record) → y ≡ x → y ≡ record_at records i → Holds t (set_at records i) b →
-      length (rows_of rows fields items x) < 2 ^ 64 →
-      Written (version_of s.version) (plan_of s.writes) h (rows_of rows fields items x) (cells_of cells icells x) (set_of t)
-  head_of_lem x e d o l =
-      let c : x ≡ record_at records i = sym e ∙ d in
-      rw (s.shape_is, c) (written s.writes o (subst (λ (z : Record). length (rows_of rows fields items z) < 2 ^ 64) c l))
+  pub head_of_lem : {t : RequiredIndices} {b : Bool} {y : Record} {rs cs : List ℕ} → y ≡ record_at records i → rs ≡ rows_of rows fields items y → cs ≡ cells_of cells icells y →
+      Holds t (set_at records i) b → length rs < 2 ^ 64 → Written (version_of s.version) (plan_of s.writes) h rs cs (set_of t)
+  head_of_lem {rs = rs} {cs} d e f o l =
+      let r : rs ≡ rows_of rows fields items (record_at records i) = e ∙ ap (rows_of rows fields items) d in
+      let c : cs ≡ cells_of cells icells (record_at records i) = f ∙ ap (cells_of cells icells) d in
+      rw (s.shape_is, r, c) (written s.writes o (subst (λ (z : List ℕ). length z < 2 ^ 64) r l))
 
 -- ── a head written, and counted ─────────────────────────────────────────────────────────────
 
@@ -298,21 +280,21 @@ module _ {u : Version} {P : Plan} {h : Shape} {s c : List ℕ} {t : ℕ} (k : Wr
 pub alone_wrote : {u : Version} {P : Plan} {xs out : List ℕ} {a : ℕ} → Alone u P → Wrote (plan_head u P) xs a out → Wrote (plan_bytes u P) xs a out
 alone_wrote o u = so u (sym o.bytes_are) refl
 
-module _ {u : Version} {i f : ℕ} {x : Second} {R : ℕ → Plan} {P : Plan} where
-  one-bytes : x ≡ seconds.Nothing → Above u i f x R P → plan_head u P ++ plan_bytes u (R f) ≡ plan_bytes u P
-  one-bytes e o = ap (plan_head u P ++◌) (sym (append-nil (plan_bytes u (R f))) ∙ ap (λ (y : Second). plan_bytes u (R f) ++ rest_bytes u R y) (sym e)) ∙ sym o.bytes_are
+module _ {u : Version} {i f : ℕ} {x : Option ℕ} {R : ℕ → Plan} {P : Plan} where
+  one-bytes : x ≡ None → Above u i f x R P → plan_head u P ++ plan_bytes u (R f) ≡ plan_bytes u P
+  one-bytes e o = ap (plan_head u P ++◌) (sym (append-nil (plan_bytes u (R f))) ∙ ap (λ (y : Option ℕ). plan_bytes u (R f) ++ rest_bytes u R y) (sym e)) ∙ sym o.bytes_are
 
-  two_bytes : {g : ℕ} → x ≡ seconds.At g → Above u i f x R P → (plan_head u P ++ plan_bytes u (R f)) ++ plan_bytes u (R g) ≡ plan_bytes u P
+  two_bytes : {g : ℕ} → x ≡ Some g → Above u i f x R P → (plan_head u P ++ plan_bytes u (R f)) ++ plan_bytes u (R g) ≡ plan_bytes u P
   two_bytes {g} e o =
       append_assoc (plan_head u P) (plan_bytes u (R f)) (plan_bytes u (R g))
-      ∙ ap (λ (y : Second). plan_head u P ++ (plan_bytes u (R f) ++ rest_bytes u R y)) (sym e) ∙ sym o.bytes_are
+      ∙ ap (λ (y : Option ℕ). plan_head u P ++ (plan_bytes u (R f) ++ rest_bytes u R y)) (sym e) ∙ sym o.bytes_are
 
   module _ {xs o₁ ys : List ℕ} {a m : ℕ} where
-    pub one-wrote : x ≡ seconds.Nothing → Above u i f x R P → Wrote (plan_head u P) xs a o₁ → Wrote (plan_bytes u (R f)) (take (length o₁ - a) (drop a o₁)) m ys →
+    pub one-wrote : x ≡ None → Above u i f x R P → Wrote (plan_head u P) xs a o₁ → Wrote (plan_bytes u (R f)) (take (length o₁ - a) (drop a o₁)) m ys →
         Wrote (plan_bytes u P) xs (a + m) (take a o₁ ++ (ys ++ drop (length o₁ - a) (drop a o₁)))
     one-wrote e o y v = so (part y v) (one-bytes e o) refl
 
-    pub two-wrote : {g n : ℕ} {o₂ zs : List ℕ} → x ≡ seconds.At g → Above u i f x R P → Wrote (plan_head u P) xs a o₁ →
+    pub two-wrote : {g n : ℕ} {o₂ zs : List ℕ} → x ≡ Some g → Above u i f x R P → Wrote (plan_head u P) xs a o₁ →
         Wrote (plan_bytes u (R f)) (take (length o₁ - a) (drop a o₁)) m ys → o₂ ≡ take a o₁ ++ (ys ++ drop (length o₁ - a) (drop a o₁)) →
         Wrote (plan_bytes u (R g)) (take (length o₂ - (a + m)) (drop (a + m) o₂)) n zs →
         Wrote (plan_bytes u P) xs (a + m + n) (take (a + m) o₂ ++ (zs ++ drop (length o₂ - (a + m)) (drop (a + m) o₂)))
@@ -320,14 +302,14 @@ module _ {u : Version} {i f : ℕ} {x : Second} {R : ℕ → Plan} {P : Plan} wh
 
   module _ {h a s : Size} (o : Above u i f x R P) (y : Counts (length (plan_head u P)) (head_tags P) h) (v : Counts (length (plan_bytes u (R f))) (plan_tags (R f)) a)
       (z : Counts (h.bytes + a.bytes) (h.tags + a.tags) s) where
-    pub one-counts : x ≡ seconds.Nothing → Counts (length (plan_bytes u P)) (plan_tags P) s
+    pub one-counts : x ≡ None → Counts (length (plan_bytes u P)) (plan_tags P) s
     one-counts e =
         record {
-          bytes_are = omega (arith, y.bytes_are, v.bytes_are, z.bytes_are, above_length o, ap (λ (x' : Second). length (rest_bytes u R x')) e);
+          bytes_are = omega (arith, y.bytes_are, v.bytes_are, z.bytes_are, above_length o, ap (λ (x' : Option ℕ). length (rest_bytes u R x')) e);
           tags_are = omega (arith, y.tags_are, v.tags_are, z.tags_are, o.tags_are, ap (rest_tags R) e);
         }
 
-    pub two_sum : {g : ℕ} {b : Size} → x ≡ seconds.At g → Counts (length (plan_bytes u (R g))) (plan_tags (R g)) b →
+    pub two_sum : {g : ℕ} {b : Size} → x ≡ Some g → Counts (length (plan_bytes u (R g))) (plan_tags (R g)) b →
         Counts (s.bytes + b.bytes) (s.tags + b.tags) (size u P)
     two_sum e q =
         record {
@@ -335,7 +317,7 @@ module _ {u : Version} {i f : ℕ} {x : Second} {R : ℕ → Plan} {P : Plan} wh
           tags_are = omega (arith, y.tags_are, v.tags_are, z.tags_are, q.tags_are, o.tags_are, ap (rest_tags R) e);
         }
 
-    pub two-counts : {g : ℕ} {b t : Size} → x ≡ seconds.At g → Counts (length (plan_bytes u (R g))) (plan_tags (R g)) b →
+    pub two-counts : {g : ℕ} {b t : Size} → x ≡ Some g → Counts (length (plan_bytes u (R g))) (plan_tags (R g)) b →
         Counts (s.bytes + b.bytes) (s.tags + b.tags) t → Counts (length (plan_bytes u P)) (plan_tags P) t
     two-counts e q x' =
         record { bytes_are = x'.bytes_are ∙ sym (two_sum e q).bytes_are; tags_are = x'.tags_are ∙ sym (two_sum e q).tags_are }

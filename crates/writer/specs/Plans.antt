@@ -1,14 +1,16 @@
 -- A rewritten plan, record by record: the head of a record's node, the records of its inputs, and when code can write the plan.
-use Rattle.std.specs.Prelude.{true, false, List, ◌≡◌, ℕ, ◌<◌, ◌≤◌}
+use Rattle.std.specs.Prelude.{true, false, Option, Some, None, List, ◌≡◌, ℕ, ◌<◌, ◌≤◌}
 use Rattle.cpl.specs.Bytes.{binary_bytes, leaf_bytes, unary_bytes}
 use Rattle.cpl.specs.Exprs.{binary_tags, leaf_tags, plan_nodes, unary_tags}
 use Rattle.cpl.specs.Limits.{max_nodes}
 use Rattle.cpl.specs.Limits as limits
 use Rattle.cpl.specs.Plan.{Plan, binary, leaf, unary}
 use Rattle.tree.specs.Node.{NodeFits, node_at}
+use Rattle.tree.specs.Node as tree
 use Rattle.tree.specs.Tree.{lent}
+use Rattle.tree.specs.declared.Inputs.{Inputs}
+use Rattle.tree.specs.declared.Inputs.TheVariants as inputs
 use Rattle.tree.specs.declared.Node.{Node}
-use Rattle.tree.specs.declared.Node.TheVariants.{Projection, Filter, Sort, Limit, Aggregate, Window, SubqueryAlias, Union, Distinct, Join, Scan, Empty}
 use Rattle.lookup.specs.Fields.{first_at, width_at}
 use Rattle.lookup.specs.Standing.{Standing}
 use Rattle.versions.specs.Versions.{version_of}
@@ -19,9 +21,6 @@ use Rattle.result.specs.declared.Record.{Record}
 use Rattle.result.specs.declared.Record.TheVariants.{Kept, Columns, Items}
 use Rattle.result.specs.declared.Record.TheVariants as records
 use Rattle.writer_parts.specs.declared.Part.TheVariants.{Field, Item}
-use Rattle.writer.specs.declared.Inputs.{Inputs}
-use Rattle.writer.specs.declared.Inputs.TheVariants.{Leaf, Over}
-use Rattle.writer.specs.declared.Second.TheVariants as seconds
 use Rattle.shapes.specs.declared.Segment.TheVariants.{Nothing}
 use Rattle.shapes.specs.declared.Segment.TheVariants as segments
 use Rattle.shapes.specs.declared.Shape.{Shape}
@@ -69,32 +68,20 @@ cells_of cells icells (Columns old f) = cells
 cells_of cells icells (Items row n f) = icells
 cells_of cells icells records.Nothing = cells
 
--- the records of its inputs
-abbrev pub one_input : ℕ → Inputs
-one_input f = Over f seconds.Nothing
+-- the records of its inputs, if it has any: the first, and the second if it has one
+abbrev pub by_inputs : Inputs → (first second : ℕ) → Option (ℕ × Option ℕ)
+by_inputs inputs.Nothing f g = None
+by_inputs inputs.One f g = Some (f, None)
+by_inputs (inputs.Two r) f g = Some (f, Some g)
 
-abbrev pub two_inputs : (first second : ℕ) → Inputs
-two_inputs f g = Over f (seconds.At g)
+abbrev pub node_inputs : Node → (first second : ℕ) → Option (ℕ × Option ℕ)
+node_inputs n f g = by_inputs (tree.inputs_of n) f g
 
-abbrev pub node_inputs : Node → (first second : ℕ) → Inputs
-node_inputs (Projection r n) f g = one_input f
-node_inputs (Filter r) f g = one_input f
-node_inputs (Sort r n) f g = one_input f
-node_inputs (Limit s n) f g = one_input f
-node_inputs (Aggregate r m n) f g = one_input f
-node_inputs (Window r n) f g = one_input f
-node_inputs (SubqueryAlias q) f g = one_input f
-node_inputs (Union r) f g = two_inputs f g
-node_inputs Distinct f g = one_input f
-node_inputs (Join j) f g = two_inputs f g
-node_inputs (Scan s) f g = Leaf
-node_inputs (Empty b r n) f g = Leaf
-
-abbrev pub inputs_of : (nodes : List ℕ) → Record → Inputs
+abbrev pub inputs_of : (nodes : List ℕ) → Record → Option (ℕ × Option ℕ)
 inputs_of nodes (Kept old f g) = node_inputs (node_at nodes old) f g
-inputs_of nodes (Columns old f) = one_input f
-inputs_of nodes (Items row n f) = one_input f
-inputs_of nodes records.Nothing = Leaf
+inputs_of nodes (Columns old f) = Some (f, None)
+inputs_of nodes (Items row n f) = Some (f, None)
+inputs_of nodes records.Nothing = None
 
 -- ── plans that code can write ───────────────────────────────────────────────────────────────
 
@@ -114,13 +101,6 @@ abbrev pub plan_of : {version : Version} {cells rows nodes fields widths records
     Writes version cells rows nodes fields widths records items icells i → Plan
 plan_of {version} {cells} {rows} {nodes} {fields} {widths} {records} {items} {icells} {i} w =
     result_at w.standing.C (lent cells rows nodes) (results records items icells) i
-
--- the same of a version of which two numbers are known: a count has `wide` bytes, that of a scan's filters `late`
-pub record WritesBy (wide late : ℕ) (cells rows nodes fields widths records items icells : List ℕ) (i : ℕ) : Type 0 where
-  pub version : Version
-  pub wide_is : version.wide ≡ wide
-  pub late_is : version.late ≡ late
-  pub writes : Writes version cells rows nodes fields widths records items icells i
 
 -- a shape that is the head of such a record, whatever version, nodes and widths it was made from
 pub record Shaped (shape : Shape) (cells rows fields records items icells : List ℕ) (i : ℕ) : Type 0 where

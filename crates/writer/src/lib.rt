@@ -8,32 +8,17 @@ ghost use Rattle.result.specs.Records.{record_at};
 ghost use Rattle.result.specs.Result.{record_n};
 ghost use Rattle.versions.specs.Versions.{version_of};
 ghost use Rattle.writer_parts.specs.Wrote.{Counts, Wrote};
-ghost use Rattle.writer.specs.Plans.{head_tags, inputs_of, node_inputs, one_input, plan_head, plan_of, record_shape, Shaped, Taken, two_inputs, Writes, WritesBy};
+ghost use Rattle.writer.specs.Plans.{cells_of, head_tags, inputs_of, node_inputs, plan_head, plan_of, record_shape, rows_of, Shaped, Taken, Writes};
 
 use result::Record;
-use shapes::{Segment, Shape};
-use tree::Node;
+use shapes::Shape;
+use tree::{Inputs, Node};
 use versions::Version;
 use writer_parts::{Part, Size};
 
-// The record of a node's second input, if it has one.
-#[derive(Clone, Copy)]
-enum Second {
-    Nothing,
-    At(usize),
-}
-
-// The records of a node's inputs, if it has any.
-#[derive(Clone, Copy)]
-enum Inputs {
-    Leaf,
-    Over { first: usize, second: Second },
-}
-
 // The head of record `i`: of the node that it keeps, the columns of an old node's fields, items, the one-row Empty with no fields.
 fn shape_at(
-    wide: usize,
-    late: usize,
+    version: &Version,
     nodes: &[u64; 1792],
     widths: &[u64; 512],
     records: &[u64; 3328],
@@ -41,109 +26,82 @@ fn shape_at(
 ) -> Shape
     requires record_n_in_bounds { i * record_n + record_n ≤ length records.now }
     requires taken { Taken nodes.now (record_at records.now i) }
-    ensures { result ≡ record_shape wide late nodes.now widths.now (record_at records.now i) }
+    ensures { result ≡ record_shape version.now.wide version.now.late nodes.now widths.now (record_at records.now i) }
 {
-    let form = result::record_at(records, i);
-    match form {
-        Record::Kept {
-            old,
-            first: _,
-            second: _,
-        } => shapes::shape_of(
+    match result::record_at(records, i) {
+        Record::Kept { old, .. } => shapes::shape_of(
             tree::node_at(nodes, old),
             lookup::width_at(widths, old),
-            wide,
-            late,
+            version.wide,
+            version.late,
         ),
-        Record::Columns { old, first: _ } => shapes::plain(
+        Record::Columns { old, .. } => shapes::plain(
             1,
             1,
-            Segment::List {
-                count: wide,
-                part: Part::Field,
-                first: lookup::first_at(widths, old),
-                n: lookup::width_at(widths, old),
-                all: false,
-            },
+            shapes::at_set(
+                version.wide,
+                Part::Field,
+                lookup::first_at(widths, old),
+                lookup::width_at(widths, old),
+            ),
         ),
-        Record::Items {
-            row,
-            count,
-            first: _,
-        } => shapes::plain(1, 1, shapes::all_of(wide, Part::Item, row, count)),
-        Record::Nothing => shapes::empty_shape(true, 0, 0, wide),
+        Record::Items { row, count, .. } => {
+            shapes::plain(1, 1, shapes::all_of(version.wide, Part::Item, row, count))
+        }
+        Record::Nothing => shapes::empty_shape(true, 0, 0, version.wide),
     }
 }
 
-fn one_input(first: usize) -> Inputs
-    ensures { result ≡ one_input first }
-{
-    Inputs::Over {
-        first,
-        second: Second::Nothing,
-    }
-}
-
-fn two_inputs(first: usize, second: usize) -> Inputs
-    ensures { result ≡ two_inputs first second }
-{
-    Inputs::Over {
-        first,
-        second: Second::At(second),
-    }
-}
-
-// The inputs of a node that is kept, by the numbers of its record.
-fn node_inputs(node: Node, first: usize, second: usize) -> Inputs
+// The records of a node's inputs, if it has any: the first, and the second if it has one. The node is kept, and its record has two numbers.
+fn node_inputs(node: Node, first: usize, second: usize) -> Option<(usize, Option<usize>)>
     ensures { result ≡ node_inputs node first second }
 {
-    match node {
-        Node::Projection { first: _, n: _ } => one_input(first),
-        Node::Filter { root: _ } => one_input(first),
-        Node::Sort { first: _, n: _ } => one_input(first),
-        Node::Limit { skip: _, fetch: _ } => one_input(first),
-        Node::Aggregate {
-            first: _,
-            groups: _,
-            aggregates: _,
-        } => one_input(first),
-        Node::Window { first: _, n: _ } => one_input(first),
-        Node::SubqueryAlias { qualifier: _ } => one_input(first),
-        Node::Union { right: _ } => two_inputs(first, second),
-        Node::Distinct => one_input(first),
-        Node::Join(_) => two_inputs(first, second),
-        Node::Scan(_) => Inputs::Leaf,
-        Node::Empty {
-            one_row: _,
-            first: _,
-            n: _,
-        } => Inputs::Leaf,
+    match tree::inputs_of(node) {
+        Inputs::Nothing => None,
+        Inputs::One => Some((first, None)),
+        Inputs::Two(_) => Some((first, Some(second))),
     }
 }
 
 // The inputs of record `i`.
-fn kids(nodes: &[u64; 1792], records: &[u64; 3328], i: usize) -> Inputs
+fn kids(nodes: &[u64; 1792], records: &[u64; 3328], i: usize) -> Option<(usize, Option<usize>)>
     requires record_n_in_bounds { i * record_n + record_n ≤ length records.now }
     requires taken { Taken nodes.now (record_at records.now i) }
     ensures { result ≡ inputs_of nodes.now (record_at records.now i) }
 {
-    let form = result::record_at(records, i);
-    match form {
-        Record::Kept { old, first, second } => {
-            let node = tree::node_at(nodes, old);
-            node_inputs(node, first, second)
-        }
-        Record::Columns { old: _, first } => one_input(first),
-        Record::Items {
-            row: _,
-            count: _,
+    match result::record_at(records, i) {
+        Record::Kept { old, first, second } => node_inputs(
+            tree::node_at(nodes, old),
             first,
-        } => one_input(first),
-        Record::Nothing => Inputs::Leaf,
+            second,
+        ),
+        Record::Columns { first, .. } => Some((first, None)),
+        Record::Items { first, .. } => Some((first, None)),
+        Record::Nothing => None,
     }
 }
 
-// The head of record `i`, which is `shape`. Its parts stand in the old plan's rows, in the fields, or in the result's own rows.
+// The rows and the cells that the parts of a record's head stand in: the old plan's rows, its fields, or the result's own.
+fn parts_of<'a>(
+    form: Record,
+    cells: &'a [u64; 12288],
+    rows: &'a [u16],
+    fields: &'a [u16],
+    items: &'a [u16; 16896],
+    icells: &'a [u64; 12288],
+) -> (&'a [u16], &'a [u64; 12288])
+    ensures rows_are { result.0.now ≡ rows_of rows.now fields.now items.now form }
+    ensures cells_are { result.1.now ≡ cells_of cells.now icells.now form }
+{
+    match form {
+        Record::Kept { .. } => (rows, cells),
+        Record::Columns { .. } => (fields, cells),
+        Record::Items { .. } => (items, icells),
+        Record::Nothing => (rows, cells),
+    }
+}
+
+// The head of record `i`, which is `shape`, at the start of out; its length.
 fn write_head(
     shape: Shape,
     cells: &[u64; 12288],
@@ -163,27 +121,8 @@ fn write_head(
 {
     let set = result::set_at(records, i);
     let form = result::record_at(records, i);
-    match form {
-        Record::Kept {
-            old: _,
-            first: _,
-            second: _,
-        } => shapes::write_shape(shape, rows, cells, &set.indices, set.used, out),
-        Record::Columns { old: _, first: _ } => shapes::write_shape(
-            shape,
-            fields,
-            cells,
-            &set.indices,
-            set.used,
-            out,
-        ),
-        Record::Items {
-            row: _,
-            count: _,
-            first: _,
-        } => shapes::write_shape(shape, items, icells, &set.indices, set.used, out),
-        Record::Nothing => shapes::write_shape(shape, rows, cells, &set.indices, set.used, out),
-    }
+    let (rows, cells) = parts_of(form, cells, rows, fields, items, icells);
+    shapes::write_shape(shape, rows, cells, &set, out)
 }
 
 fn head_size(
@@ -203,32 +142,13 @@ fn head_size(
 {
     let set = result::set_at(records, i);
     let form = result::record_at(records, i);
-    match form {
-        Record::Kept {
-            old: _,
-            first: _,
-            second: _,
-        } => shapes::shape_size(shape, rows, cells, &set.indices, set.used),
-        Record::Columns { old: _, first: _ } => shapes::shape_size(
-            shape,
-            fields,
-            cells,
-            &set.indices,
-            set.used,
-        ),
-        Record::Items {
-            row: _,
-            count: _,
-            first: _,
-        } => shapes::shape_size(shape, items, icells, &set.indices, set.used),
-        Record::Nothing => shapes::shape_size(shape, rows, cells, &set.indices, set.used),
-    }
+    let (rows, cells) = parts_of(form, cells, rows, fields, items, icells);
+    shapes::shape_size(shape, rows, cells, &set)
 }
 
-// What the plan of record `i` takes: its head, and the plans of its inputs. A count has `wide` bytes, that of a scan's filters `late`.
+// What the plan of record `i` takes: its head, and the plans of its inputs.
 fn node_size(
-    wide: usize,
-    late: usize,
+    version: &Version,
     cells: &[u64; 12288],
     rows: &[u16],
     nodes: &[u64; 1792],
@@ -239,34 +159,32 @@ fn node_size(
     icells: &[u64; 12288],
     i: usize,
 ) -> Size
-    requires { WritesBy wide late cells.now rows.now nodes.now fields.now widths.now records.now items.now icells.now i }
-    ensures { (w : WritesBy wide late cells.now rows.now nodes.now fields.now widths.now
+    requires { Writes version.now cells.now rows.now nodes.now fields.now widths.now records.now items.now icells.now i }
+    ensures { (w : Writes version.now cells.now rows.now nodes.now fields.now widths.now
         records.now items.now icells.now i)
-        → Counts (length (plan_bytes (version_of w.version) (plan_of w.writes))) (plan_tags (plan_of w.writes)) result }
+        → Counts (length (plan_bytes (version_of version.now) (plan_of w))) (plan_tags (plan_of w)) result }
 {
-    let shape = shape_at(wide, late, nodes, widths, records, i);
+    let shape = shape_at(version, nodes, widths, records, i);
     let head = head_size(shape, cells, rows, fields, records, items, icells, i);
-    let inputs = kids(nodes, records, i);
-    let Inputs::Over { first, second } = inputs else {
+    let Some((first, second)) = kids(nodes, records, i) else {
         return head;
     };
     let a = node_size(
-        wide, late, cells, rows, nodes, fields, widths, records, items, icells, first,
+        version, cells, rows, nodes, fields, widths, records, items, icells, first,
     );
-    let sum = writer_parts::both(head, a);
-    let Second::At(other) = second else {
+    let sum = head + a;
+    let Some(other) = second else {
         return sum;
     };
     let b = node_size(
-        wide, late, cells, rows, nodes, fields, widths, records, items, icells, other,
+        version, cells, rows, nodes, fields, widths, records, items, icells, other,
     );
-    writer_parts::both(sum, b)
+    sum + b
 }
 
 // The bytes of the plan of record `i` at the start of out; their number. The head is written, and each input is lent the rest.
 fn write_node(
-    wide: usize,
-    late: usize,
+    version: &Version,
     cells: &[u64; 12288],
     rows: &[u16],
     nodes: &[u64; 1792],
@@ -278,21 +196,19 @@ fn write_node(
     i: usize,
     out: &mut [u8],
 ) -> usize
-    requires { (w : WritesBy wide late cells.now rows.now nodes.now fields.now widths.now records.now items.now icells.now i)
-        × (length (plan_bytes (version_of w.version) (plan_of w.writes)) ≤ length out.old) }
-    ensures { (w : WritesBy wide late cells.now rows.now nodes.now fields.now widths.now
+    requires { (w : Writes version.now cells.now rows.now nodes.now fields.now widths.now records.now items.now icells.now i)
+        × (length (plan_bytes (version_of version.now) (plan_of w)) ≤ length out.old) }
+    ensures { (w : Writes version.now cells.now rows.now nodes.now fields.now widths.now
         records.now items.now icells.now i)
-        → Wrote (plan_bytes (version_of w.version) (plan_of w.writes)) out.old result out.new }
+        → Wrote (plan_bytes (version_of version.now) (plan_of w)) out.old result out.new }
 {
-    let shape = shape_at(wide, late, nodes, widths, records, i);
+    let shape = shape_at(version, nodes, widths, records, i);
     let a = write_head(shape, cells, rows, fields, records, items, icells, i, out);
-    let inputs = kids(nodes, records, i);
-    let Inputs::Over { first, second } = inputs else {
+    let Some((first, second)) = kids(nodes, records, i) else {
         return a;
     };
     let m = write_node(
-        wide,
-        late,
+        version,
         cells,
         rows,
         nodes,
@@ -305,12 +221,11 @@ fn write_node(
         &mut out[a..],
     );
     let b = a + m;
-    let Second::At(other) = second else {
+    let Some(other) = second else {
         return b;
     };
     let n = write_node(
-        wide,
-        late,
+        version,
         cells,
         rows,
         nodes,
@@ -344,17 +259,7 @@ pub fn plan_size(
         → Counts (length (plan_bytes (version_of version) (plan_of w))) (plan_tags (plan_of w)) result }
 {
     node_size(
-        version.wide,
-        version.late,
-        cells,
-        rows,
-        nodes,
-        fields,
-        widths,
-        records,
-        items,
-        icells,
-        i,
+        &version, cells, rows, nodes, fields, widths, records, items, icells, i,
     )
 }
 
@@ -383,8 +288,7 @@ pub fn write_plan(
 {
     out[..start].copy_from_slice(&file[..start]);
     let plan = write_node(
-        version.wide,
-        version.late,
+        &version,
         cells,
         rows,
         nodes,

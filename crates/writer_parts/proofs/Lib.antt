@@ -1,6 +1,5 @@
 -- The laws of writing and counting, bottom up.
 pub mod Over
-pub mod Lent
 pub mod Exprs
 pub mod Rows
 pub mod Lists

@@ -54,13 +54,18 @@ module _ (f : ℕ → List ℕ) (t : ℕ → Bool) where
       omega (arith, ap (λ (x : ℕ). length (chosen f t 0 x)) e, ap length (chosen-split 0 i (n - i)), length-append (chosen f t 0 i) (chosen f t (0 + i) (n - i)))
 
   -- there is room for the next
-  pub turn_fits : (i n : ℕ) → i < n → length (chosen f t 0 i) + length (cond (t i) (f i) []) ≤ length (chosen f t 0 n)
-  turn_fits i n h = omega (arith, next-length i, upto-length (i + 1) n (omega arith))
+  pub turn_fits : (i n : ℕ) → t i ≡ true → i < n → length (chosen f t 0 i) + length (f i) ≤ length (chosen f t 0 n)
+  turn_fits i n e h =
+      let d : length (cond (t i) (f i) []) ≡ length (f i) = rw e in
+      omega (arith, d, next-length i, upto-length (i + 1) n (omega arith))
 
-  -- a turn of the loop that writes
-  pub turn : {xs ys out : List ℕ} {at m : ℕ} (i : ℕ) → Wrote (chosen f t 0 i) xs at out → Wrote (cond (t i) (f i) []) (take (length out - at) (drop at out)) m ys →
+  -- a turn of the loop that writes, where the thing is taken and where it is left
+  pub turn : {xs ys out : List ℕ} {at m : ℕ} (i : ℕ) → t i ≡ true → Wrote (chosen f t 0 i) xs at out → Wrote (f i) (take (length out - at) (drop at out)) m ys →
       Wrote (chosen f t 0 (i + 1)) xs (at + m) (take at out ++ (ys ++ drop (length out - at) (drop at out)))
-  turn i w u = so (part w u) (sym (chosen-next i)) refl
+  turn i e w u = so (part w u) (ap (λ (b : Bool). chosen f t 0 i ++ cond b (f i) []) (sym e) ∙ sym (chosen-next i)) refl
+
+  pub turn_left : {xs out : List ℕ} {at : ℕ} (i : ℕ) → t i ≡ false → Wrote (chosen f t 0 i) xs at out → Wrote (chosen f t 0 (i + 1)) xs at out
+  turn_left i e w = so w (sym (append-nil (chosen f t 0 i)) ∙ ap (λ (b : Bool). chosen f t 0 i ++ cond b (f i) []) (sym e) ∙ sym (chosen-next i)) refl
 
   pub turn_none : {xs : List ℕ} → Wrote (chosen f t 0 0) xs 0 xs
   unfolding chosen
@@ -85,31 +90,40 @@ module _ (g : ℕ → ℕ) (t : ℕ → Bool) where
   pub sum_upto : (i n : ℕ) → i ≤ n → chosen_sum g t 0 i ≤ chosen_sum g t 0 n
   sum_upto i n h = let e : i + (n - i) ≡ n = omega arith in omega (arith, ap (chosen_sum g t 0) e, sum_split 0 i (n - i))
 
-  pub sum_fits : (i n : ℕ) → i < n → chosen_sum g t 0 i + cond (t i) (g i) 0 ≤ chosen_sum g t 0 n
-  sum_fits i n h = omega (arith, sum_next i, sum_upto (i + 1) n (omega arith))
+  pub sum_fits : (i n : ℕ) → t i ≡ true → i < n → chosen_sum g t 0 i + g i ≤ chosen_sum g t 0 n
+  sum_fits i n e h =
+      let d : cond (t i) (g i) 0 ≡ g i = rw e in
+      omega (arith, d, sum_next i, sum_upto (i + 1) n (omega arith))
 
--- the length of what is chosen, or of nothing
-pub cond-length : (b : Bool) (xs : List ℕ) → length (cond b xs []) ≡ cond b (length xs) 0
-cond-length true xs = refl
-cond-length false xs = refl
+module _ (f : ℕ → List ℕ) (g : ℕ → ℕ) (t : ℕ → Bool) where
+  -- a turn of the loop that counts, where the thing is taken and where it is left
+  pub turn_counts : (i : ℕ) {s m r : Size} → t i ≡ true → Counts (length (chosen f t 0 i)) (chosen_sum g t 0 i) s → Counts (length (f i)) (g i) m →
+      Counts (s.bytes + m.bytes) (s.tags + m.tags) r → Counts (length (chosen f t 0 (i + 1))) (chosen_sum g t 0 (i + 1)) r
+  turn_counts i e p q o =
+      let d : length (cond (t i) (f i) []) ≡ length (f i) = rw e in
+      let k : cond (t i) (g i) 0 ≡ g i = rw e in
+      record {
+        bytes_are = omega (arith, d, p.bytes_are, q.bytes_are, o.bytes_are, next-length f t i);
+        tags_are = omega (arith, k, p.tags_are, q.tags_are, o.tags_are, sum_next g t i);
+      }
 
--- a turn of the loop that counts
-pub turn_counts : (f : ℕ → List ℕ) (g : ℕ → ℕ) (t : ℕ → Bool) (i : ℕ) {s m r : Size} → Counts (length (chosen f t 0 i)) (chosen_sum g t 0 i) s →
-    Counts (cond (t i) (length (f i)) 0) (cond (t i) (g i) 0) m → Counts (s.bytes + m.bytes) (s.tags + m.tags) r → Counts (length (chosen f t 0 (i + 1))) (chosen_sum g t 0 (i + 1)) r
-turn_counts f g t i p q o =
-    record {
-      bytes_are = omega (arith, p.bytes_are, q.bytes_are, o.bytes_are, next-length f t i, cond-length (t i) (f i));
-      tags_are = omega (arith, p.tags_are, q.tags_are, o.tags_are, sum_next g t i);
-    }
+  pub left_counts : (i : ℕ) {s : Size} → t i ≡ false → Counts (length (chosen f t 0 i)) (chosen_sum g t 0 i) s → Counts (length (chosen f t 0 (i + 1))) (chosen_sum g t 0 (i + 1)) s
+  left_counts i e p =
+      let d : length (cond (t i) (f i) []) ≡ 0 = rw e in
+      let k : cond (t i) (g i) 0 ≡ 0 = rw e in
+      record {
+        bytes_are = omega (arith, d, p.bytes_are, next-length f t i);
+        tags_are = omega (arith, k, p.tags_are, sum_next g t i);
+      }
 
-pub none-counts : (f : ℕ → List ℕ) (g : ℕ → ℕ) (t : ℕ → Bool) {s : Size} → s.bytes ≡ 0 → s.tags ≡ 0 → Counts (length (chosen f t 0 0)) (chosen_sum g t 0 0) s
-unfolding chosen chosen_sum
-none-counts f g t e d = record { bytes_are = e; tags_are = d }
+  pub none-counts : {s : Size} → s.bytes ≡ 0 → s.tags ≡ 0 → Counts (length (chosen f t 0 0)) (chosen_sum g t 0 0) s
+  unfolding chosen chosen_sum
+  none-counts e d = record { bytes_are = e; tags_are = d }
 
-pub all-counts : (f : ℕ → List ℕ) (g : ℕ → ℕ) (t : ℕ → Bool) (i n : ℕ) {s : Size} → i ≤ n → n ≤ i → Counts (length (chosen f t 0 i)) (chosen_sum g t 0 i) s → Counts (length (chosen f t 0 n)) (chosen_sum g t 0 n) s
-all-counts f g t i n h l p =
-    let e : i ≡ n = omega arith in
-    record { bytes_are = p.bytes_are ∙ ap (λ (x : ℕ). length (chosen f t 0 x)) e; tags_are = p.tags_are ∙ ap (chosen_sum g t 0) e }
+  pub all-counts : (i n : ℕ) {s : Size} → i ≤ n → n ≤ i → Counts (length (chosen f t 0 i)) (chosen_sum g t 0 i) s → Counts (length (chosen f t 0 n)) (chosen_sum g t 0 n) s
+  all-counts i n h l p =
+      let e : i ≡ n = omega arith in
+      record { bytes_are = p.bytes_are ∙ ap (λ (x : ℕ). length (chosen f t 0 x)) e; tags_are = p.tags_are ∙ ap (chosen_sum g t 0) e }
 
 -- ── lists of the definition ─────────────────────────────────────────────────────────────────
 

@@ -1,9 +1,11 @@
 -- Lists of which some things are taken: their bytes one after the other, and what is summed over them.
-use Rattle.std.specs.Prelude.{Bool, cond, ◌||◌, List, [], ◌++◌, ℕ, zero, suc, ◌+◌, ◌^◌, ◌<◌}
+use Rattle.std.specs.Prelude.{Bool, true, false, cond, Option, Some, None, ◌||◌, List, [], ◌++◌, ℕ, zero, suc, ◌+◌, ◌^◌, ◌<◌}
 use Rattle.std.specs.Int.Count.{ones}
 use Rattle.cpl.specs.Bytes.{bytes, win_bytes}
 use Rattle.cpl.specs.Exprs.{win_tags}
+use Rattle.required_indices.specs.Request.{set_of}
 use Rattle.required_indices.specs.Set.{has}
+use Rattle.required_indices.specs.declared.RequiredIndices.{RequiredIndices}
 use Rattle.tree.specs.Rows.{WinOk, win_at, win_size}
 use Rattle.writer_parts.specs.Parts.{PartOk, part_bytes, part_tags}
 use Rattle.writer_parts.specs.declared.Part.{Part}
@@ -24,6 +26,11 @@ pub record Which : Type 0 where
 
 abbrev pub which : (all : Bool) (set : ℕ) → Which
 which b s = record { all = b; set = s }
+
+-- all where no set is given, and otherwise those of the set
+abbrev pub which_of : Option RequiredIndices → Which
+which_of None = which true 0
+which_of (Some r) = which false (set_of r)
 
 -- is thing i taken?
 abbrev pub takes : Which → ℕ → Bool

@@ -2,21 +2,21 @@
 //! counted first, its bytes and its expression tags.
 #![tactic(auto)]
 
-ghost use Rattle.std.specs.Prelude.{cond, [], ◌∷◌, ◌≡◌, ◌+◌, ◌^◌, ◌<◌, ◌≤◌, length};
+ghost use Rattle.std.specs.Prelude.{option_copied, ◌∷◌, ◌≡◌, ◌+◌, ◌^◌, ◌<◌, ◌≤◌, length};
 ghost use Rattle.cpl.specs.Bytes.{agg_bytes, bytes, call_bytes, expr_bytes, item_bytes, key_bytes, on_bytes, pair_bytes, win_bytes};
 ghost use Rattle.cpl.specs.Exprs.{agg_tags, call_exprs, expr_tags, item_tags, key_tags, on_tags, win_tags};
 ghost use Rattle.cpl.specs.Plan.{pair};
 ghost use Rattle.cpl.specs.Tests.{sum_of};
 ghost use Rattle.arena.specs.Cells.{expr_at, Wf};
 ghost use Rattle.arena.specs.Rows.{item_at, RowOk};
-ghost use Rattle.required_indices.specs.Request.{Lent, set_in};
 ghost use Rattle.tree.specs.Rows.{agg_at, AggOk, call_of, key_at, KeyOk, on_at, OnOk, win_at, WinOk};
 ghost use Rattle.writer_parts.specs.Wrote.{Countable, Counts, Laid, Wrote};
 ghost use Rattle.writer_parts.specs.Parts.{part_bytes, PartOk, part_tags};
-ghost use Rattle.writer_parts.specs.Lists.{counted_list, list_bytes, list_tags, PartsOk, taken_count, takes, which, wins_bytes, WinsOk, wins_tags};
+ghost use Rattle.writer_parts.specs.Lists.{counted_list, list_bytes, list_tags, PartsOk, taken_count, takes, which_of, wins_bytes, WinsOk, wins_tags};
 
 use arena::View;
-use required_indices::{RequiredIndices, WORDS};
+use required_indices::RequiredIndices;
+use std::ops::Add;
 
 /// How many bytes, and how many expression tags.
 #[derive(Clone, Copy)]
@@ -39,21 +39,20 @@ pub enum Part {
     Field,
 }
 
-// Two sizes together.
-pub fn both(a: Size, b: Size) -> Size
-    requires { (a.bytes + b.bytes < 2 ^ 64) × (a.tags + b.tags < 2 ^ 64) }
-    ensures { Counts (a.bytes + b.bytes) (a.tags + b.tags) result }
-{
-    Size {
-        bytes: a.bytes + b.bytes,
-        tags: a.tags + b.tags,
-    }
-}
+/// Two sizes together.
+impl Add for Size {
+    type Output = Size;
 
-fn wide(x: u16) -> u64
-    ensures { result ≡ x }
-{
-    x as u64
+    ghost can_add = { λ a b. (a.bytes + b.bytes < 2 ^ 64) × (a.tags + b.tags < 2 ^ 64) };
+
+    ghost add_gives = { λ a b r. Counts (a.bytes + b.bytes) (a.tags + b.tags) r };
+
+    fn add(self, other: Size) -> Size {
+        Size {
+            bytes: self.bytes + other.bytes,
+            tags: self.tags + other.tags,
+        }
+    }
 }
 
 // The two lowest bytes of x, the lowest first, at the start of out.
@@ -144,7 +143,7 @@ pub fn put_pair(out: &mut [u8], at: usize, q: u16, n: u16) -> usize
     requires { at + 4 ≤ length out.old }
     ensures { Laid at (pair_bytes (pair q n)) 4 out.old result out.new }
 {
-    put_at(out, at, 4, wide(q) + wide(n) * 65536)
+    put_at(out, at, 4, u64::from(q) + u64::from(n) * 65536)
 }
 
 /// The bytes of the expression of node i at the start of out, in prefix order; their number.
@@ -190,11 +189,11 @@ pub fn expr_size(cells: &[u64], i: usize) -> Size
         View::Col(_, _) => Size { bytes: 5, tags: 1 },
         View::Lit(_) => Size { bytes: 9, tags: 1 },
         View::Miss => Size { bytes: 1, tags: 1 },
-        View::One(_, x) => both(Size { bytes: 1, tags: 1 }, expr_size(cells, x)),
+        View::One(_, x) => Size { bytes: 1, tags: 1 } + expr_size(cells, x),
         View::Two(_, x, y) => {
             let a = expr_size(cells, x);
-            let b = both(a, expr_size(cells, y));
-            both(Size { bytes: 1, tags: 1 }, b)
+            let b = expr_size(cells, y);
+            Size { bytes: 1, tags: 1 } + (a + b)
         }
     }
 }
@@ -225,7 +224,7 @@ pub fn item_size(rows: &[u16], cells: &[u64], i: usize) -> Size
     if row.mark == 0 {
         return Size { bytes: 5, tags: 1 };
     }
-    both(Size { bytes: 5, tags: 1 }, expr_size(cells, row.root))
+    Size { bytes: 5, tags: 1 } + expr_size(cells, row.root)
 }
 
 /// A key: its flags, its expression.
@@ -235,7 +234,7 @@ pub fn write_key(rows: &[u16], cells: &[u64], i: usize, out: &mut [u8]) -> usize
     ensures { Wrote (key_bytes (key_at rows.now cells.now i)) out.old result out.new }
 {
     let row = tree::key_at(rows, i);
-    let a = put_at(out, 0, 1, wide(row.flags));
+    let a = put_at(out, 0, 1, u64::from(row.flags));
     let m = write_expr(cells, row.root, &mut out[a..]);
     a + m
 }
@@ -246,7 +245,7 @@ pub fn key_size(rows: &[u16], cells: &[u64], i: usize) -> Size
     ensures { Counts (length (key_bytes (key_at rows.now cells.now i))) (key_tags (key_at rows.now cells.now i)) result }
 {
     let row = tree::key_at(rows, i);
-    both(Size { bytes: 1, tags: 0 }, expr_size(cells, row.root))
+    Size { bytes: 1, tags: 0 } + expr_size(cells, row.root)
 }
 
 /// What stands at the end of a function's entry: its expression, where its number is not 0.
@@ -280,7 +279,7 @@ pub fn write_agg(rows: &[u16], cells: &[u64], i: usize, out: &mut [u8]) -> usize
 {
     let row = tree::agg_at(rows, i);
     let a = put_pair(out, 0, row.qualifier, row.name);
-    let b = put_at(out, a, 1, wide(row.function));
+    let b = put_at(out, a, 1, u64::from(row.function));
     let m = write_call(cells, row.function, row.root, &mut out[b..]);
     b + m
 }
@@ -291,10 +290,7 @@ pub fn agg_size(rows: &[u16], cells: &[u64], i: usize) -> Size
     ensures { Counts (length (agg_bytes (agg_at rows.now cells.now i))) (agg_tags (agg_at rows.now cells.now i)) result }
 {
     let row = tree::agg_at(rows, i);
-    both(
-        Size { bytes: 5, tags: 0 },
-        call_size(cells, row.function, row.root),
-    )
+    Size { bytes: 5, tags: 0 } + call_size(cells, row.function, row.root)
 }
 
 /// The two expressions of a pair of a join.
@@ -315,8 +311,7 @@ pub fn on_size(rows: &[u16], cells: &[u64], i: usize) -> Size
     ensures { Counts (length (on_bytes (on_at rows.now cells.now i))) (on_tags (on_at rows.now cells.now i)) result }
 {
     let row = tree::on_at(rows, i);
-    let a = expr_size(cells, row.left);
-    both(a, expr_size(cells, row.right))
+    expr_size(cells, row.left) + expr_size(cells, row.right)
 }
 
 /// A row by what it holds.
@@ -369,65 +364,35 @@ pub fn part_size(part: Part, rows: &[u16], cells: &[u64], i: usize) -> Size
     }
 }
 
-/// Is thing i taken, where all are, or those of the set whose words are lent?
-pub fn is_taken(all: bool, indices: &[u64; WORDS], used: usize, i: usize) -> bool
-    requires { Lent indices.now }
-    ensures { result ≡ takes (which all (set_in indices.now used)) i }
+// Is thing i taken, where all are, or those of a set?
+pub fn is_taken(taken: Option<&RequiredIndices>, i: usize) -> bool
+    ensures { result ≡ takes (which_of (option_copied taken.entry)) i }
 {
-    if all {
-        true
-    } else {
-        RequiredIndices::contains(indices, used, i)
+    match taken {
+        None => true,
+        Some(set) => set.contains(i),
     }
 }
 
-// A row where it is taken, and nothing where it is not.
-fn write_if(yes: bool, part: Part, rows: &[u16], cells: &[u64], i: usize, out: &mut [u8]) -> usize
-    requires part_ok { PartOk part rows.now cells.now i }
-    requires i_in_bounds { length (cond yes (part_bytes part rows.now cells.now i) []) ≤ length out.old }
-    ensures { Wrote (cond yes (part_bytes part rows.now cells.now i) []) out.old result out.new }
-{
-    if yes {
-        return write_part(part, rows, cells, i, out);
-    }
-    0
-}
-
-fn size_if(yes: bool, part: Part, rows: &[u16], cells: &[u64], i: usize) -> Size
-    requires part_ok { PartOk part rows.now cells.now i }
-    requires countable { Countable (cond yes (length (part_bytes part rows.now cells.now i)) 0) (cond yes (part_tags part rows.now cells.now i) 0) }
-    ensures { Counts (cond yes (length (part_bytes part rows.now cells.now i)) 0) (cond yes (part_tags part rows.now cells.now i) 0) result }
-{
-    if yes {
-        return part_size(part, rows, cells, i);
-    }
-    Size { bytes: 0, tags: 0 }
-}
-
-/// Of n rows from `first` on those that are taken.
+/// Of n rows from `first` on those that are taken: all, or those of a set.
 pub fn write_list(
     part: Part,
     rows: &[u16],
     cells: &[u64],
     first: usize,
     n: usize,
-    all: bool,
-    indices: &[u64; WORDS],
-    used: usize,
+    taken: Option<&RequiredIndices>,
     out: &mut [u8],
 ) -> usize
-    requires lent { Lent indices.now }
     requires parts_ok { PartsOk part rows.now cells.now first n }
-    requires used_in_bounds { length (list_bytes part rows.now cells.now first n (which all (set_in indices.now used))) ≤ length out.old }
-    ensures { Wrote (list_bytes part rows.now cells.now first n (which all (set_in indices.now used))) out.old result out.new }
+    requires used_in_bounds { length (list_bytes part rows.now cells.now first n (which_of (option_copied taken))) ≤ length out.old }
+    ensures { Wrote (list_bytes part rows.now cells.now first n (which_of (option_copied taken.entry))) out.old result out.new }
 {
     let mut at = 0;
-    let mut i = 0;
-    while i < n {
-        let yes = is_taken(all, indices, used, i);
-        let m = write_if(yes, part, rows, cells, first + i, &mut out[at..]);
-        at += m;
-        i += 1;
+    for i in 0..n {
+        if is_taken(taken, i) {
+            at += write_part(part, rows, cells, first + i, &mut out[at..]);
+        }
     }
     at
 }
@@ -438,34 +403,28 @@ pub fn list_size(
     cells: &[u64],
     first: usize,
     n: usize,
-    all: bool,
-    indices: &[u64; WORDS],
-    used: usize,
+    taken: Option<&RequiredIndices>,
 ) -> Size
-    requires lent { Lent indices.now }
     requires parts_ok { PartsOk part rows.now cells.now first n }
-    requires countable { Countable (length (list_bytes part rows.now cells.now first n (which all (set_in indices.now used)))) (list_tags part rows.now cells.now first n (which all (set_in indices.now used))) }
-    ensures { Counts (length (list_bytes part rows.now cells.now first n (which all (set_in indices.now used)))) (list_tags part rows.now cells.now first n (which all (set_in indices.now used))) result }
+    requires countable { Countable (length (list_bytes part rows.now cells.now first n (which_of (option_copied taken)))) (list_tags part rows.now cells.now first n (which_of (option_copied taken))) }
+    ensures { Counts (length (list_bytes part rows.now cells.now first n (which_of (option_copied taken.entry)))) (list_tags part rows.now cells.now first n (which_of (option_copied taken.entry))) result }
 {
     let mut sum = Size { bytes: 0, tags: 0 };
-    let mut i = 0;
-    while i < n {
-        let yes = is_taken(all, indices, used, i);
-        sum = both(sum, size_if(yes, part, rows, cells, first + i));
-        i += 1;
+    for i in 0..n {
+        if is_taken(taken, i) {
+            sum = sum + part_size(part, rows, cells, first + i);
+        }
     }
     sum
 }
 
 // How many of n things are taken: of a set, as many as it has.
-fn taken_count(n: usize, all: bool, indices: &[u64; WORDS], used: usize) -> usize
-    requires { Lent indices.now }
-    ensures { result ≡ taken_count (which all (set_in indices.now used)) n }
+fn taken_count(n: usize, taken: Option<&RequiredIndices>) -> usize
+    ensures { result ≡ taken_count (which_of (option_copied taken.entry)) n }
 {
-    if all {
-        n
-    } else {
-        RequiredIndices::len(indices, used)
+    match taken {
+        None => n,
+        Some(set) => set.len(),
     }
 }
 
@@ -477,28 +436,15 @@ pub fn write_counted(
     cells: &[u64],
     first: usize,
     n: usize,
-    all: bool,
-    indices: &[u64; WORDS],
-    used: usize,
+    taken: Option<&RequiredIndices>,
     out: &mut [u8],
 ) -> usize
-    requires lent { Lent indices.now }
     requires parts_ok { PartsOk part rows.now cells.now first n }
-    requires used_in_bounds { length (counted_list k part rows.now cells.now first n (which all (set_in indices.now used))) ≤ length out.old }
-    ensures { Wrote (counted_list k part rows.now cells.now first n (which all (set_in indices.now used))) out.old result out.new }
+    requires used_in_bounds { length (counted_list k part rows.now cells.now first n (which_of (option_copied taken))) ≤ length out.old }
+    ensures { Wrote (counted_list k part rows.now cells.now first n (which_of (option_copied taken.entry))) out.old result out.new }
 {
-    let a = put_at(out, 0, k, taken_count(n, all, indices, used) as u64);
-    let m = write_list(
-        part,
-        rows,
-        cells,
-        first,
-        n,
-        all,
-        indices,
-        used,
-        &mut out[a..],
-    );
+    let a = put_at(out, 0, k, taken_count(n, taken) as u64);
+    let m = write_list(part, rows, cells, first, n, taken, &mut out[a..]);
     a + m
 }
 
@@ -509,19 +455,13 @@ pub fn counted_size(
     cells: &[u64],
     first: usize,
     n: usize,
-    all: bool,
-    indices: &[u64; WORDS],
-    used: usize,
+    taken: Option<&RequiredIndices>,
 ) -> Size
-    requires lent { Lent indices.now }
     requires parts_ok { PartsOk part rows.now cells.now first n }
-    requires countable { Countable (length (counted_list k part rows.now cells.now first n (which all (set_in indices.now used)))) (list_tags part rows.now cells.now first n (which all (set_in indices.now used))) }
-    ensures { Counts (length (counted_list k part rows.now cells.now first n (which all (set_in indices.now used)))) (list_tags part rows.now cells.now first n (which all (set_in indices.now used))) result }
+    requires countable { Countable (length (counted_list k part rows.now cells.now first n (which_of (option_copied taken)))) (list_tags part rows.now cells.now first n (which_of (option_copied taken))) }
+    ensures { Counts (length (counted_list k part rows.now cells.now first n (which_of (option_copied taken.entry)))) (list_tags part rows.now cells.now first n (which_of (option_copied taken.entry))) result }
 {
-    both(
-        Size { bytes: k, tags: 0 },
-        list_size(part, rows, cells, first, n, all, indices, used),
-    )
+    Size { bytes: k, tags: 0 } + list_size(part, rows, cells, first, n, taken)
 }
 
 /// The window from row i on: its pair, its function's number, its parts, its keys, its expression.
@@ -531,9 +471,8 @@ pub fn write_win(rows: &[u16], cells: &[u64], i: usize, out: &mut [u8]) -> usize
     ensures { Wrote (win_bytes (win_at rows.now cells.now i)) out.old result out.new }
 {
     let w = tree::win_at(rows, i);
-    let none = RequiredIndices::new();
     let a = put_pair(out, 0, w.qualifier, w.name);
-    let b = put_at(out, a, 1, wide(w.function));
+    let b = put_at(out, a, 1, u64::from(w.function));
     let p = write_counted(
         1,
         Part::Expr,
@@ -541,9 +480,7 @@ pub fn write_win(rows: &[u16], cells: &[u64], i: usize, out: &mut [u8]) -> usize
         cells,
         i + 1,
         w.parts,
-        true,
-        &none.indices,
-        none.used,
+        None,
         &mut out[b..],
     );
     let c = b + p;
@@ -554,9 +491,7 @@ pub fn write_win(rows: &[u16], cells: &[u64], i: usize, out: &mut [u8]) -> usize
         cells,
         w.key,
         w.keys,
-        true,
-        &none.indices,
-        none.used,
+        None,
         &mut out[c..],
     );
     let d = c + k;
@@ -570,81 +505,33 @@ pub fn win_size(rows: &[u16], cells: &[u64], i: usize) -> Size
     ensures { Counts (length (win_bytes (win_at rows.now cells.now i))) (win_tags (win_at rows.now cells.now i)) result }
 {
     let w = tree::win_at(rows, i);
-    let none = RequiredIndices::new();
-    let p = counted_size(
-        1,
-        Part::Expr,
-        rows,
-        cells,
-        i + 1,
-        w.parts,
-        true,
-        &none.indices,
-        none.used,
-    );
-    let k = counted_size(
-        1,
-        Part::Key,
-        rows,
-        cells,
-        w.key,
-        w.keys,
-        true,
-        &none.indices,
-        none.used,
-    );
+    let p = counted_size(1, Part::Expr, rows, cells, i + 1, w.parts, None);
+    let k = counted_size(1, Part::Key, rows, cells, w.key, w.keys, None);
     let m = call_size(cells, w.function, w.root);
-    both(both(Size { bytes: 5, tags: 0 }, p), both(k, m))
-}
-
-// A window where it is taken, and nothing where it is not.
-fn write_win_if(yes: bool, rows: &[u16], cells: &[u64], i: usize, out: &mut [u8]) -> usize
-    requires win_ok { WinOk rows.now cells.now i }
-    requires i_in_bounds { length (cond yes (win_bytes (win_at rows.now cells.now i)) []) ≤ length out.old }
-    ensures { Wrote (cond yes (win_bytes (win_at rows.now cells.now i)) []) out.old result out.new }
-{
-    if yes {
-        return write_win(rows, cells, i, out);
-    }
-    0
-}
-
-fn win_size_if(yes: bool, rows: &[u16], cells: &[u64], i: usize) -> Size
-    requires win_ok { WinOk rows.now cells.now i }
-    requires countable { Countable (cond yes (length (win_bytes (win_at rows.now cells.now i))) 0) (cond yes (win_tags (win_at rows.now cells.now i)) 0) }
-    ensures { Counts (cond yes (length (win_bytes (win_at rows.now cells.now i))) 0) (cond yes (win_tags (win_at rows.now cells.now i)) 0) result }
-{
-    if yes {
-        return win_size(rows, cells, i);
-    }
-    Size { bytes: 0, tags: 0 }
+    Size { bytes: 5, tags: 0 } + p + (k + m)
 }
 
 /// Of n windows from row `first` on those that are taken.
+// Beside `write_list`: the row of the next window is known once this one is read, and a step that hands it on is no plainer.
 pub fn write_wins(
     rows: &[u16],
     cells: &[u64],
     first: usize,
     n: usize,
-    all: bool,
-    indices: &[u64; WORDS],
-    used: usize,
+    taken: Option<&RequiredIndices>,
     out: &mut [u8],
 ) -> usize
-    requires lent { Lent indices.now }
     requires wins_ok { WinsOk rows.now cells.now first n }
-    requires used_in_bounds { length (wins_bytes rows.now cells.now first n (which all (set_in indices.now used))) ≤ length out.old }
-    ensures { Wrote (wins_bytes rows.now cells.now first n (which all (set_in indices.now used))) out.old result out.new }
+    requires used_in_bounds { length (wins_bytes rows.now cells.now first n (which_of (option_copied taken))) ≤ length out.old }
+    ensures { Wrote (wins_bytes rows.now cells.now first n (which_of (option_copied taken.entry))) out.old result out.new }
 {
     let mut at = 0;
     let mut row = first;
-    let mut i = 0;
-    while i < n {
-        let yes = is_taken(all, indices, used, i);
-        let m = write_win_if(yes, rows, cells, row, &mut out[at..]);
-        at += m;
+    for i in 0..n {
+        if is_taken(taken, i) {
+            at += write_win(rows, cells, row, &mut out[at..]);
+        }
         row = tree::win_at(rows, row).next;
-        i += 1;
     }
     at
 }
@@ -654,23 +541,19 @@ pub fn wins_size(
     cells: &[u64],
     first: usize,
     n: usize,
-    all: bool,
-    indices: &[u64; WORDS],
-    used: usize,
+    taken: Option<&RequiredIndices>,
 ) -> Size
-    requires lent { Lent indices.now }
     requires wins_ok { WinsOk rows.now cells.now first n }
-    requires countable { Countable (length (wins_bytes rows.now cells.now first n (which all (set_in indices.now used)))) (wins_tags rows.now cells.now first n (which all (set_in indices.now used))) }
-    ensures { Counts (length (wins_bytes rows.now cells.now first n (which all (set_in indices.now used)))) (wins_tags rows.now cells.now first n (which all (set_in indices.now used))) result }
+    requires countable { Countable (length (wins_bytes rows.now cells.now first n (which_of (option_copied taken)))) (wins_tags rows.now cells.now first n (which_of (option_copied taken))) }
+    ensures { Counts (length (wins_bytes rows.now cells.now first n (which_of (option_copied taken.entry)))) (wins_tags rows.now cells.now first n (which_of (option_copied taken.entry))) result }
 {
     let mut sum = Size { bytes: 0, tags: 0 };
     let mut row = first;
-    let mut i = 0;
-    while i < n {
-        let yes = is_taken(all, indices, used, i);
-        sum = both(sum, win_size_if(yes, rows, cells, row));
+    for i in 0..n {
+        if is_taken(taken, i) {
+            sum = sum + win_size(rows, cells, row);
+        }
         row = tree::win_at(rows, row).next;
-        i += 1;
     }
     sum
 }

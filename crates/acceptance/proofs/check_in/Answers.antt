@@ -2,6 +2,9 @@
 use Rattle.acceptance.proofs.Rooms.{wide_room}
 use Rattle.acceptance.proofs.check_in.Goals as goal
 
-pub read_and_check-read-requires : goal.read_and_check-read-requires
-read_and_check-read-requires c =
+pub read_and_check-requires : goal.read_and_check-requires
+read_and_check-requires c =
     wide_room _ c.read_and_check-arg-1.given.0.1 c.read_and_check-arg-3-1.given.0.1 c.read_and_check-arg-4-1.given.0.1 c.read_and_check-arg-6-1.given.0.1 c.read_and_check-arg-7-1.given.0.1 c.read_and_check-arg-2-1.given.0.1 c.read_and_check-arg-5-1.given.0.1
+
+pub returns : goal.returns
+returns c = rw c.from.ensures c.read_and_check.ensures.says

@@ -1,6 +1,7 @@
 -- The proof of the cycle of calls {count_tags}. The measure is the node's number. Assumes nothing.
 use mathlib.Core.Path.{◌≡◌, sym, ap}
 use Prim.Native.Nat.{ℕ, ◌+◌}
+use mathlib.Core.Logic.{inl, inr}
 use native.Mathlib.Omega.{arith}
 use Rattle.cpl.specs.Exprs.{expr_tags}
 use Rattle.cpl.specs.Plan.{Expr, Op1, Op2, bin, un}
@@ -15,53 +16,43 @@ two-tags : {e x y : Expr} {o : Op2} {a b : ℕ} → e ≡ bin o x y → a ≡ ex
 unfolding expr_tags
 two-tags v e f = omega (arith, ap expr_tags v)
 
-pub node_at-v-requires : goal.node_at-v-requires
-node_at-v-requires t c =
-    c.requires.wf
-
-pub count_tags-a-requires : goal.count_tags-a-requires
-count_tags-a-requires t c =
-    small_1 _ _ _ c.decreases (c.requires.wf, c.requires.i_bound) _ _ (rw c.in-One.is at c.node_at-v.ensures)
+pub count_tags-requires : goal.count_tags-requires
+count_tags-requires t c =
+    small_1 _ _ _ c.decreases (c.requires.wf, c.requires.i_bound) _ _ (rw c.in-One.is at c.node_at.ensures)
 
 pub overflow_add-result : goal.overflow_add-result
 overflow_add-result t c =
-    omega (arith, one-tags (rw c.in-One.is at c.node_at-v.ensures).means c.count_tags-a.ensures, c.requires.i_bound)
+    omega (arith, one-tags (rw c.in-One.is at c.node_at.ensures).means c.count_tags.ensures, c.requires.i_bound)
 
-pub count_tags-a-requires-in-Two : goal.count_tags-a-requires-in-Two
-count_tags-a-requires-in-Two t c =
-    (small_2 _ _ _ c.decreases (c.requires.wf, c.requires.i_bound) _ _ _ (rw c.in-Two.is at c.node_at-v.ensures)).0
+pub count_tags-requires-in-Two : goal.count_tags-requires-in-Two
+count_tags-requires-in-Two t c =
+    (small_2 _ _ _ c.decreases (c.requires.wf, c.requires.i_bound) _ _ _ (rw c.in-Two.is at c.node_at.ensures)).0
 
-pub count_tags-b-requires : goal.count_tags-b-requires
-count_tags-b-requires t c =
-    (small_2 _ _ _ c.decreases (c.requires.wf, c.requires.i_bound) _ _ _ (rw c.in-Two.is at c.node_at-v.ensures)).1
+pub count_tags-requires-in-Two-2 : goal.count_tags-requires-in-Two-2
+count_tags-requires-in-Two-2 t c =
+    (small_2 _ _ _ c.decreases (c.requires.wf, c.requires.i_bound) _ _ _ (rw c.in-Two.is at c.node_at.ensures)).1
 
 pub overflow_add-result-in-Two : goal.overflow_add-result-in-Two
 overflow_add-result-in-Two t c =
-    omega (arith, two-tags (rw c.in-Two.is at c.node_at-v.ensures).means c.count_tags-a-in-Two.ensures c.count_tags-b.ensures, c.requires.i_bound)
+    omega (arith, two-tags (rw c.in-Two.is at c.node_at.ensures).means c.count_tags-in-Two.ensures c.count_tags-in-Two-2.ensures, c.requires.i_bound)
 
 pub overflow_add-result-in-Two-2 : goal.overflow_add-result-in-Two-2
 overflow_add-result-in-Two-2 t c =
-    omega (arith, two-tags (rw c.in-Two.is at c.node_at-v.ensures).means c.count_tags-a-in-Two.ensures c.count_tags-b.ensures, c.requires.i_bound)
+    omega (arith, two-tags (rw c.in-Two.is at c.node_at.ensures).means c.count_tags-in-Two.ensures c.count_tags-in-Two-2.ensures, c.requires.i_bound)
 
 pub returns-in-Col : goal.returns-in-Col
 unfolding expr_tags
 returns-in-Col t c =
-    sym (ap expr_tags (rw c.in-Col.is at c.node_at-v.ensures))
-
-pub returns-in-Lit : goal.returns-in-Lit
-unfolding expr_tags
-returns-in-Lit t c =
-    sym (ap expr_tags (rw c.in-Lit.is at c.node_at-v.ensures))
-
-pub returns-in-Miss : goal.returns-in-Miss
-unfolding expr_tags
-returns-in-Miss t c =
-    sym (ap expr_tags (rw c.in-Miss.is at c.node_at-v.ensures))
+    elim c.in-Col.is [
+      | inl (q, n, h) ↦ sym (ap expr_tags (rw h at c.node_at.ensures))
+      | inr (inl (v, h)) ↦ sym (ap expr_tags (rw h at c.node_at.ensures))
+      | inr (inr h) ↦ sym (ap expr_tags (rw h at c.node_at.ensures))
+    ]
 
 pub returns-in-One : goal.returns-in-One
 returns-in-One t c =
-    one-tags (rw c.in-One.is at c.node_at-v.ensures).means c.count_tags-a.ensures
+    one-tags (rw c.in-One.is at c.node_at.ensures).means c.count_tags.ensures
 
 pub returns-in-Two : goal.returns-in-Two
 returns-in-Two t c =
-    two-tags (rw c.in-Two.is at c.node_at-v.ensures).means c.count_tags-a-in-Two.ensures c.count_tags-b.ensures
+    two-tags (rw c.in-Two.is at c.node_at.ensures).means c.count_tags-in-Two.ensures c.count_tags-in-Two-2.ensures

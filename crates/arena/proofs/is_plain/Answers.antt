@@ -1,20 +1,17 @@
 -- `arena::is_plain` meets its contract. Assumes nothing.
 use mathlib.Core.Path.{sym, ap, ◌∙◌}
+use borrow.Author.Tests.{eq-eqb}
 use mathlib.Core.Bool.{not}
 use Rattle.rules.specs.Merge.{plain}
-use Rattle.arena.proofs.Rows.{read_bare_lem, read_named, read_wf}
+use Rattle.arena.proofs.Rows.{read_bare_lem, read_named}
 use Rattle.arena.proofs.is_plain.Goals as goal
 
 pub returns-then-row-eq0 : goal.returns-then-row-eq0
 unfolding plain
 returns-then-row-eq0 c =
-    sym (ap plain (read_bare_lem _ c.row_at-row.ensures c.if-row-eq0.true))
+    eq-eqb _ 0 c.if-row-eq0.true ∙ sym (ap plain (read_bare_lem _ c.row_at-row.ensures c.if-row-eq0.true))
 
-pub has_column-found-requires : goal.has_column-found-requires
-has_column-found-requires c =
-    read_wf _ c.row_at-row.ensures c.requires
-
-pub returns : goal.returns
+pub returns-else-row-eq0 : goal.returns-else-row-eq0
 unfolding plain
-returns c =
-    ap not c.has_column-found.ensures ∙ sym (ap plain (read_named _ c.row_at-row.ensures c.if-row-eq0.false))
+returns-else-row-eq0 c =
+    ap not c.has_column.ensures ∙ sym (ap plain (read_named _ c.row_at-row.ensures c.if-row-eq0.false))

@@ -2,7 +2,7 @@
 use mathlib.Core.Path.{sym, ap}
 use native.Mathlib.Omega.{arith}
 use Rattle.cpl.specs.Exprs.{item_tags}
-use Rattle.arena.proofs.Rows.{read_bare_lem, read_tags, read_wf}
+use Rattle.arena.proofs.Rows.{read_bare_lem, read_tags}
 use Rattle.arena.proofs.item_tags.Goals as goal
 
 pub returns-then-row-eq0 : goal.returns-then-row-eq0
@@ -10,13 +10,14 @@ unfolding item_tags
 returns-then-row-eq0 c =
     sym (ap item_tags (read_bare_lem _ c.row_at-row.ensures c.if-row-eq0.true))
 
-pub count_tags-tags-requires : goal.count_tags-tags-requires
-count_tags-tags-requires c = record { wf = read_wf _ c.row_at-row.ensures c.requires.row_ok; i_bound = omega (arith, c.requires.i_bound, read_tags c.args.cells.now c.row_at-row.ensures c.if-row-eq0.false) }
+pub count_tags-requires-clause-i_bound : goal.count_tags-requires-clause-i_bound
+count_tags-requires-clause-i_bound c =
+    omega (arith, c.requires.i_bound, read_tags c.args.cells.now c.row_at-row.ensures c.if-row-eq0.false)
 
 pub overflow_add-result : goal.overflow_add-result
 overflow_add-result c =
-    omega (arith, c.requires.i_bound, c.count_tags-tags.ensures, read_tags c.args.cells.now c.row_at-row.ensures c.if-row-eq0.false)
+    omega (arith, c.requires.i_bound, c.count_tags.ensures, read_tags c.args.cells.now c.row_at-row.ensures c.if-row-eq0.false)
 
 pub returns : goal.returns
 returns c =
-    omega (arith, c.count_tags-tags.ensures, read_tags c.args.cells.now c.row_at-row.ensures c.if-row-eq0.false)
+    omega (arith, c.count_tags.ensures, read_tags c.args.cells.now c.row_at-row.ensures c.if-row-eq0.false)

@@ -44,28 +44,28 @@ words_at-w-requires c =
 
 pub overflow_cast-result : goal.overflow_cast-result
 overflow_cast-result c =
-    record { fits = omega (arith, ((here _ _ c.requires).column (sym c.words_at-w.ensures.tag_is ∙ c.if-t-eq0.true)).0, c.words_at-w.ensures.x_is) }
+    record { fits = omega (arith, ((here _ _ c.requires).column (sym c.words_at-w.ensures.tag_is ∙ c.in-0.is)).0, c.words_at-w.ensures.x_is) }
 
-pub overflow_cast-result-then-t-eq0 : goal.overflow_cast-result-then-t-eq0
-overflow_cast-result-then-t-eq0 c =
-    record { fits = omega (arith, ((here _ _ c.requires).column (sym c.words_at-w.ensures.tag_is ∙ c.if-t-eq0.true)).1, c.words_at-w.ensures.y_is) }
+pub overflow_cast-result-in-0 : goal.overflow_cast-result-in-0
+overflow_cast-result-in-0 c =
+    record { fits = omega (arith, ((here _ _ c.requires).column (sym c.words_at-w.ensures.tag_is ∙ c.in-0.is)).1, c.words_at-w.ensures.y_is) }
 
-pub returns-then-t-eq0 : goal.returns-then-t-eq0
-returns-then-t-eq0 c =
-    as-col (here _ _ c.requires) c.words_at-w.ensures c.if-t-eq0.true
+pub returns-in-0 : goal.returns-in-0
+returns-in-0 c =
+    as-col (here _ _ c.requires) c.words_at-w.ensures c.in-0.is
 
-pub returns-then-t-eq1 : goal.returns-then-t-eq1
-returns-then-t-eq1 c =
-    as-lit (here _ _ c.requires) c.words_at-w.ensures c.if-t-eq1.true
+pub returns-in-1 : goal.returns-in-1
+returns-in-1 c =
+    as-lit (here _ _ c.requires) c.words_at-w.ensures c.in-1.is
 
-pub returns-then-t-eq2 : goal.returns-then-t-eq2
-returns-then-t-eq2 c =
-    as-miss (here _ _ c.requires) c.words_at-w.ensures c.if-t-eq2.true
+pub returns-in-2 : goal.returns-in-2
+returns-in-2 c =
+    as-miss (here _ _ c.requires) c.words_at-w.ensures c.in-2.is
 
-pub returns-then-t-lt5 : goal.returns-then-t-lt5
-returns-then-t-lt5 c =
-    as_one (here _ _ c.requires) c.words_at-w.ensures (omega (arith, c.if-t-eq0.false, c.if-t-eq1.false, c.if-t-eq2.false)) c.if-t-lt5.true
+pub returns-in-3 : goal.returns-in-3
+returns-in-3 c =
+    as_one (here _ _ c.requires) c.words_at-w.ensures (omega arith) (omega arith)
 
-pub returns : goal.returns
-returns c =
-    as-two (here _ _ c.requires) c.words_at-w.ensures c.if-t-lt5.false
+pub returns-in_default : goal.returns-in_default
+returns-in_default c =
+    as-two (here _ _ c.requires) c.words_at-w.ensures (omega arith)

@@ -1,6 +1,6 @@
 -- `arena::same_item` meets its contract: each way is a law of `Same`. Assumes nothing.
-use mathlib.Core.Path.{refl}
-use Rattle.arena.proofs.Rows.{read_bare_lem, read_named, read_row, read_wf}
+use mathlib.Core.Path.{refl, ◌∙◌}
+use Rattle.arena.proofs.Rows.{read_bare_lem, read_named, read_row}
 use Rattle.arena.proofs.Same.{other_mark, same-bare, same-named}
 use Rattle.arena.proofs.same_item.Goals as goal
 
@@ -12,13 +12,10 @@ pub returns-then-w-eq0 : goal.returns-then-w-eq0
 returns-then-w-eq0 c =
     other_mark (read_named _ c.row_at-v.ensures c.if-v-eq0.false) (read_bare_lem _ c.row_at-w.ensures c.if-w-eq0.true)
 
-pub same_expr-requires : goal.same_expr-requires
-same_expr-requires c = record { wf = read_wf _ c.row_at-v.ensures c.requires.row_ok; wf_2 = read_wf _ c.row_at-w.ensures c.requires.row_ok_2 }
-
 pub returns-then-pairs : goal.returns-then-pairs
 returns-then-pairs c =
     same-named (read_named _ c.row_at-v.ensures c.if-v-eq0.false) (read_named _ c.row_at-w.ensures c.if-w-eq0.false) c.if-pairs.true c.same_expr.ensures
 
-pub returns : goal.returns
-returns c =
-    same-named (read_named _ c.row_at-v.ensures c.if-v-eq0.false) (read_named _ c.row_at-w.ensures c.if-w-eq0.false) c.if-pairs.false refl
+pub returns-else-pairs : goal.returns-else-pairs
+returns-else-pairs c =
+    c.if-pairs.false ∙ same-named (read_named _ c.row_at-v.ensures c.if-v-eq0.false) (read_named _ c.row_at-w.ensures c.if-w-eq0.false) c.if-pairs.false refl

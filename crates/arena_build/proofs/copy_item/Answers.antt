@@ -1,20 +1,18 @@
 -- `arena_build::copy_item` meets its contract. Assumes nothing.
 use native.Mathlib.Omega.{arith}
-use Rattle.arena.proofs.Rows.{read_wf}
+use Rattle.std.proofs.lemmas.Result.{err_from_is_err_and}
 use Rattle.arena_build.proofs.Items.{copy_left, copy_placed, node-small}
 use Rattle.arena_build.proofs.copy_item.Goals as goal
 
-pub subst-b-requires : goal.subst-b-requires
-subst-b-requires c = record { wf = read_wf _ c.row_at-row.ensures c.requires.row_ok; rows_ok = record { room = omega arith; each = λ k h l. absurd (omega arith) }; wf_2 = c.requires.dst_len_bound.1 }
+pub returns-in_err-b : goal.returns-in_err-b
+returns-in_err-b c =
+    let p = err_from_is_err_and c.from_residual.result c.from_residual.ensures.1 in
+    rw p.1 (copy_left _ _ c.row_at-row.ensures c.requires.row_ok _ c.in_err-b.ensures)
 
-pub returns-in_default : goal.returns-in_default
-returns-in_default c =
-    copy_left _ _ c.row_at-row.ensures c.requires.row_ok _ (rw c.in_default.is at c.subst-b.ensures)
-
-pub overflow_cast-node : goal.overflow_cast-node
-overflow_cast-node c =
-    omega (arith, node-small (rw c.in-Done.is at c.subst-b.ensures) c.requires.dst_len_bound.0)
+pub overflow_cast-b : goal.overflow_cast-b
+overflow_cast-b c =
+    omega (arith, node-small c.in_ok-b.ensures c.requires.dst_len_bound.0)
 
 pub returns : goal.returns
 returns c =
-    copy_placed _ _ c.row_at-row.ensures c.requires.row_ok _ _ _ c.requires.k_in_bounds (rw c.in-Done.is at c.subst-b.ensures) c.put_row.ensures
+    copy_placed _ _ c.row_at-row.ensures c.requires.row_ok _ _ _ c.requires.k_in_bounds c.in_ok-b.ensures c.put_row.ensures

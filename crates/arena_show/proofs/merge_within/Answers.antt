@@ -7,4 +7,4 @@ pub slice_bounds-merge-end-2 : goal.slice_bounds-merge-end-2
 slice_bounds-merge-end-2 g c = simp length-take (omega arith)
 
 pub merge-requires : goal.merge-requires
-merge-requires g c = record { n_bound = c.requires.n_bound; dst_len_bound = simp length-take (omega arith) }
+merge-requires g c = record { list_ok = c.requires.list_ok; dst_len_bound = simp length-take (omega arith) }

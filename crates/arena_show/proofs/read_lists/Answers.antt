@@ -3,11 +3,11 @@ use native.Mathlib.Omega.{arith}
 use Rattle.arena_show.proofs.Samples.{items-ok, items-tags, part}
 use Rattle.arena_show.proofs.read_lists.Goals as goal
 
-pub list_uses-requires : goal.list_uses-requires
-list_uses-requires g c = record { rows_ok = items-ok; count_bound = items-tags }
+pub uses-requires : goal.uses-requires
+uses-requires g c = record { rows_ok = items-ok; count_bound = items-tags }
 
-pub list_tags-requires : goal.list_tags-requires
-list_tags-requires g c = record { rows_ok = items-ok; count_bound = items-tags }
+pub tags-requires : goal.tags-requires
+tags-requires g c = record { rows_ok = items-ok; count_bound = items-tags }
 
 pub uses_no_column-requires : goal.uses_no_column-requires
 uses_no_column-requires g c = items-ok

@@ -7,4 +7,4 @@ pub returns-then-c-gt0 : goal.returns-then-c-gt0
 returns-then-c-gt0 c = record { wrote = named (file_refused _ c.check-c.ensures c.if-c-gt0.true) c.write_answer.ensures.wrote; counts = c.write_answer.ensures.counts }
 
 pub returns : goal.returns
-returns c = record { wrote = named (file_listed _ c.check-c.ensures c.if-c-gt0.false c.list-n.ensures.wrote) c.write_success.ensures.wrote; counts = c.write_success.ensures.counts }
+returns c = record { wrote = named (file_listed _ c.check-c.ensures c.if-c-gt0.false c.list-n.ensures.wrote) c.write_answer-2.ensures.wrote; counts = c.write_answer-2.ensures.counts }

@@ -1,5 +1,4 @@
 -- `calls::read_request` meets its contract: the indices that were read stand in the array. Assumes nothing.
-use Prim.Native.Nat.{◌-◌, ◌≤◌}
 use Rattle.calls.proofs.Input.{index_in}
 use Rattle.cpl.specs.Tests.{iota}
 use lib.ListN.{length, take}
@@ -8,7 +7,4 @@ use mathlib.Core.Path.{◌≡◌}
 use Rattle.calls.proofs.read_request.Given as goal
 
 abbrev pub invariant-loop-k : goal.invariant-loop-k
-invariant-loop-k l = (l.k ≤ l.count) × (length l.request ≡ length l.initial.request) × (take l.k l.request ≡ map (index_in l.input l.at) (iota 0 l.k))
-
-abbrev pub decreases-loop-k : goal.decreases-loop-k
-decreases-loop-k l = l.count - l.k
+invariant-loop-k l = (length l.request ≡ length l.initial.request) × (take l.k l.request ≡ map (index_in l.input l.at) (iota 0 l.k))

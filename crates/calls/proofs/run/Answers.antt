@@ -1,8 +1,6 @@
 -- `calls::run` meets its contract: the entry that the input names. Assumes nothing.
 use Rattle.calls.proofs.Texts.{check-named, join-keys-named, list-named, list-plan-named, named, no_bytes, none_named, prune_all_named, prune_named, without-keys-named}
-use Rattle.join_key_set.proofs.Pairs.{rest}
 use Rattle.listing.proofs.Puts.{counts}
-use Rattle.writer.proofs.Plans.{input}
 use mathlib.Core.Path.{refl}
 use Rattle.calls.proofs.run.Goals as goal
 

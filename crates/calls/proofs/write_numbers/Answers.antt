@@ -18,14 +18,6 @@ pub slice_bounds-write_others-start : goal.slice_bounds-write_others-start
 slice_bounds-write_others-start c =
     omega (arith, c.requires.0, c.requires.1, short (get_or c.args.numbers.now 0 0) (omega (arith, c.shared_slice_known-1.given 0)), c.put_number-a.ensures.long, c.put_number-a.auto)
 
-pub slice_bounds-write_others-count-2 : goal.slice_bounds-write_others-count-2
-slice_bounds-write_others-count-2 c =
-    omega (arith, c.requires.0)
-
-pub slice_bounds-write_others-start-2 : goal.slice_bounds-write_others-start-2
-slice_bounds-write_others-start-2 c =
-    omega (arith, c.requires.0)
-
 pub write_others-n-requires : goal.write_others-n-requires
 write_others-n-requires c =
     omega (arith, c.requires.0, c.requires.1, short (get_or c.args.numbers.now 0 0) (omega (arith, c.shared_slice_known-1.given 0)), c.put_number-a.ensures.long, c.put_number-a.auto, room 1 c.args.numbers.now)

@@ -1,7 +1,6 @@
 -- `jobs::aggregate_job` meets its contract: laws of `Aggregates`. Assumes nothing.
 use mathlib.Core.Path.{sym, ◌∙◌}
 use Prim.Native.Nat.{◌+◌}
-use native.Mathlib.Omega.{arith}
 use Rattle.arena.specs.Rows.{items_at}
 use Rattle.tree.specs.Rows.{aggs_at}
 use Rattle.jobs.proofs.Plain.{aggs_long, items-long}
@@ -27,16 +26,6 @@ returns-then-is_empty c =
           (items-long c.args.rows.now c.args.cells.now c.args.first c.args.groups)
           (record { asked_is = c.split_off-split.ensures.holds; set_is = c.split_off-split.ensures.holds_2; own_are = c.kept_groups-own.ensures; kept_is = c.followed_by-kept.ensures }) p ks k C _ (sym c.is_empty.ensures ∙ c.if-is_empty.true);
     }
-
-pub with_items-by-requires : goal.with_items-by-requires
-with_items-by-requires c = record { rows_ok = c.requires.rows_ok; below = c.requires.below }
-
-pub overflow_add-at : goal.overflow_add-at
-overflow_add-at c =
-    omega (arith, c.requires.rows_ok.room, c.well_formed)
-
-pub with_aggregates-ask-requires : goal.with_aggregates-ask-requires
-with_aggregates-ask-requires c = record { each_ok = c.requires.each_ok; below = c.requires.below }
 
 pub returns : goal.returns
 returns c =

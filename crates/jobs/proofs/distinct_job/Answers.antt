@@ -4,4 +4,4 @@ use Rattle.jobs.proofs.distinct_job.Goals as goal
 
 pub returns : goal.returns
 returns c =
-    λ key. distinct-one c.args.width (row-long c.args.fields.now c.args.start c.args.width) c.new_for_all_exprs.ensures c.through.ensures
+    λ key. distinct-one c.args.input.now.width (row-long c.args.input.now.fields.now c.args.input.now.first c.args.input.now.width) c.new_for_all_exprs.ensures c.through.ensures

@@ -1,10 +1,7 @@
 -- `jobs::sort_job` meets its contract: a law of `Plain`. Assumes nothing.
-use Rattle.requests.proofs.Lists.{keys-ok, keys-roots}
+use Rattle.requests.proofs.Lists.{keys-roots}
 use Rattle.jobs.proofs.Plain.{sort-one}
 use Rattle.jobs.proofs.sort_job.Goals as goal
-
-pub with_roots-ask-requires : goal.with_roots-ask-requires
-with_roots-ask-requires c = record { roots_ok = keys-ok c.requires.each_ok; below = c.requires.below }
 
 pub returns : goal.returns
 returns c =

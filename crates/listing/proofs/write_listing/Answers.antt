@@ -3,19 +3,20 @@ use Rattle.listing.proofs.Digits.{short}
 use Rattle.listing.proofs.Nodes.{lines_short}
 use Rattle.listing.proofs.Puts.{listing-wrote}
 use Rattle.catalogue.proofs.Names.{widths}
+use mathlib.Core.Path.{refl}
 use native.Mathlib.Omega.{arith}
 use Rattle.listing.proofs.write_listing.Goals as goal
 
 pub put_number-b-requires : goal.put_number-b-requires
 put_number-b-requires c =
-    omega (arith, c.requires.1, short c.wide.result (omega (arith, c.wide.ensures)), c.put_text-a.ensures.long, c.put_text-a.auto)
+    omega (arith, c.requires.1, short c.args.count (omega arith), c.put_text-a.ensures.long, c.put_text-a.auto)
 
 pub put_text-c-requires : goal.put_text-c-requires
 put_text-c-requires c =
     omega (
       arith,
       c.requires.1,
-      short c.wide.result (omega (arith, c.wide.ensures)),
+      short c.args.count (omega arith),
       c.put_text-a.ensures.long,
       c.put_text-a.auto,
       c.put_number-b.ensures.long,
@@ -27,7 +28,7 @@ slice_bounds-write_lines-count c =
     omega (
       arith,
       c.requires.1,
-      short c.wide.result (omega (arith, c.wide.ensures)),
+      short c.args.count (omega arith),
       c.put_text-a.ensures.long,
       c.put_text-a.auto,
       c.put_number-b.ensures.long,
@@ -41,7 +42,7 @@ slice_bounds-write_lines-start c =
     omega (
       arith,
       c.requires.1,
-      short c.wide.result (omega (arith, c.wide.ensures)),
+      short c.args.count (omega arith),
       c.put_text-a.ensures.long,
       c.put_text-a.auto,
       c.put_number-b.ensures.long,
@@ -56,7 +57,7 @@ write_lines-n-requires c = (
   omega (
     arith,
     c.requires.1,
-    short c.wide.result (omega (arith, c.wide.ensures)),
+    short c.args.count (omega arith),
     c.put_text-a.ensures.long,
     c.put_text-a.auto,
     c.put_number-b.ensures.long,
@@ -71,7 +72,7 @@ overflow_add-result c =
     omega (
       arith,
       c.requires.1,
-      short c.wide.result (omega (arith, c.wide.ensures)),
+      short c.args.count (omega arith),
       c.put_text-a.ensures.long,
       c.put_text-a.auto,
       c.put_number-b.ensures.long,
@@ -86,4 +87,4 @@ overflow_add-result c =
 
 pub returns : goal.returns
 returns c =
-    listing-wrote c.wide.ensures c.put_text-a.ensures c.put_number-b.ensures c.put_text-c.ensures c.write_lines-n.ensures
+    listing-wrote refl c.put_text-a.ensures c.put_number-b.ensures c.put_text-c.ensures c.write_lines-n.ensures

@@ -1,19 +1,20 @@
 -- `listing::write_refused` meets its contract: five parts, one after the other. Assumes nothing.
 use Rattle.listing.proofs.Digits.{short}
 use Rattle.listing.proofs.Puts.{refused-wrote}
+use mathlib.Core.Path.{refl}
 use native.Mathlib.Omega.{arith}
 use Rattle.listing.proofs.write_refused.Goals as goal
 
 pub put_number-b-requires : goal.put_number-b-requires
 put_number-b-requires c =
-    omega (arith, c.requires, short c.wide_byte.result (omega (arith, c.wide_byte.ensures)), c.put_text-a.ensures.long, c.put_text-a.auto)
+    omega (arith, c.requires, short c.from.result (omega (arith, c.from.ensures)), c.put_text-a.ensures.long, c.put_text-a.auto)
 
 pub put_text-c-requires : goal.put_text-c-requires
 put_text-c-requires c =
     omega (
       arith,
       c.requires,
-      short c.wide_byte.result (omega (arith, c.wide_byte.ensures)),
+      short c.from.result (omega (arith, c.from.ensures)),
       c.put_text-a.ensures.long,
       c.put_text-a.auto,
       c.put_number-b.ensures.long,
@@ -25,8 +26,8 @@ put_number-d-requires c =
     omega (
       arith,
       c.requires,
-      short c.wide_byte.result (omega (arith, c.wide_byte.ensures)),
-      short c.wide.result (omega (arith, c.wide.ensures)),
+      short c.from.result (omega (arith, c.from.ensures)),
+      short c.args.place (omega arith),
       c.put_text-a.ensures.long,
       c.put_text-a.auto,
       c.put_number-b.ensures.long,
@@ -40,8 +41,8 @@ put_text-requires c =
     omega (
       arith,
       c.requires,
-      short c.wide_byte.result (omega (arith, c.wide_byte.ensures)),
-      short c.wide.result (omega (arith, c.wide.ensures)),
+      short c.from.result (omega (arith, c.from.ensures)),
+      short c.args.place (omega arith),
       c.put_text-a.ensures.long,
       c.put_text-a.auto,
       c.put_number-b.ensures.long,
@@ -54,5 +55,5 @@ put_text-requires c =
 
 pub returns : goal.returns
 returns c =
-    refused-wrote c.wide_byte.ensures c.wide.ensures c.put_text-a.ensures c.put_number-b.ensures c.put_text-c.ensures c.put_number-d.ensures
+    refused-wrote c.from.ensures refl c.put_text-a.ensures c.put_number-b.ensures c.put_text-c.ensures c.put_number-d.ensures
     c.put_text.ensures

@@ -1,15 +1,8 @@
 -- The proof of the cycle of calls {resolve_both}. The measure is the node's number. Assumes nothing.
+use mathlib.Core.Logic.{inl, inr}
 use Rattle.arena.proofs.Laws.{operand}
 use Rattle.lookup.proofs.Resolving.{seen_bin, seen_is, seen_lit, seen_miss, seen_un}
 use Rattle.lookup.proofs.+resolve_both.Goals as goal
-
-pub node_at-v-requires : goal.node_at-v-requires
-node_at-v-requires t c =
-    c.requires.wf
-
-pub resolve_column-requires : goal.resolve_column-requires
-resolve_column-requires t c =
-    c.requires.sides_clear
 
 pub resolve_both-requires : goal.resolve_both-requires
 resolve_both-requires t c =
@@ -32,11 +25,7 @@ returns-in-Col t c =
 
 pub returns-in-Lit : goal.returns-in-Lit
 returns-in-Lit t c =
-    seen_lit _ (rw c.in-Lit.is at c.node_at-v.ensures)
-
-pub returns-in-Miss : goal.returns-in-Miss
-returns-in-Miss t c =
-    seen_miss _ (rw c.in-Miss.is at c.node_at-v.ensures)
+    elim c.in-Lit.is [ inl p ↦ seen_lit _ (rw p.1 at c.node_at-v.ensures) | inr e ↦ seen_miss _ (rw e at c.node_at-v.ensures) ]
 
 pub returns-in-One : goal.returns-in-One
 returns-in-One t c =

@@ -8,9 +8,6 @@ use mathlib.Core.Path.{◌∙◌, ap, sym}
 use native.Mathlib.Omega.{arith}
 use Rattle.lookup.proofs.alias_fields.Goals as goal
 
-pub loop-i-init : goal.loop-i-init
-loop-i-init c = fills_none _ _ _ _ _
-
 pub overflow_add-from : goal.overflow_add-from
 overflow_add-from c =
     omega (arith, c.requires.0, c.requires.1, c.loop-i.invariant.filling.kept.long)
@@ -27,22 +24,15 @@ pub put_field-requires : goal.put_field-requires
 put_field-requires c =
     omega (arith, c.requires.0, c.requires.1, c.loop-i.invariant.filling.kept.long)
 
-pub overflow_add-i : goal.overflow_add-i
-overflow_add-i c = omega arith
-
-pub loop-i-smaller : goal.loop-i-smaller
-loop-i-smaller c = omega arith
-
 pub loop-i-preserved : goal.loop-i-preserved
 unfolding requalify
 loop-i-preserved c =
     fills_more _ _ _ _ _ c.loop-i.invariant c.loop-i-test.true (c.put_field.ensures.j_after ∙ ap (requalify c.args.qualifier) (c.field_at-f.ensures ∙ c.loop-i.invariant.filling.kept.low _ (omega (arith, c.requires.0)))) c.put_field.ensures.kept
 
-pub shape_of-fields : goal.shape_of-fields
-shape_of-fields c =
-    c.loop-i.invariant.filling.kept.long
-
 pub returns : goal.returns
 returns c =
     let f = fills_all _ _ _ _ _ c.loop-i.invariant c.loop-i-test.false in
     record { row = f.row ∙ sym (list-map (requalify c.args.qualifier) (field_at c.args.fields.now) one c.args.from c.args.width); kept = f.kept }
+
+pub loop-i-init : goal.loop-i-init
+loop-i-init c = fills_none _ _ _ _ _

@@ -6,7 +6,6 @@ use Rattle.cpl.specs.Tests.{any_b}
 use Rattle.lookup.proofs.Clash.{clash_hit, clear-more}
 use Rattle.lookup.proofs.Marks.{marked_more}
 use Rattle.lookup.specs.Fields.{row_at}
-use mathlib.Core.Bool.{false}
 use mathlib.Core.Path.{◌∙◌, ◌≡◌, ap, refl, sym}
 use native.Mathlib.Omega.{arith}
 use Rattle.lookup.proofs.clash_from.Goals as goal
@@ -26,10 +25,6 @@ loop-i-init c =
 pub returns-then-conflicts_marked : goal.returns-then-conflicts_marked
 returns-then-conflicts_marked c =
     clash_hit c.args.fields.now c.args.first c.args.width c.loop-i.i (sym c.if-conflicts_marked.true ∙ c.conflicts_marked.ensures ∙ ap (λ (p : Pair). any_b (conflict p) (row_at c.args.fields.now c.args.first c.loop-i.i)) c.field_at-f.ensures) c.loop-i.invariant.1 c.loop-i-test.true
-
-pub mark-requires : goal.mark-requires
-mark-requires c =
-    c.loop-i.invariant.2.long
 
 pub loop-i-preserved : goal.loop-i-preserved
 loop-i-preserved c = (

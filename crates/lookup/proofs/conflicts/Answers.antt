@@ -11,12 +11,6 @@ pub loop-i-init : goal.loop-i-init
 loop-i-init c =
     (omega arith, any-row-none _ c.args.fields.now c.args.first)
 
-pub overflow_add-first : goal.overflow_add-first
-overflow_add-first c = omega arith
-
-pub field_at-g-requires : goal.field_at-g-requires
-field_at-g-requires c = omega arith
-
 pub loop-i-preserved : goal.loop-i-preserved
 loop-i-preserved c =
     (omega arith, ap₂ ◌||◌ c.loop-i.invariant.1 (c.in_conflict-hit.ensures ∙ ap (conflict (pair_of c.args.f)) c.field_at-g.ensures) ∙ any-row-more _ c.args.fields.now c.args.first c.loop-i.i)

@@ -1,42 +1,8 @@
--- `lookup::copy_fields` meets its contract: the fields so far, and those to come, are the list. Assumes nothing.
-use Rattle.lookup.proofs.Rows.{fills_all, fills_more, fills_none}
-use mathlib.Core.Path.{◌∙◌}
+-- `lookup::copy_fields` meets its contract: the library copies the numbers of the fields. Assumes nothing.
 use native.Mathlib.Omega.{arith}
+use Rattle.lookup.proofs.Rows.{copied}
 use Rattle.lookup.proofs.copy_fields.Goals as goal
-
-pub loop-i-init : goal.loop-i-init
-loop-i-init c = fills_none _ _ _ _ _
-
-pub overflow_add-from : goal.overflow_add-from
-overflow_add-from c =
-    omega (arith, c.requires.0, c.requires.1, c.loop-i.invariant.filling.kept.long)
-
-pub field_at-f-requires : goal.field_at-f-requires
-field_at-f-requires c =
-    omega (arith, c.requires.0, c.requires.1, c.loop-i.invariant.filling.kept.long)
-
-pub overflow_add-to : goal.overflow_add-to
-overflow_add-to c =
-    omega (arith, c.requires.0, c.requires.1, c.loop-i.invariant.filling.kept.long)
-
-pub put_field-requires : goal.put_field-requires
-put_field-requires c =
-    omega (arith, c.requires.0, c.requires.1, c.loop-i.invariant.filling.kept.long)
-
-pub overflow_add-i : goal.overflow_add-i
-overflow_add-i c = omega arith
-
-pub loop-i-smaller : goal.loop-i-smaller
-loop-i-smaller c = omega arith
-
-pub loop-i-preserved : goal.loop-i-preserved
-loop-i-preserved c =
-    fills_more _ _ _ _ _ c.loop-i.invariant c.loop-i-test.true (c.put_field.ensures.j_after ∙ c.field_at-f.ensures ∙ c.loop-i.invariant.filling.kept.low _ (omega (arith, c.requires.0))) c.put_field.ensures.kept
-
-pub shape_of-fields : goal.shape_of-fields
-shape_of-fields c =
-    c.loop-i.invariant.filling.kept.long
 
 pub returns : goal.returns
 returns c =
-    fills_all _ _ _ _ _ c.loop-i.invariant c.loop-i-test.false
+    copied c.args.to c.args.from c.args.width _ (omega arith) c.copy_within.ensures.len c.copy_within.ensures.by_index.0 c.copy_within.ensures.by_index.1 c.copy_within.ensures.by_index.2

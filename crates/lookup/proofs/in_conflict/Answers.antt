@@ -1,6 +1,7 @@
 -- `lookup::in_conflict` meets its contract. Assumes nothing.
-use Rattle.lookup.proofs.Clash.{conflict-is}
+use Rattle.lookup.proofs.Clash.{conflict_by}
 use Rattle.lookup.proofs.in_conflict.Goals as goal
 
 pub returns : goal.returns
-returns c = conflict-is _ _ _ _
+returns c =
+    rw c.eq.ensures (conflict_by c.args.f.qualifier c.args.f.name c.args.g.qualifier c.args.g.name)

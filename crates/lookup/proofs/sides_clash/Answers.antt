@@ -3,30 +3,10 @@ use Rattle.cpl.specs.Accept.{conflict}
 use Rattle.cpl.specs.Plan.{Pair}
 use Rattle.cpl.specs.Tests.{any_b}
 use Rattle.lookup.proofs.Clash.{across, sides_clear}
-use Rattle.lookup.proofs.Lists.{left-none, missed_all, missed_hit, missed_more}
+use Rattle.lookup.proofs.Lists.{missed_all, missed_hit, missed_more}
 use Rattle.lookup.specs.Fields.{left_row}
-use mathlib.Core.Path.{◌∙◌, ap, refl, sym}
-use native.Mathlib.Omega.{arith}
+use mathlib.Core.Path.{◌∙◌, ap, sym}
 use Rattle.lookup.proofs.sides_clash.Goals as goal
-
-pub mark_row-requires : goal.mark_row-requires
-mark_row-requires c =
-    (refl, c.requires.sides_in.left_in)
-
-pub loop-i-init : goal.loop-i-init
-loop-i-init c = left-none _ _ _ _
-
-pub overflow_add-right : goal.overflow_add-right
-overflow_add-right c =
-    omega (arith, c.requires.sides_in.right_in)
-
-pub field_at-f-requires : goal.field_at-f-requires
-field_at-f-requires c =
-    omega (arith, c.requires.sides_in.right_in)
-
-pub conflicts_marked-requires : goal.conflicts_marked-requires
-conflicts_marked-requires c =
-    (c.requires.sides_in.left_in, c.mark_row.ensures)
 
 pub returns-then-conflicts_marked : goal.returns-then-conflicts_marked
 unfolding across

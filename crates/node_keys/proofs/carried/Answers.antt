@@ -6,5 +6,5 @@ use Rattle.node_keys.proofs.carried.Goals as goal
 pub returns-then-equals : goal.returns-then-equals
 returns-then-equals c = record { is = λ ks ps k h. carried_yes k h (sym c.equals.ensures ∙ c.if-equals.true) }
 
-pub returns : goal.returns
-returns c = record { is = λ ks ps k h. carried_no k h (sym c.equals.ensures ∙ c.if-equals.false) c.new.ensures.set }
+pub returns-else-equals : goal.returns-else-equals
+returns-else-equals c = record { is = λ ks ps k h. carried_no k h (sym c.equals.ensures ∙ c.if-equals.false) c.new.ensures.set }

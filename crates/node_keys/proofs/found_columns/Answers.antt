@@ -1,5 +1,4 @@
 -- `node_keys::found_columns` meets its contract: after i columns what was found is of these. Assumes nothing.
-use Prim.Native.Nat.{◌+◌}
 use Rattle.node_keys.proofs.Steps.{column-places, finds_all, finds_more, finds_none}
 use Rattle.tree.specs.Rows.{number_at}
 use mathlib.Core.Option.{some}
@@ -9,23 +8,6 @@ use Rattle.node_keys.proofs.found_columns.Goals as goal
 
 pub loop-i-init : goal.loop-i-init
 loop-i-init c = (omega arith, finds_none _ _ c.none_found-found.ensures)
-
-pub overflow_add-first : goal.overflow_add-first
-overflow_add-first c = omega (arith, c.requires.inside.room, c.loop-i-test.true)
-
-pub column_at-j-requires : goal.column_at-j-requires
-column_at-j-requires c = omega (arith, c.requires.inside.room, c.loop-i-test.true)
-
-pub with_place-found-requires : goal.with_place-found-requires
-with_place-found-requires c =
-    let h = c.loop-i-test.true in
-    let s = c.requires.small (c.args.first + c.loop-i.i) (omega arith) (omega (arith, h)) in record { i_bound = omega (arith, c.requires.few, h); place_in = omega (arith, c.column_at-j.ensures, s) }
-
-pub overflow_add-i : goal.overflow_add-i
-overflow_add-i c = omega (arith, c.loop-i-test.true)
-
-pub loop-i-smaller : goal.loop-i-smaller
-loop-i-smaller c = omega (arith, c.loop-i-test.true)
 
 pub loop-i-preserved : goal.loop-i-preserved
 loop-i-preserved c = (omega (arith, c.loop-i-test.true), finds_more _ _ c.loop-i.invariant.1 c.with_place-found.ensures (ap some c.column_at-j.ensures))

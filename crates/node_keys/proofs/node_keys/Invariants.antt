@@ -4,6 +4,3 @@ use Rattle.node_keys.proofs.node_keys.Given as goal
 
 abbrev pub invariant-loop-k : goal.invariant-loop-k
 invariant-loop-k l = Towards l.cells l.rows l.nodes l.fields l.widths l.count l.initial.keys l.keys l.k
-
-abbrev pub decreases-loop-k : goal.decreases-loop-k
-decreases-loop-k l = l.k

@@ -5,9 +5,3 @@ use Rattle.node_keys.proofs.projection_key.Goals as goal
 
 pub returns-then-is_empty : goal.returns-then-is_empty
 returns-then-is_empty c = record { is = λ ks k. empty-carried _ k (sym c.is_empty.ensures ∙ c.if-is_empty.true) }
-
-pub found_items-found-requires : goal.found_items-found-requires
-found_items-found-requires c = record { rows_ok = c.requires.rows_ok; row_in = c.requires.row_in }
-
-pub returns : goal.returns
-returns c = record { is = λ ks k. c.carried.ensures.is ks _ k (c.found_items-found.ensures.is ks k) }

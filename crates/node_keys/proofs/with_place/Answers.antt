@@ -6,20 +6,11 @@ use Rattle.node_keys.proofs.with_place.Goals as goal
 pub returns-in_default : goal.returns-in_default
 returns-in_default c = step_computed c.in_default.is
 
-pub returns-then-not-is_in : goal.returns-then-not-is_in
-returns-then-not-is_in c = step_other _ c.in-At.is (sym c.is_in.ensures ∙ c.if-not-is_in.true)
+pub returns-then-not-contains : goal.returns-then-not-contains
+returns-then-not-contains c = step_other _ c.in-Some.is (sym c.contains.ensures ∙ c.if-not-contains.true)
 
-pub with_index-all-requires : goal.with_index-all-requires
-with_index-all-requires c = c.requires.i_bound
-
-pub returns-then-is_in : goal.returns-then-is_in
-returns-then-is_in c = step-again _ c.in-At.is (sym c.is_in.ensures ∙ c.if-not-is_in.false) c.with_index-all.ensures.set (sym c.is_in-2.ensures ∙ c.if-is_in.true) refl refl
-
-pub with_index-requires : goal.with_index-requires
-with_index-requires c = rw c.in-At.is at c.requires.place_in
-
-pub with_index-requires-2 : goal.with_index-requires-2
-with_index-requires-2 c = c.requires.i_bound
+pub returns-then-contains : goal.returns-then-contains
+returns-then-contains c = step-again _ c.in-Some.is (sym c.contains.ensures ∙ c.if-not-contains.false) c.with_index-all.ensures.set (sym c.contains-2.ensures ∙ c.if-contains.true) refl refl
 
 pub returns : goal.returns
-returns c = step-first _ c.in-At.is (sym c.is_in.ensures ∙ c.if-not-is_in.false) c.with_index-all.ensures.set (sym c.is_in-2.ensures ∙ c.if-is_in.false) c.with_index.ensures.set c.with_index-2.ensures.set
+returns c = step-first _ c.in-Some.is (sym c.contains.ensures ∙ c.if-not-contains.false) c.with_index-all.ensures.set (sym c.contains-2.ensures ∙ c.if-contains.false) c.with_index.ensures.set c.with_index-2.ensures.set

@@ -1,36 +1,20 @@
--- `parts::resolve_aggs` meets its contract: what the aggregates passed find is told. Assumes nothing.
-use Rattle.cpl.specs.Exprs.{agg_exprs}
-use Rattle.lookup.specs.Fields.{row_at}
-use Rattle.parts.proofs.Exprs.{agg_seen, each_at, each-room, seen_concat}
-use Rattle.parts.proofs.Strides.{told_all, told_more, told_none}
+-- `parts::resolve_aggs` meets its contract: each aggregate is that of its row. Assumes nothing.
+use Rattle.std.proofs.Common.{rules}
+use Prim.Native.Nat.{◌+◌}
 use mathlib.Core.Path.{◌∙◌}
-use native.Mathlib.Omega.{arith}
+use Rattle.cpl.specs.Accept.{each_passes}
+use Rattle.cpl.specs.Exprs.{agg_exprs}
+use Rattle.cpl.specs.Plan.{Agg}
+use Rattle.lookup.specs.Fields.{fields_of}
+use Rattle.parts.proofs.Exprs.{agg_seen, seen_concat}
+use Rattle.parts.proofs.Strides.{seen-from}
+use Rattle.tree.specs.Rows.{agg_at}
 use Rattle.parts.proofs.resolve_aggs.Goals as goal
-
-pub loop-i-init : goal.loop-i-init
-loop-i-init c = told_none _ _ _ _ _ _ (omega arith)
-
-pub overflow_add-first : goal.overflow_add-first
-overflow_add-first c =
-    omega (arith, each-room c.requires.each_ok _ c.loop-i-test.true)
-
-pub agg_at-row-requires : goal.agg_at-row-requires
-agg_at-row-requires c =
-    (each_at c.requires.each_ok _ c.loop-i-test.true).inside
-
-pub resolve_call-one-requires : goal.resolve_call-one-requires
-resolve_call-one-requires c = record { wf = c.agg_at-row.ensures.node _ (each_at c.requires.each_ok _ c.loop-i-test.true); row_clear = c.requires.row_clear }
-
-pub overflow_add-i : goal.overflow_add-i
-overflow_add-i c = omega arith
-
-pub loop-i-smaller : goal.loop-i-smaller
-loop-i-smaller c = omega arith
-
-pub loop-i-preserved : goal.loop-i-preserved
-loop-i-preserved c =
-    told_more _ _ _ _ _ _ _ c.loop-i.invariant _ c.loop-i-test.true (agg_seen _ _ c.agg_at-row.ensures c.resolve_call-one.ensures) c.both_resolved-all.ensures (omega arith)
 
 pub returns : goal.returns
 returns c =
-    told_all _ _ _ _ _ _ _ c.loop-i.invariant c.loop-i-test.false ∙ seen_concat (row_at c.args.fields.now c.args.at c.args.width) agg_exprs _
+    let fs = fields_of c.args.schema.now in
+    let read = agg_at c.args.rows.now c.args.cells.now in
+    let seen = λ (g : Agg). each_passes (agg_exprs g) fs in
+    c.resolve_each.ensures (λ i. seen (read (c.args.first + i))) (λ i h r p. search (rules, agg_seen))
+    ∙ seen-from seen read c.args.first c.args.count ∙ seen_concat fs agg_exprs _

@@ -4,7 +4,7 @@ use Rattle.projections.proofs.Tests.{Bare}
 use Rattle.projections.proofs.all_bare.Given as goal
 
 abbrev pub invariant-loop-i : goal.invariant-loop-i
-invariant-loop-i l = Bare l.items l.first l.count l.kept l.from
+invariant-loop-i l = Bare l.list.rows.now l.list.first l.list.count l.kept l.from
 
 abbrev pub decreases-loop-i : goal.decreases-loop-i
-decreases-loop-i l = l.count - l.from
+decreases-loop-i l = l.list.count - l.from

@@ -4,7 +4,7 @@ use Rattle.projections.proofs.Tests.{Alike}
 use Rattle.projections.proofs.is_projection_unnecessary.Given as goal
 
 abbrev pub invariant-loop-i : goal.invariant-loop-i
-invariant-loop-i l = Alike l.fields l.start l.width l.kept l.lower l.input_width l.input_kept l.from l.at
+invariant-loop-i l = Alike l.own.fields.now l.own.first l.own.width l.kept l.input.fields.now l.input.first l.input.width l.input_kept l.from l.at
 
 abbrev pub decreases-loop-i : goal.decreases-loop-i
-decreases-loop-i l = l.width - l.from
+decreases-loop-i l = l.own.width - l.from

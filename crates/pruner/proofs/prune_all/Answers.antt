@@ -1,13 +1,22 @@
 -- `pruner::prune_all` meets its contract: a request of all fields, in arrays for the file. Assumes nothing.
-use Rattle.pruner.proofs.Entries.{of_all}
+use Rattle.acceptance.proofs.Rooms.{narrow_fits, wide_fits}
+use Rattle.acceptance.proofs.Ways.{are_bytes}
+use Rattle.pruner.proofs.Entries.{of_all, promised}
+use native.Mathlib.Omega.{arith}
 use Rattle.pruner.proofs.prune_all.Goals as goal
 
-pub prune_narrow-requires : goal.prune_narrow-requires
-prune_narrow-requires c =
-    c.is_narrow.ensures c.if-is_narrow.true
+pub prune_made-requires : goal.prune_made-requires
+prune_made-requires c = record { fits = narrow_fits _ (c.is_narrow.ensures c.if-is_narrow.true); few = omega arith }
+
+pub prune_made-requires-2 : goal.prune_made-requires-2
+prune_made-requires-2 c = record { fits = wide_fits _; few = omega arith }
 
 pub returns-then-is_narrow : goal.returns-then-is_narrow
-returns-then-is_narrow c = let w = of_all _ _ _ _ _ (c.prune_narrow.ensures.answer_is, c.prune_narrow.ensures.promised) in record { answer_is = w.0; promised = w.1 }
+returns-then-is_narrow c =
+    let w = of_all _ _ _ _ _ (promised _ _ _ _ _ (are_bytes _ (λ i. omega (arith, c.type_inv.file i))) c.prune_made.ensures) in
+    rw c.from.ensures (record { answer_is = w.0; promised = w.1 })
 
 pub returns : goal.returns
-returns c = let w = of_all _ _ _ _ _ (c.prune_wide.ensures.answer_is, c.prune_wide.ensures.promised) in record { answer_is = w.0; promised = w.1 }
+returns c =
+    let w = of_all _ _ _ _ _ (promised _ _ _ _ _ (are_bytes _ (λ i. omega (arith, c.type_inv.file i))) c.prune_made-2.ensures) in
+    rw c.from-2.ensures (record { answer_is = w.0; promised = w.1 })

@@ -1,19 +1,24 @@
--- `number` meets its contract: each width by its own reader. Assumes nothing.
-use Rattle.reader_fields.proofs.Laws.{one_byte}
+-- `number` meets its contract. Assumes nothing.
+use native.Mathlib.Omega.{arith}
+use Rattle.reader_fields.proofs.Laws.{none_spelt, one_spelt, all_spelt, spelt_fits}
 use Rattle.reader_fields.proofs.number.Goals as goal
 
-pub returns-in-1 : goal.returns-in-1
-returns-in-1 c =
-    rw c.in-1.is (one_byte _ _ _ 0 c.byte.ensures.0 c.byte.ensures.1)
+pub loop-b-init : goal.loop-b-init
+loop-b-init c =
+    rw (c.into_iter-b-iterator.ensures.into_iter_gives, c.rev-b-items.ensures.source) (none_spelt _ _ _ c.requires.0 _ c.iter.ensures.rest)
 
-pub returns-in-2 : goal.returns-in-2
-returns-in-2 c =
-    rw c.in-2.is c.two.ensures
+pub overflow_mul-n : goal.overflow_mul-n
+overflow_mul-n c =
+    omega (arith, spelt_fits _ _ _ _ _ _ _ c.loop-b.invariant c.in-Some.ensures.steps c.requires.1)
 
-pub returns-in-4 : goal.returns-in-4
-returns-in-4 c =
-    rw c.in-4.is c.four.ensures
+pub overflow_add-n : goal.overflow_add-n
+overflow_add-n c =
+    omega (arith, spelt_fits _ _ _ _ _ _ _ c.loop-b.invariant c.in-Some.ensures.steps c.requires.1, c.from.type_inv)
 
-pub returns-in-8 : goal.returns-in-8
-returns-in-8 c =
-    rw c.in-8.is c.eight.ensures
+pub loop-b-preserved : goal.loop-b-preserved
+loop-b-preserved c =
+    rw c.from.ensures (one_spelt _ _ _ _ _ _ _ c.loop-b.invariant c.in-Some.ensures.steps (λ j. omega (arith, c.type_inv.file j)))
+
+pub returns : goal.returns
+returns c =
+    all_spelt _ _ _ _ _ c.loop-b.invariant c.in-None.ensures.steps.0

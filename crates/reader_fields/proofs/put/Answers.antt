@@ -1,14 +1,9 @@
 -- `put` meets its contract. Assumes nothing.
 use native.Mathlib.Omega.{arith}
-use native.Mathlib.Numerals.{add-one, add-two}
-use lib.ListN.{length-set}
+use Rattle.std.proofs.Common.{[], ◌∷◌}
+use Rattle.reader_fields.proofs.Sets.{sets_copied}
 use Rattle.reader_fields.proofs.put.Goals as goal
 
-pub bounds-cells-base-2 : goal.bounds-cells-base-2
-bounds-cells-base-2 c = simp length-set (omega arith)
-
-pub bounds-cells-base-3 : goal.bounds-cells-base-3
-bounds-cells-base-3 c = simp length-set (omega arith)
-
 pub returns : goal.returns
-returns c = simp (add-one, add-two)
+returns c =
+    sets_copied _ _ _ _ (c.args.tag ∷ c.args.x ∷ c.args.y ∷ []) c.copy_from_slice.ensures.after (omega arith) (omega arith)

@@ -1,26 +1,26 @@
 -- `read_index` meets its contract. Assumes nothing.
+use Rattle.std.proofs.lemmas.Result.{err_from_is_err_and}
 use lib.Dec.{ltb}
 use borrow.Author.Tests.{lt-ltb, le-ltb}
 use Rattle.cpl.specs.Read.{index}
 use Rattle.reader_fields.proofs.Laws.{value-bad, value_no, value-ok}
 use Rattle.reader_fields.proofs.read_index.Goals as goal
 
-pub returns-in_default : goal.returns-in_default
+pub returns-in_err-found : goal.returns-in_err-found
 unfolding index
-returns-in_default c =
-    let e = value-bad _ _ _ (λ x. ltb x c.args.n) (rw c.in_default.is at c.read_number-found.ensures) in
-    rw c.in_default.is (e, e)
+returns-in_err-found c =
+    let p = err_from_is_err_and c.from_residual.result c.from_residual.ensures.1 in
+    let e = value-bad _ _ _ (λ x. ltb x c.args.n) c.in_err-found.ensures in
+    rw (p.1, p.2) (e, e)
 
-pub returns-then-n-x : goal.returns-then-n-x
+pub returns-then-n-found : goal.returns-then-n-found
 unfolding index
-returns-then-n-x c =
-    let h = rw c.in-Got.is at c.read_number-found.ensures in
-    let e = value_no _ _ _ (λ x. ltb x c.args.n) h.0 (le-ltb _ _ c.if-n-x.true) in
-    (e, e)
+returns-then-n-found c =
+    let e = value_no _ _ _ (λ x. ltb x c.args.n) c.in_ok-found.ensures.0 (le-ltb _ _ c.if-n-found.true) in
+    rw (c.new.ensures.0, c.new.ensures.1) (e, e)
 
 pub returns : goal.returns
 unfolding index
 returns c =
-    let h = rw c.in-Got.is at c.read_number-found.ensures in
-    let e = value-ok _ _ _ (λ x. ltb x c.args.n) h.0 (lt-ltb _ _ c.if-n-x.false) in
-    ((e, c.if-n-x.false), (e, h.1))
+    let e = value-ok _ _ _ (λ x. ltb x c.args.n) c.in_ok-found.ensures.0 (lt-ltb _ _ c.if-n-found.false) in
+    ((e, c.if-n-found.false), (e, c.in_ok-found.ensures.1))

@@ -1,4 +1,5 @@
 -- `read_leaf` meets its contract. Assumes nothing.
+use native.Mathlib.Omega.{arith}
 use Rattle.reader_fields.proofs.Exprs.{leaf-column, leaf-literal, leaf-missing}
 use Rattle.reader_fields.proofs.read_leaf.Goals as goal
 
@@ -12,4 +13,4 @@ returns-in-1 c =
 
 pub returns-in_default : goal.returns-in_default
 returns-in_default c =
-    leaf-missing _ _ _ c.in_default.in_default-own.rest.0.1 c.in_default.in_default-own.rest.1 c.put.ensures c.requires.1
+    leaf-missing _ _ _ (omega arith) (omega arith) c.put.ensures c.requires.1

@@ -1,12 +1,13 @@
 -- `read_literal` meets its contract. Assumes nothing.
+use Rattle.std.proofs.lemmas.Result.{err_from_is_err_and}
 use Rattle.reader_fields.proofs.Exprs.{literal-bad, literal-ok}
 use Rattle.reader_fields.proofs.read_literal.Goals as goal
 
-pub returns-in-Bad : goal.returns-in-Bad
-returns-in-Bad c =
-    literal-bad _ _ _ (rw c.in-Bad.is at c.read_number-value.ensures)
+pub returns-in_err-number : goal.returns-in_err-number
+returns-in_err-number c =
+    let p = err_from_is_err_and c.from_residual.result c.from_residual.ensures.1 in
+    rw (p.1, p.2) (literal-bad _ _ _ c.in_err-number.ensures)
 
-pub returns-in-Got : goal.returns-in-Got
-returns-in-Got c =
-    let h = rw c.in-Got.is at c.read_number-value.ensures in
-    literal-ok _ _ _ h.0 h.1 c.put.ensures c.requires.1
+pub returns : goal.returns
+returns c =
+    literal-ok _ _ _ c.in_ok-number.ensures.0 c.in_ok-number.ensures.1 c.put.ensures c.requires.1

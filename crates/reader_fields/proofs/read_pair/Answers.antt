@@ -1,18 +1,18 @@
 -- `read_pair` meets its contract. Assumes nothing.
+use Rattle.std.proofs.lemmas.Result.{err_from_is_err_and}
 use Rattle.reader_fields.proofs.Laws.{pair-bad, pair-bad-name, pair_ok}
 use Rattle.reader_fields.proofs.read_pair.Goals as goal
 
-pub returns-in-Bad : goal.returns-in-Bad
-returns-in-Bad c =
-    pair-bad _ _ (rw c.in-Bad.is at c.read_number-first.ensures)
+pub returns-in_err-qualifier : goal.returns-in_err-qualifier
+returns-in_err-qualifier c =
+    let p = err_from_is_err_and c.from_residual.result c.from_residual.ensures.1 in
+    rw (p.1, p.2) (pair-bad _ _ c.in_err-qualifier.ensures)
 
-pub returns-in-Bad-second : goal.returns-in-Bad-second
-returns-in-Bad-second c =
-    let h = rw c.in-Got.is at c.read_number-first.ensures in
-    pair-bad-name _ _ h.0 (rw c.in-Bad-second.is at c.read_name-second.ensures)
+pub returns-in_err-name : goal.returns-in_err-name
+returns-in_err-name c =
+    let p = err_from_is_err_and c.from_residual-in_err-name.result c.from_residual-in_err-name.ensures.1 in
+    rw (p.1, p.2) (pair-bad-name _ _ c.in_ok-qualifier.ensures.0 c.in_err-name.ensures)
 
-pub returns-in-Got-second : goal.returns-in-Got-second
-returns-in-Got-second c =
-    let h = rw c.in-Got.is at c.read_number-first.ensures in
-    let g = rw c.in-Got-second.is at c.read_name-second.ensures in
-    (pair_ok _ _ h.0 g.0, h.1, g.1)
+pub returns : goal.returns
+returns c =
+    (pair_ok _ _ c.in_ok-qualifier.ensures.0 c.in_ok-name.ensures.0, c.in_ok-qualifier.ensures.1, c.in_ok-name.ensures.1)

@@ -1,4 +1,5 @@
 -- `read_filter` meets its contract. Assumes nothing.
+use Rattle.std.proofs.lemmas.Result.{err_from_is_err_and}
 use native.Mathlib.Omega.{arith}
 use mathlib.Core.Path.{refl}
 use Rattle.reader_fields.proofs.Exprs.{reads-grown}
@@ -8,13 +9,14 @@ use Rattle.reader_heads.proofs.read_filter.Goals as goal
 
 pub overflow_sub-result : goal.overflow_sub-result
 overflow_sub-result c =
-    let g = reads-grown _ _ _ _ _ (rw c.in-Done.is at c.read_expr-e.ensures) in
+    let g = reads-grown _ _ _ _ _ (rw c.in_ok-e.was at c.read_expr.ensures) in
     omega (arith, g)
 
-pub returns-in-Bad : goal.returns-in-Bad
-returns-in-Bad c =
-    λ C rows place n. filter-bad _ _ _ _ _ n (rw c.in-Bad.is at c.read_expr-e.ensures)
+pub returns-in_err-e : goal.returns-in_err-e
+returns-in_err-e c =
+    let p = err_from_is_err_and c.from_residual.result c.from_residual.ensures.1 in
+    λ C rows place n. rw (p.1, p.2) (filter-bad _ _ _ _ _ n (rw c.in_err-e.was at c.read_expr.ensures))
 
-pub returns-in-Done : goal.returns-in-Done
-returns-in-Done c =
-    λ C rows place n. (_, filter-took _ _ _ _ _ _ _ _ n _ _ refl (expr_took _ _ _ _ _ (rw c.in-Done.is at c.read_expr-e.ensures) rows n))
+pub returns : goal.returns
+returns c =
+    λ C rows place n. (_, filter-took _ _ _ _ _ _ _ _ n _ _ refl (expr_took _ _ _ _ _ (rw c.in_ok-e.was at c.read_expr.ensures) rows n))

@@ -1,27 +1,8 @@
 -- `read_head` meets its contract. Assumes nothing.
-use native.Mathlib.Omega.{arith}
 use Rattle.reader_heads.proofs.Heads.{head-version, union-took, distinct-took, head-value}
 use Rattle.reader_heads.specs.Heads.{in_version}
 use Rattle.versions.specs.Versions.{version_of}
-use Rattle.versions.proofs.Small.{small}
 use Rattle.reader_heads.proofs.read_head.Goals as goal
-
-pub read_projection-requires : goal.read_projection-requires
-read_projection-requires c = omega (arith, c.requires.made_le_tags, (small c.requires.known).wide-small)
-
-pub read_aggregate-requires : goal.read_aggregate-requires
-read_aggregate-requires c = omega (arith, c.requires.made_le_tags, (small c.requires.known).wide-small)
-
-pub read_window-requires : goal.read_window-requires
-read_window-requires c = omega (arith, c.requires.made_le_tags, (small c.requires.known).wide-small)
-
-pub read_scan-requires : goal.read_scan-requires
-read_scan-requires c =
-    let v = small c.requires.known in
-    omega (arith, c.requires.made_le_tags, v.wide-small, v.late-small, v.scan-rows)
-
-pub read_empty-requires : goal.read_empty-requires
-read_empty-requires c = omega (arith, c.requires.made_le_tags, (small c.requires.known).wide-small)
 
 pub returns-in-1 : goal.returns-in-1
 returns-in-1 c =
@@ -73,4 +54,4 @@ returns-in-12 c =
 
 pub returns-in_default : goal.returns-in_default
 returns-in_default c =
-    λ C same wide n. head-value C _ _ _ _ _ n c.in_default.in_default-own.rest.0.0.0.0.0.0.0.0.0.0.0.1 c.in_default.in_default-own.rest.0.0.0.0.0.0.0.0.0.0.1 c.in_default.in_default-own.rest.0.0.0.0.0.0.0.0.0.1 c.in_default.in_default-own.rest.0.0.0.0.0.0.0.0.1 c.in_default.in_default-own.rest.0.0.0.0.0.0.0.1 c.in_default.in_default-own.rest.0.0.0.0.0.0.1 c.in_default.in_default-own.rest.0.0.0.0.0.1 c.in_default.in_default-own.rest.0.0.0.0.1 c.in_default.in_default-own.rest.0.0.0.1 c.in_default.in_default-own.rest.0.0.1 c.in_default.in_default-own.rest.0.1 c.in_default.in_default-own.rest.1
+    λ C same wide n. rw (c.new.ensures.0, c.new.ensures.1) (head-value C _ _ _ _ _ n c.in_default.in_default-own.rest.0.0.0.0.0.0.0.0.0.0.0.1 c.in_default.in_default-own.rest.0.0.0.0.0.0.0.0.0.0.1 c.in_default.in_default-own.rest.0.0.0.0.0.0.0.0.0.1 c.in_default.in_default-own.rest.0.0.0.0.0.0.0.0.1 c.in_default.in_default-own.rest.0.0.0.0.0.0.0.1 c.in_default.in_default-own.rest.0.0.0.0.0.0.1 c.in_default.in_default-own.rest.0.0.0.0.0.1 c.in_default.in_default-own.rest.0.0.0.0.1 c.in_default.in_default-own.rest.0.0.0.1 c.in_default.in_default-own.rest.0.0.1 c.in_default.in_default-own.rest.0.1 c.in_default.in_default-own.rest.1)

@@ -1,17 +1,9 @@
 -- `put_row` meets its contract. Assumes nothing.
 use native.Mathlib.Omega.{arith}
-use native.Mathlib.Numerals.{add-one, add-two, add-three}
-use lib.ListN.{length-set}
+use Rattle.std.proofs.Common.{[], ◌∷◌}
+use Rattle.reader_fields.proofs.Sets.{sets_copied}
 use Rattle.reader_parts.proofs.put_row.Goals as goal
 
-pub bounds-rows-base-2 : goal.bounds-rows-base-2
-bounds-rows-base-2 c = simp length-set (omega arith)
-
-pub bounds-rows-base-3 : goal.bounds-rows-base-3
-bounds-rows-base-3 c = simp length-set (omega arith)
-
-pub bounds-rows-base-4 : goal.bounds-rows-base-4
-bounds-rows-base-4 c = simp length-set (omega arith)
-
 pub returns : goal.returns
-returns c = simp (add-one, add-two, add-three)
+returns c =
+    sets_copied _ _ _ _ (c.args.a ∷ c.args.b ∷ c.args.c ∷ c.args.d ∷ []) c.copy_from_slice.ensures.after (omega arith) (omega arith)

@@ -1,18 +1,13 @@
 -- `read_key` meets its contract. Assumes nothing.
-use native.Mathlib.Omega.{arith}
+use Rattle.std.proofs.lemmas.Result.{err_from_is_err_and}
 use Rattle.reader_parts.proofs.Parts.{key-bad, key_right}
 use Rattle.reader_parts.proofs.read_key.Goals as goal
 
-pub read_member-requires : goal.read_member-requires
-read_member-requires c =
-    let e = rw c.in-Got.is at c.read_below-flags.ensures in
-    omega (arith, e.0.1, c.requires)
+pub returns-in_err-flags : goal.returns-in_err-flags
+returns-in_err-flags c =
+    let p = err_from_is_err_and c.from_residual.result c.from_residual.ensures.1 in
+    rw (p.1, p.2) (key-bad _ _ _ c.in_err-flags.ensures.0)
 
-pub returns-in-Bad : goal.returns-in-Bad
-returns-in-Bad c =
-    key-bad _ _ _ (rw c.in-Bad.is at c.read_below-flags.ensures).0
-
-pub returns-in-Got : goal.returns-in-Got
-returns-in-Got c =
-    let e = rw c.in-Got.is at c.read_below-flags.ensures in
-    key_right _ _ e.0.0 e.0.1 _ _ _ _ c.read_member.result c.read_member.ensures
+pub returns : goal.returns
+returns c =
+    key_right _ _ c.in_ok-flags.ensures.0.0 c.in_ok-flags.ensures.0.1 _ _ _ _ c.read_member.result c.read_member.ensures

@@ -1,28 +1,24 @@
 -- `read_member` meets its contract. Assumes nothing.
 use native.Mathlib.Omega.{arith}
 use Rattle.reader_fields.proofs.Exprs.{reads-grown}
-use Rattle.reader_parts.proofs.Parts.{expr_bad, member-took}
+use Rattle.reader_parts.proofs.Parts.{member-took}
 use Rattle.reader_parts.proofs.read_member.Goals as goal
-
-pub returns-in_default : goal.returns-in_default
-returns-in_default c =
-    rw c.in_default.is (expr_bad _ _ _ (rw c.in_default.is at c.read_expr-e.ensures))
 
 pub overflow_sub-t : goal.overflow_sub-t
 overflow_sub-t c =
-    let g = reads-grown _ _ _ _ _ (rw c.in-Done.is at c.read_expr-e.ensures) in
+    let g = reads-grown _ _ _ _ _ c.in_ok-t.ensures in
     omega (arith, g)
 
 pub put_row-requires : goal.put_row-requires
 put_row-requires c =
-    let g = reads-grown _ _ _ _ _ (rw c.in-Done.is at c.read_expr-e.ensures) in
+    let g = reads-grown _ _ _ _ _ c.in_ok-t.ensures in
     omega (arith, g, c.requires)
 
 pub overflow_add-result : goal.overflow_add-result
 overflow_add-result c =
-    let g = reads-grown _ _ _ _ _ (rw c.in-Done.is at c.read_expr-e.ensures) in
+    let g = reads-grown _ _ _ _ _ c.in_ok-t.ensures in
     omega (arith, g, c.requires, c.well_formed)
 
 pub returns : goal.returns
 returns c =
-    member-took _ _ _ _ _ _ _ _ (rw c.in-Done.is at c.read_expr-e.ensures) c.put_row.ensures
+    member-took _ _ _ _ _ _ _ _ c.in_ok-t.ensures c.put_row.ensures

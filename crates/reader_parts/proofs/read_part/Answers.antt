@@ -1,10 +1,5 @@
 -- `read_part` meets its contract. Assumes nothing.
-use native.Mathlib.Omega.{arith}
 use Rattle.reader_parts.proofs.read_part.Goals as goal
-
-pub read_index-requires : goal.read_index-requires
-read_index-requires c =
-    omega (arith, c.requires, rw c.in-Column.is at c.requires.4)
 
 pub returns-in-Item : goal.returns-in-Item
 returns-in-Item c =

@@ -1,51 +1,48 @@
 -- `read_rest` meets its contract. Assumes nothing.
 use native.Mathlib.Omega.{arith}
+use Rattle.std.proofs.lemmas.Result.{err_from_is_err_and}
 use Rattle.cpl.specs.Read.{any}
 use Rattle.reader_parts.proofs.Counts.{from-any}
 use Rattle.reader_parts.proofs.Wins.{rest-bad, rest-keys-bad, rest_call_bad, rest-took}
 use Rattle.reader_parts.proofs.read_rest.Goals as goal
 
-pub read_parts-keys-requires : goal.read_parts-keys-requires
-read_parts-keys-requires c =
-    let e = rw c.in-Got.is at (c.read_count-count.ensures any from-any) in
+pub returns-in_err-count : goal.returns-in_err-count
+returns-in_err-count c =
+    let p = err_from_is_err_and c.from_residual.result c.from_residual.ensures.1 in
+    rw (p.1, p.2) (rest-bad _ _ _ _ (c.in_err-count.ensures any from-any))
+
+pub read_parts-requires : goal.read_parts-requires
+read_parts-requires c =
+    let e = c.in_ok-count.ensures any from-any in
     omega (arith, e.1, c.requires)
 
-pub returns-in_default : goal.returns-in_default
-returns-in_default c =
-    let e = rw c.in-Got.is at (c.read_count-count.ensures any from-any) in
-    rw c.in_default.is (rest-keys-bad _ _ _ _ e.0 (rw c.in_default.is at c.read_parts-keys.ensures))
+pub returns-in_err-t : goal.returns-in_err-t
+returns-in_err-t c =
+    let p = err_from_is_err_and c.from_residual-in_err-t.result c.from_residual-in_err-t.ensures.1 in
+    rw (p.1, p.2) (rest-keys-bad _ _ _ _ (c.in_ok-count.ensures any from-any).0 c.in_err-t.ensures)
 
-pub read_call-call-requires : goal.read_call-call-requires
-read_call-call-requires c =
-    let a = rw c.in-Done.is at c.read_parts-keys.ensures in
-    let g = a 0 in
+pub read_call-requires : goal.read_call-requires
+read_call-requires c =
+    let g = c.in_ok-t.ensures 0 in
     omega (arith, g.made_is, g.grown, g.few, c.requires)
 
-pub returns-in_default-call : goal.returns-in_default-call
-returns-in_default-call c =
-    let e = rw c.in-Got.is at (c.read_count-count.ensures any from-any) in
-    λ n. rw c.in_default-call.is (rest_call_bad _ _ _ _ e.0 n (rw c.in-Done.is at c.read_parts-keys.ensures n).is (rw c.in_default-call.is at c.read_call-call.ensures n))
+pub returns-in_err-u : goal.returns-in_err-u
+returns-in_err-u c =
+    let p = err_from_is_err_and c.from_residual-in_err-u.result c.from_residual-in_err-u.ensures.1 in
+    λ n. rw (p.1, p.2) (rest_call_bad _ _ _ _ (c.in_ok-count.ensures any from-any).0 n (c.in_ok-t.ensures n).is (c.in_err-u.ensures n))
 
 pub root-e-requires : goal.root-e-requires
 root-e-requires c =
-    let b = rw c.in-Done-call.is at c.read_call-call.ensures in
-    let h = b 0 in
+    let h = c.in_ok-u.ensures 0 in
     omega (arith, h.made_is)
 
 pub put_row-requires : goal.put_row-requires
 put_row-requires c =
-    let e = rw c.in-Got.is at (c.read_count-count.ensures any from-any) in
-    let a = rw c.in-Done.is at c.read_parts-keys.ensures in
-    let g = a 0 in
-    let b = rw c.in-Done-call.is at c.read_call-call.ensures in
-    let h = b 0 in
-    omega (arith, g.made_is, g.grown, g.few, h.made_is, h.grown, h.few, e.1, c.root-e.ensures.2, c.requires, c.read_parts-keys.auto.rows)
+    let e = c.in_ok-count.ensures any from-any in
+    let g = c.in_ok-t.ensures 0 in
+    let h = c.in_ok-u.ensures 0 in
+    omega (arith, g.made_is, g.grown, g.few, h.made_is, h.grown, h.few, e.1, c.root-e.ensures.2, c.requires, c.read_parts.auto.rows)
 
-pub returns-in-Bad : goal.returns-in-Bad
-returns-in-Bad c =
-    rest-bad _ _ _ _ (rw c.in-Bad.is at (c.read_count-count.ensures any from-any))
-
-pub returns-in-Done-call : goal.returns-in-Done-call
-returns-in-Done-call c =
-    let e = rw c.in-Got.is at (c.read_count-count.ensures any from-any) in
-    λ n. rest-took _ _ _ e.0 _ _ _ _ _ _ _ _ n (rw c.in-Done.is at c.read_parts-keys.ensures n) (rw c.in-Done-call.is at c.read_call-call.ensures n) _ c.root-e.ensures.0 c.root-e.ensures.1 c.put_row.ensures
+pub returns : goal.returns
+returns c =
+    λ n. rest-took _ _ _ (c.in_ok-count.ensures any from-any).0 _ _ _ _ _ _ _ _ n (c.in_ok-t.ensures n) (c.in_ok-u.ensures n) _ c.root-e.ensures.0 c.root-e.ensures.1 c.put_row.ensures

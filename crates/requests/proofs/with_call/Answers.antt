@@ -3,7 +3,6 @@ use borrow.Author.Tests.{eq-eqb, ne_eqb}
 use mathlib.Core.Path.{◌≡◌}
 use mathlib.Core.List.{[], ◌∷◌}
 use Prim.Native.Nat.{ℕ}
-use native.Mathlib.Omega.{arith}
 use Rattle.cpl.specs.Exprs.{call_exprs}
 use Rattle.cpl.specs.Plan.{Expr}
 use Rattle.tree.specs.Rows.{call_of}
@@ -21,9 +20,6 @@ a_call f e h = rw (ne_eqb f 0 h)
 pub returns-then-function-eq0 : goal.returns-then-function-eq0
 returns-then-function-eq0 c =
     rw (no_call _ _ c.if-function-eq0.true) adds_none
-
-pub add_expr-requires : goal.add_expr-requires
-add_expr-requires c = record { wf = c.requires.wf (omega (arith, c.if-function-eq0.false)); below = c.requires.below }
 
 pub returns : goal.returns
 returns c =

@@ -1,15 +1,8 @@
 -- `requests::with_windows` meets its contract. The invariant: what is left to be added are the picked windows from row `at` on. Assumes nothing.
-use mathlib.Core.Path.{◌≡◌, sym, ◌∙◌}
-use Prim.Native.Nat.{◌-◌}
-use native.Mathlib.Omega.{arith}
-use Rattle.requests.proofs.Lists.{all_here, list-end, list-next, picked_all, picked_no, picked_none, picked_yes}
+use mathlib.Core.Path.{sym, ◌∙◌}
+use Rattle.requests.proofs.Lists.{all_here, list-end, list-next, picked_all, picked_no, picked_yes}
 use Rattle.requests.proofs.with_windows.Goals as goal
 use Rattle.requests.proofs.with_windows.Goals.{then-contains, else-contains}
-
-pub loop-i-init : goal.loop-i-init
-loop-i-init c =
-    let e : c.args.count - 0 ≡ c.args.count = omega arith in
-    (picked_none (rw e), rw e c.requires.all_at)
 
 pub win_at-w-requires : goal.win_at-w-requires
 win_at-w-requires c =
@@ -17,14 +10,6 @@ win_at-w-requires c =
 
 pub with_window-out-requires : goal.with_window-out-requires
 with_window-out-requires c = record { win_ok = (all_here _ _ _ _ _ c.loop-i-test.true c.loop-i.invariant.1).0; below = c.requires.below }
-
-pub overflow_add-i : goal.overflow_add-i
-overflow_add-i c =
-    omega (arith, c.loop-i-test.true)
-
-pub loop-i-smaller : goal.loop-i-smaller
-loop-i-smaller c =
-    omega (arith, c.loop-i-test.true)
 
 pub loop-i-preserved : goal.loop-i-preserved
 loop-i-preserved c =

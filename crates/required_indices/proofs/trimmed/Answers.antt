@@ -1,16 +1,8 @@
 -- `required_indices::trimmed` meets its contract.
 use native.Mathlib.Omega.{arith}
-use Prim.Native.Nat.{ℕ, ◌-◌}
-use mathlib.Core.Path.{◌≡◌, ap}
-use lib.ListN.{take}
-use Rattle.required_indices.specs.Words.{number}
+use Prim.Native.Nat.{◌-◌}
 use Rattle.required_indices.proofs.Pads.{trim}
 use Rattle.required_indices.proofs.trimmed.Goals as goal
-
-pub returns-then-n-eq0 : goal.returns-then-n-eq0
-returns-then-n-eq0 c =
-    let e : 0 ≡ c.args.n = omega arith in
-    ap (λ (x : ℕ). number (take x c.args.words.now)) e
 
 pub returns-then-words-n-eq0 : goal.returns-then-words-n-eq0
 returns-then-words-n-eq0 c =

@@ -1,4 +1,5 @@
 -- `result::record_at` meets its contract.
+use native.Mathlib.Omega.{arith}
 use Rattle.result.proofs.Forms.{form_columns, form_items, form_kept, form_nothing}
 use Rattle.result.proofs.record_at.Goals as goal
 
@@ -16,4 +17,4 @@ returns-in-2 c =
 
 pub returns-in_default : goal.returns-in_default
 returns-in_default c =
-    form_nothing c.args.records.now c.args.i c.in_default.in_default-own.rest.0.0.1 c.in_default.in_default-own.rest.0.1 c.in_default.in_default-own.rest.1
+    form_nothing c.args.records.now c.args.i (λ h. omega arith) (λ h. omega arith) (λ h. omega arith)

@@ -1,14 +1,14 @@
 -- `shapes::empty_shape` meets its contract. Assumes nothing.
-use mathlib.Core.Path.{◌∙◌}
+use Rattle.std.proofs.Common.{Bool, true, false, ◌≡◌, refl, ◌∙◌}
+use Rattle.std.specs.Int.{from_bool}
 use Rattle.cpl.specs.Codes.{bit}
 use Rattle.shapes.proofs.empty_shape.Goals as goal
 
-pub returns-then-one_row : goal.returns-then-one_row
+bit_is : (b : Bool) → from_bool b ≡ bit b
 unfolding bit
-returns-then-one_row c =
-    c.plain.ensures ∙ rw (c.if-one_row.true, c.all_of-list.ensures)
+bit_is true = refl
+bit_is false = refl
 
 pub returns : goal.returns
-unfolding bit
 returns c =
-    c.plain-2.ensures ∙ rw (c.if-one_row.false, c.all_of-list.ensures)
+    c.plain.ensures ∙ rw (c.from.ensures, c.all_of.ensures, bit_is c.args.one_row)

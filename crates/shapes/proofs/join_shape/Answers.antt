@@ -1,20 +1,20 @@
 -- `shapes::join_shape` meets its contract. Assumes nothing.
-use native.Mathlib.Omega.{arith}
+use Rattle.std.proofs.Common.{arith}
 use Rattle.shapes.proofs.Segments.{join-small}
 use Rattle.shapes.proofs.join_shape.Goals as goal
+use Rattle.shapes.proofs.join_shape.Goals.{then-j, else-j}
 
-pub overflow_mul-x : goal.overflow_mul-x
-overflow_mul-x c =
-    omega (arith, c.join_number.ensures, join-small c.args.j.join_type)
+pub overflow_mul-result : goal.overflow_mul-result
+overflow_mul-result c =
+    omega (arith, c.from.ensures, join-small c.args.j.join_type)
 
-pub overflow_add-x : goal.overflow_add-x
-overflow_add-x c =
-    omega (arith, c.join_number.ensures, join-small c.args.j.join_type)
-
-pub returns-then-j : goal.returns-then-j
-returns-then-j c =
-    rw (c.if-j.true, c.join_number.ensures, c.all_of-first.ensures)
+pub overflow_add-result : goal.overflow_add-result
+overflow_add-result c =
+    omega (arith, c.from.ensures, join-small c.args.j.join_type)
 
 pub returns : goal.returns
 returns c =
-    rw (c.if-j.false, c.join_number.ensures, c.all_of-first.ensures)
+    elim c.if-j.branch [
+      | then-j w ↦ rw (w.second-is, w.if-j.true, c.from.ensures, c.all_of.ensures)
+      | else-j w ↦ rw (w.second-is, w.if-j.false, c.from.ensures, c.all_of.ensures)
+    ]

@@ -1,10 +1,10 @@
 -- `shapes::scan_shape` meets its contract. Assumes nothing.
 use Rattle.shapes.proofs.scan_shape.Goals as goal
-
-pub returns-then-s : goal.returns-then-s
-returns-then-s c =
-    rw (c.if-s.true, c.wide16.ensures, c.all_of-second.ensures)
+use Rattle.shapes.proofs.scan_shape.Goals.{then-s, else-s}
 
 pub returns : goal.returns
 returns c =
-    rw (c.if-s.false, c.wide16.ensures, c.all_of-second.ensures)
+    elim c.if-s.branch [
+      | then-s w ↦ rw (c.at_set.ensures, c.all_of.ensures, c.from.ensures, w.part-is, w.if-s.true)
+      | else-s w ↦ rw (c.at_set.ensures, c.all_of.ensures, c.from.ensures, w.part-is, w.if-s.false)
+    ]

@@ -25,7 +25,7 @@ returns-in-Sort c =
 
 pub returns-in-Limit : goal.returns-in-Limit
 returns-in-Limit c =
-    c.plain-in-Limit.ensures ∙ (rw (c.in-Limit.is, c.wide_of.ensures, c.wide_of-in-Limit.ensures))
+    c.plain-in-Limit.ensures ∙ (rw (c.in-Limit.is, c.from.ensures, c.from-in-Limit.ensures))
 
 pub returns-in-Aggregate : goal.returns-in-Aggregate
 returns-in-Aggregate c =
@@ -37,7 +37,7 @@ returns-in-Window c =
 
 pub returns-in-SubqueryAlias : goal.returns-in-SubqueryAlias
 returns-in-SubqueryAlias c =
-    c.plain-in-SubqueryAlias.ensures ∙ (rw (c.in-SubqueryAlias.is, c.wide16.ensures))
+    c.plain-in-SubqueryAlias.ensures ∙ (rw (c.in-SubqueryAlias.is, c.from-in-SubqueryAlias.ensures))
 
 pub returns-in-Union : goal.returns-in-Union
 returns-in-Union c =

@@ -1,5 +1,5 @@
 -- `text_parts::put_expr` meets its contract; the measure is the node's number. Assumes nothing.
-use Rattle.arena.proofs.Laws.{below, lower}
+use Rattle.arena.proofs.Laws.{lower}
 use Rattle.text_parts.proofs.Parts.{expr_col, expr_lit, expr_miss, expr_one, expr_two}
 use native.Mathlib.Omega.{arith}
 use Rattle.text_parts.proofs.+put_expr.Goals as goal

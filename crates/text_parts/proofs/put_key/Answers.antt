@@ -1,6 +1,5 @@
 -- `text_parts::put_key` meets its contract. Assumes nothing.
 use Rattle.text_parts.proofs.Parts.{key_put}
-use Rattle.tree.proofs.Plans.{node}
 use Rattle.text_parts.proofs.put_key.Goals as goal
 
 pub put_expr-a-requires : goal.put_expr-a-requires

@@ -1,5 +1,4 @@
 -- `text_parts::put_members` meets its contract. Assumes nothing.
-use Rattle.cpl.specs.Plan.{rows}
 use Rattle.text_parts.proofs.Parts.{first-ok, members-none, members-some, others-ok, part-inside}
 use Rattle.text_parts.specs.Parts.{PartOk, part_text}
 use Rattle.tree.specs.Rows.{one}

@@ -1,34 +1,34 @@
--- `text_parts::put_more` meets its contract: the rows from `row` on are left to be put. Assumes nothing.
+-- `text_parts::put_more` meets its contract: the rows from `first + i` on are left to be put. Assumes nothing.
+use Rattle.std.proofs.Common.{◌+◌, ◌-◌, ◌<◌, ◌≡◌}
 use Rattle.text_parts.proofs.Parts.{first-ok, more-done, more_turn, others-ok, part-inside}
 use Rattle.text_parts.specs.Parts.{PartOk, part_text}
-use Rattle.text_put.proofs.Laws.{begin}
 use Rattle.tree.specs.Rows.{one}
-use mathlib.Core.Path.{refl}
 use native.Mathlib.Omega.{arith}
 use Rattle.text_parts.proofs.put_more.Goals as goal
 
-pub loop-left-init : goal.loop-left-init
-loop-left-init c =
-    (refl, c.requires, begin)
+pub overflow_add-first : goal.overflow_add-first
+overflow_add-first c =
+    let r = c.args.rows.now in
+    let s = c.args.cells.now in
+    let row = c.args.first + c.loop-i.i in
+    let left : 0 < c.args.n - c.loop-i.i = omega arith in
+    omega (arith, part-inside c.args.part r s row (first-ok (PartOk c.args.part r s) one row (c.args.n - c.loop-i.i) left c.loop-i.invariant.left))
 
 pub put_part-end-requires : goal.put_part-end-requires
 put_part-end-requires c =
-    first-ok _ _ _ _ c.loop-left-test.true c.loop-left.invariant.1
+    first-ok _ _ _ _ (omega arith) c.loop-i.invariant.left
 
-pub overflow_add-row : goal.overflow_add-row
-overflow_add-row c =
-    let r = c.args.rows.now in
-    let s = c.args.cells.now in
-    omega (arith, part-inside c.args.part r s c.loop-left.row (first-ok (PartOk c.args.part r s) one c.loop-left.row c.loop-left.left c.loop-left-test.true c.loop-left.invariant.1))
-
-pub loop-left-preserved : goal.loop-left-preserved
-loop-left-preserved c =
-    (omega (arith, c.put_part-end.auto, c.put_text-a.auto, c.loop-left.invariant.0), others-ok _ _ _ _ c.loop-left-test.true c.loop-left.invariant.1, more_turn (part_text c.args.part c.args.rows.now c.args.cells.now) one c.loop-left.row c.loop-left.left c.loop-left-test.true c.loop-left.invariant.2 c.put_text-a.ensures c.put_part-end.ensures)
-
-pub shape_of-out : goal.shape_of-out
-shape_of-out c =
-    omega (arith, c.put_text.auto, c.loop-left.invariant.0)
+pub loop-i-preserved : goal.loop-i-preserved
+loop-i-preserved c =
+    let row : c.args.first + c.loop-i.i + 1 ≡ c.args.first + (c.loop-i.i + 1) = omega arith in
+    let left : c.args.n - c.loop-i.i - 1 ≡ c.args.n - (c.loop-i.i + 1) = omega arith in
+    let some : 0 < c.args.n - c.loop-i.i = omega arith in
+    record {
+      long = omega (arith, c.put_part-end.auto, c.put_text-a.auto, c.loop-i.invariant.long);
+      left = rw (← row, ← left) (others-ok (PartOk c.args.part c.args.rows.now c.args.cells.now) one _ _ some c.loop-i.invariant.left);
+      put = rw (← row, ← left) (more_turn (part_text c.args.part c.args.rows.now c.args.cells.now) one _ _ some c.loop-i.invariant.put c.put_text-a.ensures c.put_part-end.ensures);
+    }
 
 pub returns : goal.returns
 returns c =
-    more-done _ _ _ _ (omega (arith, c.loop-left-test.false)) c.loop-left.invariant.2 c.put_text.ensures
+    more-done _ _ _ _ (omega arith) c.loop-i.invariant.put c.put_text.ensures

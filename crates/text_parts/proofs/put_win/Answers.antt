@@ -1,6 +1,5 @@
 -- `text_parts::put_win` meets its contract. Assumes nothing.
 use Rattle.text_parts.proofs.Parts.{each_all, members_put, win_put}
-use Rattle.tree.proofs.Plans.{node}
 use native.Mathlib.Omega.{arith}
 use Rattle.text_parts.proofs.put_win.Goals as goal
 

@@ -1,5 +1,4 @@
 -- `text_parts::put_wins` meets its contract. Assumes nothing.
-use Rattle.cpl.specs.Plan.{rows}
 use Rattle.text_parts.proofs.Parts.{first-ok, members-none, members-some, others-ok}
 use Rattle.text_parts.specs.Parts.{win_text_at}
 use Rattle.tree.specs.Rows.{WinOk, win_size}

@@ -1,6 +1,4 @@
 -- `text_plan::put_plan` meets its contract; the measure is how many nodes may follow. Assumes nothing.
-use Rattle.arena.proofs.Laws.{below}
-use Rattle.plan_text.specs.Sizes.{few}
 use Rattle.text_plan.proofs.Plans.{first-input, leaf-plan, line_ok, one_input, one_plan, second-after, second-input, two-plan}
 use mathlib.Core.Path.{◌∙◌, sym}
 use native.Mathlib.Omega.{arith}
@@ -28,7 +26,7 @@ overflow_add-level t c =
 pub put_plan-requires : goal.put_plan-requires
 put_plan-requires t c =
     let w = c.requires.walks in
-    (omega (arith, c.decreases, w.below, w.tree.few), (one_input w c.node_at-node.ensures (sym c.node_inputs-i.ensures ∙ c.in-One.is), omega (arith, c.requires.level_le_k)))
+    (omega (arith, c.decreases, w.below, w.tree.few), (one_input w c.node_at-node.ensures (sym c.inputs_of.ensures ∙ c.in-One.is), omega (arith, c.requires.level_le_k)))
 
 pub overflow_add-k-in-Two : goal.overflow_add-k-in-Two
 overflow_add-k-in-Two t c =
@@ -43,7 +41,7 @@ overflow_add-level-in-Two t c =
 pub put_plan-b-requires : goal.put_plan-b-requires
 put_plan-b-requires t c =
     let w = c.requires.walks in
-    (omega (arith, c.decreases, w.below, w.tree.few), (first-input w c.node_at-node.ensures (sym c.node_inputs-i.ensures ∙ c.in-Two.is), omega (arith, c.requires.level_le_k)))
+    (omega (arith, c.decreases, w.below, w.tree.few), (first-input w c.node_at-node.ensures (sym c.inputs_of.ensures ∙ c.in-Two.is), omega (arith, c.requires.level_le_k)))
 
 pub overflow_add-level-in-Two-2 : goal.overflow_add-level-in-Two-2
 overflow_add-level-in-Two-2 t c =
@@ -53,18 +51,18 @@ overflow_add-level-in-Two-2 t c =
 pub put_plan-requires-in-Two : goal.put_plan-requires-in-Two
 put_plan-requires-in-Two t c =
     let w = c.requires.walks in
-    let e = sym c.node_inputs-i.ensures ∙ c.in-Two.is in
+    let e = sym c.inputs_of.ensures ∙ c.in-Two.is in
     let h = second-after w c.node_at-node.ensures e in
     (omega (arith, c.decreases, w.below, w.tree.few, h), (second-input w c.node_at-node.ensures e, omega (arith, c.requires.level_le_k, h)))
 
 pub returns-in-Nothing : goal.returns-in-Nothing
 returns-in-Nothing t c =
-    leaf-plan c.requires.walks c.node_at-node.ensures _ (sym c.node_inputs-i.ensures ∙ c.in-Nothing.is) c.put_line-a.ensures
+    leaf-plan c.requires.walks c.node_at-node.ensures _ (sym c.inputs_of.ensures ∙ c.in-Nothing.is) c.put_line-a.ensures
 
 pub returns-in-One : goal.returns-in-One
 returns-in-One t c =
-    one_plan c.requires.walks c.node_at-node.ensures _ (sym c.node_inputs-i.ensures ∙ c.in-One.is) c.put_line-a.ensures c.put_plan.ensures
+    one_plan c.requires.walks c.node_at-node.ensures _ (sym c.inputs_of.ensures ∙ c.in-One.is) c.put_line-a.ensures c.put_plan.ensures
 
 pub returns-in-Two : goal.returns-in-Two
 returns-in-Two t c =
-    two-plan c.requires.walks c.node_at-node.ensures (sym c.node_inputs-i.ensures ∙ c.in-Two.is) _ c.put_line-a.ensures c.put_plan-b.ensures c.put_plan-in-Two.ensures
+    two-plan c.requires.walks c.node_at-node.ensures (sym c.inputs_of.ensures ∙ c.in-Two.is) _ c.put_line-a.ensures c.put_plan-b.ensures c.put_plan-in-Two.ensures

@@ -6,4 +6,4 @@ use Rattle.text_plan.proofs.put_alias.Goals as goal
 pub returns : goal.returns
 unfolding unary_text
 returns c =
-    c.put_text-a.ensures then (rw c.wide.ensures at c.put_number.ensures)
+    c.put_text-a.ensures then (rw c.from.ensures at c.put_number.ensures)

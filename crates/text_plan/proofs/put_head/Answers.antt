@@ -1,5 +1,4 @@
 -- `text_plan::put_head` meets its contract: by the kind of the node. Assumes nothing.
-use Rattle.cpl.specs.Plan.{rows}
 use Rattle.plan_text.specs.Words.{w_open_list, w_projection, w_sort}
 use Rattle.plan_text.specs.Write.{binary_text, head_text, key_text, list_text, unary_text}
 use Rattle.text_parts.proofs.Parts.{each_all, rows_all}

@@ -1,21 +1,14 @@
 -- `text_plan::put_indent` meets its contract: the spaces of `left` levels are left to be put. Assumes nothing.
 use Rattle.text_plan.proofs.Heads.{indent-done, indent_turn}
-use Rattle.text_put.proofs.Laws.{begin}
-use mathlib.Core.Path.{refl}
+use Rattle.std.proofs.Common.{◌+◌, ◌-◌, ◌≡◌}
 use native.Mathlib.Omega.{arith}
 use Rattle.text_plan.proofs.put_indent.Goals as goal
 
-pub loop-left-init : goal.loop-left-init
-loop-left-init c = (refl, begin)
-
-pub loop-left-preserved : goal.loop-left-preserved
-loop-left-preserved c =
-    (omega (arith, c.put_text-end.auto, c.loop-left.invariant.0), indent_turn _ c.loop-left-test.true c.loop-left.invariant.1 c.put_text-end.ensures)
-
-pub shape_of-out : goal.shape_of-out
-shape_of-out c =
-    c.loop-left.invariant.0
+pub loop-preserved : goal.loop-preserved
+loop-preserved c =
+    let left : c.args.level - c.loop.counter - 1 ≡ c.args.level - (c.loop.counter + 1) = omega arith in
+    (omega (arith, c.put_text-end.auto, c.loop.invariant.0), rw (← left) (indent_turn (c.args.level - c.loop.counter) (omega arith) c.loop.invariant.1 c.put_text-end.ensures))
 
 pub returns : goal.returns
 returns c =
-    indent-done _ (omega (arith, c.loop-left-test.false)) c.loop-left.invariant.1
+    indent-done _ (omega arith) c.loop.invariant.1

@@ -9,4 +9,5 @@ returns-then-x-lt9223372036854775808 c =
 
 pub returns : goal.returns
 returns c =
-    integer_neg c.args.x (omega (arith, c.if-x-lt9223372036854775808.false)) c.put_text-a.ensures c.put_number-2.ensures
+    let a = c.wrapping_neg.ensures in let b = c.wrapping_neg.type_inv in
+    integer_neg c.args.x _ (omega (arith, c.if-x-lt9223372036854775808.false)) (omega (arith, a, b)) c.put_text-a.ensures c.put_number-2.ensures

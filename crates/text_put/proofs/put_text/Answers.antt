@@ -4,17 +4,17 @@ use mathlib.Core.Path.{◌∙◌, refl}
 use native.Mathlib.Omega.{arith}
 use Rattle.text_put.proofs.put_text.Goals as goal
 
-pub loop-i-init : goal.loop-i-init
-loop-i-init c = (omega arith, refl, begin)
+pub loop-b-init : goal.loop-b-init
+loop-b-init c = (omega arith, refl, begin)
 
-pub loop-i-preserved : goal.loop-i-preserved
-loop-i-preserved c =
-    (omega (arith, c.loop-i-test.true), c.put_byte-end.auto.out ∙ c.loop-i.invariant.1, word_turn c.args.s.now c.loop-i.i c.loop-i-test.true c.loop-i.invariant.2 c.put_byte-end.ensures)
+pub loop-b-preserved : goal.loop-b-preserved
+loop-b-preserved c =
+    (omega (arith, c.loop-b-test.true), c.put_byte-end.auto.out ∙ c.loop-b.invariant.1, word_turn c.args.s.now c.loop-b.b-index c.loop-b-test.true c.loop-b.invariant.2 c.put_byte-end.ensures)
 
 pub shape_of-out : goal.shape_of-out
 shape_of-out c =
-    c.loop-i.invariant.1
+    c.loop-b.invariant.1
 
 pub returns : goal.returns
 returns c =
-    word-done c.args.s.now c.loop-i.i (omega (arith, c.loop-i-test.false)) c.loop-i.invariant.2
+    word-done c.args.s.now c.loop-b.b-index (omega (arith, c.loop-b-test.false)) c.loop-b.invariant.2

@@ -1,54 +1,42 @@
 -- `vector_text::bytes` meets its contract: the bytes passed are stored. Assumes nothing.
-use Rattle.vector_text.proofs.Stores.{bytes-all, bytes-bad, bytes-dash, bytes-empty, bytes-full, bytes-more, bytes-none, bytes-odd}
+use Rattle.std.proofs.Common.{◌*◌, ◌+◌, ◌/◌, length, rules, slice_set}
+use Rattle.vector_text.proofs.Stores.{bytes-all, bytes-bad, bytes-dash, bytes-empty, bytes-full, bytes-more, bytes-none, bytes-odd, Bytes}
+use borrow.Author.Tests.{eq-eqb, eqb-true}
 use mathlib.Core.Bool.{true≢false}
-use mathlib.Core.Path.{◌∙◌, sym}
+use mathlib.Core.Path.{◌∙◌, sym, subst, ◌≡◌}
 use native.Mathlib.Omega.{arith}
 use Rattle.vector_text.proofs.bytes.Goals as goal
 
-pub returns-then-same : goal.returns-then-same
-returns-then-same c =
-    bytes-dash _ _ (c.same.ensures.0 c.if-same.true)
+pub returns-then-eq : goal.returns-then-eq
+returns-then-eq c =
+    bytes-dash _ _ (search rules)
 
-pub returns-then-text-eq0 : goal.returns-then-text-eq0
-returns-then-text-eq0 c =
-    bytes-empty _ _ _ c.if-text-eq0.true
+pub returns-then-is_empty : goal.returns-then-is_empty
+returns-then-is_empty c =
+    bytes-empty _ _ _ (eqb-true _ _ (sym c.is_empty.ensures ∙ c.if-is_empty.true))
 
-pub loop-from-init : goal.loop-from-init
-loop-from-init c =
-    bytes-none _ _ (λ h. true≢false (sym (c.same.ensures.1 h) ∙ c.if-same.false)) c.if-text-eq0.false
+pub loop-i-init : goal.loop-i-init
+loop-i-init c =
+    bytes-none _ _ (λ h. search rules) (λ h. true≢false (sym (eq-eqb _ _ h) ∙ sym c.is_empty.ensures ∙ c.if-is_empty.false))
 
-pub shape_of-out-then-text-from-eq1 : goal.shape_of-out-then-text-from-eq1
-shape_of-out-then-text-from-eq1 c =
-    c.loop-from.invariant.1.long
+pub returns-in_err-x : goal.returns-in_err-x
+returns-in_err-x c =
+    rw (c.from_residual.ensures) (bytes-bad _ _ _ _ _ c.loop-i.invariant (omega arith) _ c.in_err-x.ensures)
 
-pub returns-then-text-from-eq1 : goal.returns-then-text-from-eq1
-returns-then-text-from-eq1 c =
-    bytes-odd _ _ _ _ _ c.loop-from.invariant _ c.if-text-from-eq1.true
+pub returns-then-out-i : goal.returns-then-out-i
+returns-then-out-i c =
+    bytes-full _ _ _ _ _ c.loop-i.invariant (omega arith) _ c.in_ok-x.ensures _ c.if-out-i.true
 
-pub shape_of-out-in_default : goal.shape_of-out-in_default
-shape_of-out-in_default c =
-    c.loop-from.invariant.1.long
+pub loop-i-preserved : goal.loop-i-preserved
+loop-i-preserved c =
+    let two : 2 * c.loop-i.i + 2 ≡ 2 * (c.loop-i.i + 1) = omega arith in
+    subst (λ j. Bytes c.args.text.now c.args.out.now (slice_set c.loop-i.out c.loop-i.i c.in_ok-x.x) (c.loop-i.i + 1) j) two (bytes-more _ _ _ _ _ c.loop-i.invariant (omega arith) _ c.in_ok-x.ensures c.if-out-i.false)
 
-pub returns-in_default : goal.returns-in_default
-returns-in_default c =
-    bytes-bad _ _ _ _ _ c.loop-from.invariant (omega arith) _ (rw c.in_default.is at c.hex.ensures)
+pub returns-then-text-eq1 : goal.returns-then-text-eq1
+returns-then-text-eq1 c =
+    bytes-odd _ _ _ _ _ c.loop-i.invariant _ (omega arith)
 
-pub shape_of-out-then-out-n : goal.shape_of-out-then-out-n
-shape_of-out-then-out-n c =
-    c.loop-from.invariant.1.long
-
-pub returns-then-out-n : goal.returns-then-out-n
-returns-then-out-n c =
-    bytes-full _ _ _ _ _ c.loop-from.invariant (omega arith) _ (rw c.in-Is.is at c.hex.ensures) _ c.if-out-n.true
-
-pub loop-from-preserved : goal.loop-from-preserved
-loop-from-preserved c =
-    bytes-more _ _ _ _ _ c.loop-from.invariant (omega arith) _ (rw c.in-Is.is at c.hex.ensures) c.if-out-n.false
-
-pub shape_of-out : goal.shape_of-out
-shape_of-out c =
-    c.loop-from.invariant.1.long
-
-pub returns : goal.returns
-returns c =
-    bytes-all _ _ _ _ _ c.loop-from.invariant c.loop-from-test.false
+pub returns-else-text-eq1 : goal.returns-else-text-eq1
+returns-else-text-eq1 c =
+    let all : c.loop-i.i ≡ length c.args.text.now / 2 = omega arith in
+    rw (← all) (bytes-all _ _ _ _ _ c.loop-i.invariant (omega arith))

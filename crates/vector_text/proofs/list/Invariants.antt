@@ -1,11 +1,8 @@
 -- `vector_text::list` meets its contract: the numbers passed are stored. Assumes nothing.
-use Prim.Native.Nat.{◌-◌}
+use Rattle.std.specs.Prelude.{length}
 use Rattle.vector_text.proofs.Stores.{Listed}
-use lib.ListN.{length}
+use mathlib.Core.Path.{◌≡◌}
 use Rattle.vector_text.proofs.list.Given as goal
 
-abbrev pub invariant-loop-x : goal.invariant-loop-x
-invariant-loop-x l = Listed l.text l.initial.out l.out l.n l.from
-
-abbrev pub decreases-loop-x : goal.decreases-loop-x
-decreases-loop-x l = length l.text - l.from
+abbrev pub invariant-loop-piece : goal.invariant-loop-piece
+invariant-loop-piece l = record { read : Listed l.fn.text l.initial.out l.out l.n; count : l.n ≡ length l.yielded }

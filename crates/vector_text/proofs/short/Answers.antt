@@ -1,15 +1,14 @@
 -- `vector_text::short` meets its contract. Assumes nothing.
+use Rattle.std.proofs.Common.{arith}
+use Rattle.std.proofs.lemmas.Grind.{common_steps}
 use Rattle.vector_text.proofs.Numbers.{short_is, short_large, short_none}
+use mathlib.Core.Path.{◌∙◌}
 use Rattle.vector_text.proofs.short.Goals as goal
 
-pub returns-in_default : goal.returns-in_default
-returns-in_default c =
-    short_none _ (rw c.in_default.is at c.number.ensures)
+pub returns-in_err-n : goal.returns-in_err-n
+returns-in_err-n c =
+    c.from_residual.ensures ∙ short_none _ c.in_err-n.ensures
 
-pub returns-then-n-lt65536 : goal.returns-then-n-lt65536
-returns-then-n-lt65536 c =
-    short_is _ _ (rw c.in-Number.is at c.number.ensures) c.if-n-lt65536.true
-
-pub returns-else-n-lt65536 : goal.returns-else-n-lt65536
-returns-else-n-lt65536 c =
-    short_large _ _ (rw c.in-Number.is at c.number.ensures) c.if-n-lt65536.false
+pub returns : goal.returns
+returns c =
+    grind (arith, common_steps, short_is c.args.text.now c.in_ok-n.n c.in_ok-n.ensures, short_large c.args.text.now c.in_ok-n.n c.in_ok-n.ensures)

@@ -1,6 +1,5 @@
 -- `verdicts::both_row` meets its contract. Assumes nothing.
 use Rattle.verdicts.proofs.Rowed.{both_rowed, row-length, row-over, two-long}
-use Rattle.cpl.proofs.Clash.{clear_left}
 use Rattle.lookup.specs.Fields.{right_row}
 use Rattle.verdicts.proofs.both_row.Goals as goal
 

@@ -1,15 +1,11 @@
 -- `verdicts::node_resolved` meets its contract, kind by kind. Assumes nothing.
 use Rattle.verdicts.proofs.References.{passes_at}
-use Rattle.cpl.specs.Accept.{each_passes, binary_passes}
-use Rattle.cpl.specs.Exprs.{leaf_exprs, unary_exprs}
-use Rattle.cpl.specs.Plan.{rows}
-use Rattle.cpl.specs.Tests.{all_b}
+use Rattle.cpl.specs.Accept.{each_passes}
+use Rattle.cpl.specs.Exprs.{unary_exprs}
 use Rattle.lookup.specs.Answers.{resolving}
 use Rattle.lookup.specs.Fields.{left_row, right_row}
 use Rattle.parts.proofs.Exprs.{items_exprs, items-roots, keys_exprs, keys-roots, seen_append, seen_one}
-use Rattle.tree.proofs.Few.{room}
 use mathlib.Core.Path.{◌∙◌, ap}
-use native.Mathlib.Omega.{arith}
 use Rattle.verdicts.proofs.node_resolved.Goals as goal
 
 pub resolve_roots-requires : goal.resolve_roots-requires
@@ -24,10 +20,6 @@ resolve_roots-requires-in-Sort c = record { each_ok = keys-roots (rw c.in-Sort.i
 pub resolve_roots-keys-requires : goal.resolve_roots-keys-requires
 resolve_roots-keys-requires c = record { each_ok = items-roots (rw c.in-Aggregate.is at c.requires.parts_ok).0; row_clear = c.requires.sides_clear.left_clear }
 
-pub overflow_add-next : goal.overflow_add-next
-overflow_add-next c =
-    omega (arith, (rw c.in-Aggregate.is at c.requires.parts_ok).1.room)
-
 pub resolve_aggs-calls-requires : goal.resolve_aggs-calls-requires
 resolve_aggs-calls-requires c = record { each_ok = (rw c.in-Aggregate.is at c.requires.parts_ok).1; row_clear = c.requires.sides_clear.left_clear }
 
@@ -36,10 +28,6 @@ resolve_wins-requires c = record { all_at = rw c.in-Window.is at c.requires.part
 
 pub join_resolved-requires : goal.join_resolved-requires
 join_resolved-requires c = record { parts_ok = rw c.in-Join.is at c.requires.parts_ok; sides_clear = c.requires.sides_clear }
-
-pub overflow_add-next-in-Scan : goal.overflow_add-next-in-Scan
-overflow_add-next-in-Scan c =
-    omega (arith, (rw c.in-Scan.is at c.requires.parts_ok).1.room)
 
 pub resolve_roots-requires-in-Scan : goal.resolve_roots-requires-in-Scan
 resolve_roots-requires-in-Scan c = record { each_ok = (rw c.in-Scan.is at c.requires.parts_ok).1; row_clear = c.requires.sides_clear.left_clear }
@@ -59,46 +47,7 @@ unfolding unary_exprs
 returns-in-Sort c =
     c.resolve_roots-in-Sort.ensures ∙ ap (λ es. resolving (each_passes es (left_row c.args.fields.now c.args.sides))) (keys_exprs _ _ _ _) ∙ passes_at c.args.cells.now c.args.rows.now (left_row c.args.fields.now c.args.sides) (right_row c.args.fields.now c.args.sides) c.in-Sort.is
 
-pub returns-in-Limit : goal.returns-in-Limit
-unfolding unary_exprs all_b
-returns-in-Limit c =
-    passes_at c.args.cells.now c.args.rows.now (left_row c.args.fields.now c.args.sides) (right_row c.args.fields.now c.args.sides) c.in-Limit.is
-
 pub returns-in-Aggregate : goal.returns-in-Aggregate
 unfolding unary_exprs
 returns-in-Aggregate c =
     seen_append (left_row c.args.fields.now c.args.sides) _ _ (c.resolve_roots-keys.ensures ∙ ap (λ es. resolving (each_passes es (left_row c.args.fields.now c.args.sides))) (items_exprs _ _ _ _ (rw c.in-Aggregate.is at c.requires.parts_ok).0)) c.resolve_aggs-calls.ensures c.both_resolved.ensures ∙ passes_at c.args.cells.now c.args.rows.now (left_row c.args.fields.now c.args.sides) (right_row c.args.fields.now c.args.sides) c.in-Aggregate.is
-
-pub returns-in-Window : goal.returns-in-Window
-unfolding unary_exprs
-returns-in-Window c =
-    c.resolve_wins.ensures ∙ passes_at c.args.cells.now c.args.rows.now (left_row c.args.fields.now c.args.sides) (right_row c.args.fields.now c.args.sides) c.in-Window.is
-
-pub returns-in-SubqueryAlias : goal.returns-in-SubqueryAlias
-unfolding unary_exprs all_b
-returns-in-SubqueryAlias c =
-    passes_at c.args.cells.now c.args.rows.now (left_row c.args.fields.now c.args.sides) (right_row c.args.fields.now c.args.sides) c.in-SubqueryAlias.is
-
-pub returns-in-Union : goal.returns-in-Union
-unfolding binary_passes
-returns-in-Union c =
-    passes_at c.args.cells.now c.args.rows.now (left_row c.args.fields.now c.args.sides) (right_row c.args.fields.now c.args.sides) c.in-Union.is
-
-pub returns-in-Distinct : goal.returns-in-Distinct
-unfolding unary_exprs all_b
-returns-in-Distinct c =
-    passes_at c.args.cells.now c.args.rows.now (left_row c.args.fields.now c.args.sides) (right_row c.args.fields.now c.args.sides) c.in-Distinct.is
-
-pub returns-in-Join : goal.returns-in-Join
-returns-in-Join c =
-    c.join_resolved.ensures ∙ passes_at c.args.cells.now c.args.rows.now (left_row c.args.fields.now c.args.sides) (right_row c.args.fields.now c.args.sides) c.in-Join.is
-
-pub returns-in-Scan : goal.returns-in-Scan
-unfolding leaf_exprs
-returns-in-Scan c =
-    c.resolve_roots-in-Scan.ensures ∙ passes_at c.args.cells.now c.args.rows.now (left_row c.args.fields.now c.args.sides) (right_row c.args.fields.now c.args.sides) c.in-Scan.is
-
-pub returns-in-Empty : goal.returns-in-Empty
-unfolding leaf_exprs all_b
-returns-in-Empty c =
-    passes_at c.args.cells.now c.args.rows.now (left_row c.args.fields.now c.args.sides) (right_row c.args.fields.now c.args.sides) c.in-Empty.is

@@ -1,7 +1,6 @@
 -- `verdicts::pairs_row` meets its contract. Assumes nothing.
 use Rattle.verdicts.proofs.Rowed.{row_new, row-over}
 use Rattle.arena.specs.Rows.{pair_at}
-use Rattle.cpl.specs.Plan.{rows}
 use Rattle.lookup.proofs.Lists.{list_length}
 use Rattle.tree.specs.Rows.{one}
 use mathlib.Core.Path.{sym}

@@ -1,8 +1,7 @@
 -- `verdicts::scan_row` meets its contract. Assumes nothing.
 use Rattle.verdicts.proofs.References.{columns-all, columns-given}
-use Rattle.verdicts.proofs.Rowed.{all_few, row_new, rowed_is}
+use Rattle.verdicts.proofs.Rowed.{row_new, rowed_is}
 use Rattle.cpl.specs.Fields.{scan_field}
-use Rattle.cpl.specs.Plan.{rows}
 use Rattle.parts.specs.Catalogue.{table_at}
 use Rattle.tree.specs.Rows.{columns_at}
 use mathlib.Core.List.{map}
@@ -12,10 +11,6 @@ use Rattle.verdicts.proofs.scan_row.Goals as goal
 
 pub scan_given-requires : goal.scan_given-requires
 scan_given-requires c = record { table_in = c.requires.scan_inside.table; row_in = (omega (arith, c.requires.row_in, c.requires.scan_inside.few c.if-s.true), c.requires.scan_inside.columns c.if-s.true) }
-
-pub put_row-requires : goal.put_row-requires
-put_row-requires c =
-    omega (arith, c.requires.row_in, c.requires.scan_inside.few c.if-s.true)
 
 pub returns-then-s : goal.returns-then-s
 returns-then-s c =

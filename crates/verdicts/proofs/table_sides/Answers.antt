@@ -1,8 +1,5 @@
 -- `verdicts::table_sides` meets its contract: what is put is the table, name by name. Assumes nothing.
 use Rattle.verdicts.proofs.References.{looked_none, looked_table, no_filters}
-use Rattle.verdicts.proofs.Rowed.{all_few}
-use Rattle.cpl.specs.Plan.{rows}
-use Rattle.tree.proofs.Few.{room}
 use mathlib.Core.Path.{refl}
 use native.Mathlib.Omega.{arith}
 use Rattle.verdicts.proofs.table_sides.Goals as goal

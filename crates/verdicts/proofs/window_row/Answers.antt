@@ -1,10 +1,7 @@
 -- `verdicts::window_row` meets its contract. Assumes nothing.
 use Rattle.verdicts.proofs.Rowed.{all_few, row-over, two-long, two_rowed}
 use Rattle.arena.specs.Rows.{pair_at}
-use Rattle.cpl.proofs.Clash.{clear_left}
-use Rattle.cpl.specs.Plan.{rows}
 use Rattle.lookup.proofs.Lists.{list_length}
-use Rattle.tree.proofs.Few.{room}
 use Rattle.tree.specs.Rows.{win_size}
 use native.Mathlib.Omega.{arith}
 use Rattle.verdicts.proofs.window_row.Goals as goal

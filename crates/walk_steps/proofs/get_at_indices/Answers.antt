@@ -1,16 +1,21 @@
--- `walk_steps::get_at_indices` meets its contract. Assumes nothing.
+-- `walk_steps::get_at_indices` meets its contract: laws of `Ways`. Assumes nothing.
+use Rattle.lookup.specs.Fields.{row_at}
+use Rattle.projections.specs.Lists.{kept_items}
+use Rattle.walk_steps.proofs.Ways.{columns_picked, items_picked}
 use Rattle.walk_steps.proofs.get_at_indices.Goals as goal
 
-pub choose-requires : goal.choose-requires
-choose-requires c = record { rows_ok = rw c.if-list.true at c.requires.list_ok.rows_ok; request_bound = c.requires.request_bound; below = c.requires.below; room = c.requires.room }
-
-pub returns-then-list : goal.returns-then-list
-returns-then-list c =
-    rw c.if-list.true c.choose.ensures
-
-pub choose-requires-2 : goal.choose-requires-2
-choose-requires-2 c = record { rows_ok = rw c.if-list.false at c.requires.list_ok.rows_ok; request_bound = c.requires.request_bound; below = c.requires.below; room = c.requires.room }
+pub returns-then-all_bare : goal.returns-then-all_bare
+returns-then-all_bare c =
+    let l = c.items_of-upper.result in
+    let e = c.items_of-upper.ensures in
+    let js = kept_items l.rows.now l.cells.now l.first l.count c.args.request in
+    let fs = row_at c.args.fields.now c.args.start c.args.width in
+    rw (← e.rows_are, ← e.cells_are, ← e.first_is, ← e.count_is) (columns_picked js fs c.new.ensures c.with_items-ask.ensures (c.all_bare.ensures.is _) c.if-all_bare.true)
 
 pub returns : goal.returns
 returns c =
-    rw c.if-list.false c.choose-2.ensures
+    let l = c.items_of-upper.result in
+    let e = c.items_of-upper.ensures in
+    let js = kept_items l.rows.now l.cells.now l.first l.count c.args.request in
+    let fs = row_at c.args.fields.now c.args.start c.args.width in
+    rw (← e.rows_are, ← e.cells_are, ← e.first_is, ← e.count_is) (items_picked js fs c.new.ensures c.with_items-ask.ensures (c.all_bare.ensures.is _) c.if-all_bare.false c.in_ok-copied.ensures)

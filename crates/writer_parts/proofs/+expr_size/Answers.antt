@@ -13,8 +13,8 @@ expr_size-requires t c =
     let h = rw c.in-One.is at c.node_at-v.ensures in
     (omega (arith, c.decreases, h.below), (lower _ _ _ c.requires.wf h.below, omega (arith, c.requires.countable, one-length _ _ _ _ h, one-tags _ _ _ _ h)))
 
-pub both-requires : goal.both-requires
-both-requires t c =
+pub add-requires : goal.add-requires
+add-requires t c =
     let h = rw c.in-One.is at c.node_at-v.ensures in
     omega (arith, c.requires.countable, one-length _ _ _ _ h, one-tags _ _ _ _ h, c.expr_size.ensures)
 
@@ -23,20 +23,20 @@ expr_size-a-requires t c =
     let h = rw c.in-Two.is at c.node_at-v.ensures in
     (omega (arith, c.decreases, h.first), (lower _ _ _ c.requires.wf h.first, omega (arith, c.requires.countable, two-length _ _ _ _ _ h, two-tags _ _ _ _ _ h)))
 
-pub expr_size-requires-in-Two : goal.expr_size-requires-in-Two
-expr_size-requires-in-Two t c =
+pub expr_size-b-requires : goal.expr_size-b-requires
+expr_size-b-requires t c =
     let h = rw c.in-Two.is at c.node_at-v.ensures in
     (omega (arith, c.decreases, h.second), (lower _ _ _ c.requires.wf h.second, omega (arith, c.requires.countable, two-length _ _ _ _ _ h, two-tags _ _ _ _ _ h)))
 
-pub both-b-requires : goal.both-b-requires
-both-b-requires t c =
+pub add-requires-in-Two : goal.add-requires-in-Two
+add-requires-in-Two t c =
     let h = rw c.in-Two.is at c.node_at-v.ensures in
-    omega (arith, c.requires.countable, two-length _ _ _ _ _ h, two-tags _ _ _ _ _ h, c.expr_size-a.ensures, c.expr_size-in-Two.ensures)
+    omega (arith, c.requires.countable, two-length _ _ _ _ _ h, two-tags _ _ _ _ _ h, c.expr_size-a.ensures, c.expr_size-b.ensures)
 
-pub both-requires-in-Two : goal.both-requires-in-Two
-both-requires-in-Two t c =
+pub add-requires-in-Two-2 : goal.add-requires-in-Two-2
+add-requires-in-Two-2 t c =
     let h = rw c.in-Two.is at c.node_at-v.ensures in
-    omega (arith, c.requires.countable, two-length _ _ _ _ _ h, two-tags _ _ _ _ _ h, c.expr_size-a.ensures, c.expr_size-in-Two.ensures, c.both-b.ensures)
+    omega (arith, c.requires.countable, two-length _ _ _ _ _ h, two-tags _ _ _ _ _ h, c.expr_size-a.ensures, c.expr_size-b.ensures, c.add-in-Two.ensures)
 
 pub returns-in-Col : goal.returns-in-Col
 returns-in-Col t c =
@@ -52,9 +52,9 @@ returns-in-Miss t c =
 
 pub returns-in-One : goal.returns-in-One
 returns-in-One t c =
-    let h = rw c.in-One.is at c.node_at-v.ensures in omega (arith, one-length _ _ _ _ h, one-tags _ _ _ _ h, c.both.ensures, c.expr_size.ensures)
+    let h = rw c.in-One.is at c.node_at-v.ensures in omega (arith, one-length _ _ _ _ h, one-tags _ _ _ _ h, c.add.ensures, c.expr_size.ensures)
 
 pub returns-in-Two : goal.returns-in-Two
 returns-in-Two t c =
     let h = rw c.in-Two.is at c.node_at-v.ensures in
-    omega (arith, two-length _ _ _ _ _ h, two-tags _ _ _ _ _ h, c.both-in-Two.ensures, c.both-b.ensures, c.expr_size-a.ensures, c.expr_size-in-Two.ensures)
+    omega (arith, two-length _ _ _ _ _ h, two-tags _ _ _ _ _ h, c.add-in-Two-2.ensures, c.add-in-Two.ensures, c.expr_size-a.ensures, c.expr_size-b.ensures)

@@ -11,10 +11,10 @@ returns-then-row-eq0 c =
 pub expr_size-requires : goal.expr_size-requires
 expr_size-requires c = record { wf = read_wf _ c.row_at-row.ensures c.requires.row_ok; countable = omega (arith, c.requires.countable, named-length c.args.cells.now c.row_at-row.ensures c.if-row-eq0.false, named-tags c.args.cells.now c.row_at-row.ensures c.if-row-eq0.false) }
 
-pub both-requires : goal.both-requires
-both-requires c =
+pub add-requires : goal.add-requires
+add-requires c =
     omega (arith, c.requires.countable, c.expr_size.ensures, named-length c.args.cells.now c.row_at-row.ensures c.if-row-eq0.false, named-tags c.args.cells.now c.row_at-row.ensures c.if-row-eq0.false)
 
 pub returns : goal.returns
 returns c =
-    omega (arith, c.both.ensures, c.expr_size.ensures, named-length c.args.cells.now c.row_at-row.ensures c.if-row-eq0.false, named-tags c.args.cells.now c.row_at-row.ensures c.if-row-eq0.false)
+    omega (arith, c.add.ensures, c.expr_size.ensures, named-length c.args.cells.now c.row_at-row.ensures c.if-row-eq0.false, named-tags c.args.cells.now c.row_at-row.ensures c.if-row-eq0.false)

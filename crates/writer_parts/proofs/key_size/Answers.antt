@@ -6,10 +6,10 @@ use Rattle.writer_parts.proofs.key_size.Goals as goal
 pub expr_size-requires : goal.expr_size-requires
 expr_size-requires c = record { wf = c.key_at-row.ensures.node _ c.requires.key_ok; countable = omega (arith, c.requires.countable, key-length c.args.cells.now c.key_at-row.ensures c.requires.key_ok, key-tags c.args.cells.now c.key_at-row.ensures c.requires.key_ok) }
 
-pub both-requires : goal.both-requires
-both-requires c =
+pub add-requires : goal.add-requires
+add-requires c =
     omega (arith, c.requires.countable, c.expr_size.ensures, key-length c.args.cells.now c.key_at-row.ensures c.requires.key_ok, key-tags c.args.cells.now c.key_at-row.ensures c.requires.key_ok)
 
 pub returns : goal.returns
 returns c =
-    omega (arith, c.requires.countable, c.both.ensures, c.expr_size.ensures, key-length c.args.cells.now c.key_at-row.ensures c.requires.key_ok, key-tags c.args.cells.now c.key_at-row.ensures c.requires.key_ok)
+    omega (arith, c.requires.countable, c.add.ensures, c.expr_size.ensures, key-length c.args.cells.now c.key_at-row.ensures c.requires.key_ok, key-tags c.args.cells.now c.key_at-row.ensures c.requires.key_ok)

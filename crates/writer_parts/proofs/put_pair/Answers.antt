@@ -6,4 +6,4 @@ use Rattle.writer_parts.proofs.put_pair.Goals as goal
 
 pub returns : goal.returns
 returns c =
-    pair_laid c.args.q c.args.n (omega (arith, c.wide.ensures, c.wide-2.ensures)) (search rules) c.put_at.ensures
+    pair_laid c.args.q c.args.n (omega (arith, c.from.ensures, c.from-2.ensures)) (search rules) c.put_at.ensures

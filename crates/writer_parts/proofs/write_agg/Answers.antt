@@ -28,4 +28,4 @@ overflow_add-result c =
 
 pub returns : goal.returns
 returns c =
-    agg-wrote _ c.agg_at-row.ensures c.requires.agg_ok c.wide.ensures c.put_pair-a.ensures c.put_at-b.ensures c.write_call-m.ensures
+    agg-wrote _ c.agg_at-row.ensures c.requires.agg_ok c.from.ensures c.put_pair-a.ensures c.put_at-b.ensures c.write_call-m.ensures

@@ -24,4 +24,4 @@ overflow_add-result c =
 
 pub returns : goal.returns
 returns c =
-    key-wrote _ c.key_at-row.ensures c.requires.key_ok c.wide.ensures c.put_at-a.ensures c.write_expr-m.ensures
+    key-wrote _ c.key_at-row.ensures c.requires.key_ok c.from.ensures c.put_at-a.ensures c.write_expr-m.ensures

@@ -1,81 +1,52 @@
 -- `writer_parts::write_list` meets its contract. Assumes nothing.
-use native.Mathlib.Omega.{arith}
-use mathlib.Core.List.{List}
-use Prim.Native.Nat.{ℕ, ◌+◌}
+use Rattle.std.proofs.Common.{option_copied, arith, List, ℕ, ◌+◌, sym, ◌∙◌}
 use Rattle.writer_parts.specs.Parts.{part_bytes}
-use Rattle.required_indices.specs.Request.{set_in}
-use Rattle.writer_parts.specs.Lists.{takes, which}
-use Rattle.writer_parts.proofs.Lists.{turn, turn_all, turn_fits, turn_none, upto-length}
-use Rattle.writer_parts.proofs.Over.{kept}
+use Rattle.writer_parts.specs.Lists.{takes, which_of}
+use Rattle.writer_parts.proofs.Lists.{turn, turn_all, turn_fits, turn_left, turn_none}
 use Rattle.writer_parts.proofs.write_list.Goals as goal
+use Rattle.writer_parts.proofs.write_list.Goals.{else-is_taken, then-is_taken}
 
 pub loop-i-init : goal.loop-i-init
-loop-i-init c = (omega arith, turn_none _ _)
+loop-i-init c = turn_none _ _
 
-pub is_taken-yes-requires : goal.is_taken-yes-requires
-is_taken-yes-requires c = c.requires.lent
-
-pub overflow_add-first : goal.overflow_add-first
-overflow_add-first c =
-    omega (arith, c.requires.parts_ok.fits, c.loop-i-test.true)
-
-pub slice_bounds-write_if-count : goal.slice_bounds-write_if-count
-slice_bounds-write_if-count c =
+pub slice_bounds-write_part-count : goal.slice_bounds-write_part-count
+slice_bounds-write_part-count c =
     let F : ℕ → List ℕ = λ j. part_bytes c.args.part c.args.rows.now c.args.cells.now (c.args.first + j) in
-    let t = takes (which c.args.all (set_in c.args.indices.now c.args.used)) in
-    let p = turn_fits F t c.loop-i.i c.args.n c.loop-i-test.true in
-    let k = kept c.loop-i.invariant.1 (omega (arith, c.requires.used_in_bounds, p, c.loop-i.invariant.1.long)) in
-    omega (arith, c.requires.used_in_bounds, p, c.loop-i.invariant.1.long, k)
+    let t = takes (which_of (option_copied c.args.taken)) in
+    let e = sym c.is_taken.ensures ∙ c.if-is_taken.true in
+    let p = turn_fits F t c.loop-i.i c.args.n e c.loop-i-test.true in
+    omega (arith, c.requires.used_in_bounds, p, c.loop-i.invariant.long)
 
-pub slice_bounds-write_if-start : goal.slice_bounds-write_if-start
-slice_bounds-write_if-start c =
+pub slice_bounds-write_part-start : goal.slice_bounds-write_part-start
+slice_bounds-write_part-start c =
     let F : ℕ → List ℕ = λ j. part_bytes c.args.part c.args.rows.now c.args.cells.now (c.args.first + j) in
-    let t = takes (which c.args.all (set_in c.args.indices.now c.args.used)) in
-    let p = turn_fits F t c.loop-i.i c.args.n c.loop-i-test.true in
-    let k = kept c.loop-i.invariant.1 (omega (arith, c.requires.used_in_bounds, p, c.loop-i.invariant.1.long)) in
-    omega (arith, c.requires.used_in_bounds, p, c.loop-i.invariant.1.long, k)
+    let t = takes (which_of (option_copied c.args.taken)) in
+    let e = sym c.is_taken.ensures ∙ c.if-is_taken.true in
+    let p = turn_fits F t c.loop-i.i c.args.n e c.loop-i-test.true in
+    omega (arith, c.requires.used_in_bounds, p, c.loop-i.invariant.long)
 
-pub slice_bounds-write_if-end : goal.slice_bounds-write_if-end
-slice_bounds-write_if-end c =
+pub write_part-at-requires-clause-i_in_bounds : goal.write_part-at-requires-clause-i_in_bounds
+write_part-at-requires-clause-i_in_bounds c =
     let F : ℕ → List ℕ = λ j. part_bytes c.args.part c.args.rows.now c.args.cells.now (c.args.first + j) in
-    let t = takes (which c.args.all (set_in c.args.indices.now c.args.used)) in
-    let p = turn_fits F t c.loop-i.i c.args.n c.loop-i-test.true in
-    let k = kept c.loop-i.invariant.1 (omega (arith, c.requires.used_in_bounds, p, c.loop-i.invariant.1.long)) in
-    omega (arith, c.requires.used_in_bounds, p, c.loop-i.invariant.1.long, k)
-
-pub write_if-m-requires : goal.write_if-m-requires
-write_if-m-requires c =
-    let F : ℕ → List ℕ = λ j. part_bytes c.args.part c.args.rows.now c.args.cells.now (c.args.first + j) in
-    let t = takes (which c.args.all (set_in c.args.indices.now c.args.used)) in
-    let p = turn_fits F t c.loop-i.i c.args.n c.loop-i-test.true in
-    let k = kept c.loop-i.invariant.1 (omega (arith, c.requires.used_in_bounds, p, c.loop-i.invariant.1.long)) in record { part_ok = c.requires.parts_ok.each c.loop-i.i c.loop-i-test.true; i_in_bounds = rw c.is_taken-yes.ensures (omega (arith, c.requires.used_in_bounds, p, c.loop-i.invariant.1.long, k)) }
+    let t = takes (which_of (option_copied c.args.taken)) in
+    let e = sym c.is_taken.ensures ∙ c.if-is_taken.true in
+    let p = turn_fits F t c.loop-i.i c.args.n e c.loop-i-test.true in
+    omega (arith, c.requires.used_in_bounds, p, c.loop-i.invariant.long)
 
 pub overflow_add-at : goal.overflow_add-at
 overflow_add-at c =
     let F : ℕ → List ℕ = λ j. part_bytes c.args.part c.args.rows.now c.args.cells.now (c.args.first + j) in
-    let t = takes (which c.args.all (set_in c.args.indices.now c.args.used)) in
-    let p = turn_fits F t c.loop-i.i c.args.n c.loop-i-test.true in
-    let k = kept c.loop-i.invariant.1 (omega (arith, c.requires.used_in_bounds, p, c.loop-i.invariant.1.long)) in
-    omega (arith, c.requires.used_in_bounds, p, c.loop-i.invariant.1.long, k, (rw c.is_taken-yes.ensures at c.write_if-m.ensures).long, c.well_formed.1.1.1.1.1.1.1.1.0.0)
-
-pub overflow_add-i : goal.overflow_add-i
-overflow_add-i c =
-    omega (arith, c.loop-i-test.true)
-
-pub loop-i-smaller : goal.loop-i-smaller
-loop-i-smaller c =
-    omega (arith, c.loop-i-test.true)
+    let t = takes (which_of (option_copied c.args.taken)) in
+    let e = sym c.is_taken.ensures ∙ c.if-is_taken.true in
+    let p = turn_fits F t c.loop-i.i c.args.n e c.loop-i-test.true in
+    omega (arith, c.requires.used_in_bounds, p, c.loop-i.invariant.long, c.write_part-at.ensures.long)
 
 pub loop-i-preserved : goal.loop-i-preserved
 loop-i-preserved c =
-    (omega (arith, c.loop-i-test.true), turn _ _ _ c.loop-i.invariant.1 (rw c.is_taken-yes.ensures at c.write_if-m.ensures))
-
-pub shape_of-out : goal.shape_of-out
-shape_of-out c =
-    let F : ℕ → List ℕ = λ j. part_bytes c.args.part c.args.rows.now c.args.cells.now (c.args.first + j) in
-    let p = upto-length F (takes (which c.args.all (set_in c.args.indices.now c.args.used))) c.loop-i.i c.args.n c.loop-i.invariant.0 in
-    kept c.loop-i.invariant.1 (omega (arith, c.requires.used_in_bounds, p, c.loop-i.invariant.1.long))
+    elim c.if-is_taken.branch [
+      | then-is_taken w ↦ rw (w.at-is, w.out-is) (turn _ _ c.loop-i.i (sym c.is_taken.ensures ∙ w.if-is_taken.true) c.loop-i.invariant w.write_part-at.ensures)
+      | else-is_taken w ↦ rw (w.at-is, w.out-is) (turn_left _ _ c.loop-i.i (sym c.is_taken.ensures ∙ w.if-is_taken.false) c.loop-i.invariant)
+    ]
 
 pub returns : goal.returns
-returns c =
-    turn_all _ _ _ _ c.loop-i.invariant.0 c.loop-i-test.false c.loop-i.invariant.1
+returns c = turn_all _ _ _ _ c.loop-i.auto.i-end c.loop-i-test.false c.loop-i.invariant

@@ -1,14 +1,7 @@
 -- `join_key_set::JoinKeySet::insert_common` meets its contract. Assumes nothing.
-use Rattle.join_key_set.proofs.Pairs.{behind-refl}
+use Rattle.join_key_set.proofs.Laws.{behind-refl}
 use Rattle.join_key_set.proofs.Sets.{common_no, common_yes}
-use Rattle.join_keys.specs.Entries.{result}
 use Rattle.join_key_set.proofs.JoinKeySet.insert_common.Goals as goal
-
-pub contains-requires : goal.contains-requires
-contains-requires c = record { keys_ok = c.requires.keys_ok_2; wf = c.requires.wf }
-
-pub insert-requires : goal.insert-requires
-insert-requires c = record { keys_ok = c.requires.keys_ok; wf = c.requires.wf; size_in_bounds = c.requires.size_in_bounds }
 
 pub returns-then-contains : goal.returns-then-contains
 returns-then-contains c = record { fills = common_yes _ _ c.args.self c.args.s2 _ _ c.contains.ensures c.if-contains.true c.insert.result c.insert.new.pairs c.insert.ensures.fills; behind = c.insert.ensures.behind }

@@ -19,20 +19,11 @@ loop-k-init c =
     let g : Whole r × Whole q = (record { long = search rules; each = words r.indices (λ i. search rules) }, record { long = search rules; each = words q.indices (λ i. search rules) }) in
     let long = g.0.long in
     let long' = g.1.long in
-    let d = c.smaller-a.ensures in
-    let d' = c.smaller-b.ensures in
-    let n = c.larger-n.result in
-    let e = c.larger-n.ensures in
+    let d = c.min-a.ensures in
+    let d' = c.min-b.ensures in
+    let n = c.max-n.result in
+    let e = c.max-n.ensures in
     (or_start n (words_of r) (words_of q) r.indices 0 (omega arith), refl, refl, g)
-
-pub word-w-requires : goal.word-w-requires
-word-w-requires c = omega (arith, c.smaller-a.ensures)
-
-pub word-v-requires : goal.word-v-requires
-word-v-requires c = omega (arith, c.smaller-b.ensures)
-
-pub loop-k-smaller : goal.loop-k-smaller
-loop-k-smaller c = omega arith
 
 pub loop-k-preserved : goal.loop-k-preserved
 loop-k-preserved c =
@@ -42,12 +33,12 @@ loop-k-preserved c =
     let q = c.args.other in
     let long = g.0.long in
     let long' = g.1.long in
-    let d = c.smaller-a.ensures in
-    let d' = c.smaller-b.ensures in
-    let n = c.larger-n.result in
-    let e = c.larger-n.ensures in
-    let same = sym (in_use r.used c.smaller-a.result r.indices (omega arith)) in
-    let same' = sym (in_use q.used c.smaller-b.result q.indices (omega arith)) in (
+    let d = c.min-a.ensures in
+    let d' = c.min-b.ensures in
+    let n = c.max-n.result in
+    let e = c.max-n.ensures in
+    let same = sym (in_use r.used c.min-a.result r.indices (omega arith)) in
+    let same' = sym (in_use q.used c.min-b.result q.indices (omega arith)) in (
       or_turn n (words_of r) (words_of q) c.loop-k.out.indices k c.loop-k.invariant.0 c.word-w.result c.word-v.result (omega arith)
           (c.word-w.ensures ∙ ap (λ (x : List ℕ). get_or x k 0) same) (c.word-v.ensures ∙ ap (λ (x : List ℕ). get_or x k 0) same'),
       c.loop-k.invariant.1,
@@ -62,10 +53,10 @@ returns c =
     let q = c.args.other in
     let long = g.0.long in
     let long' = g.1.long in
-    let d = c.smaller-a.ensures in
-    let d' = c.smaller-b.ensures in
-    let n = c.larger-n.result in
-    let e = c.larger-n.ensures in
+    let d = c.min-a.ensures in
+    let d' = c.min-b.ensures in
+    let n = c.max-n.result in
+    let e = c.max-n.ensures in
     let few = length-take r.used r.indices in
     let few' = length-take q.used q.indices in
     let hs = words_take r.used g.0.each in

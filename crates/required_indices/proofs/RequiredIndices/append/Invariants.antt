@@ -1,5 +1,4 @@
 -- `required_indices::RequiredIndices::append` meets its contract.
-use Prim.Native.Nat.{◌-◌}
 use mathlib.Core.Path.{◌≡◌}
 use Rattle.required_indices.specs.Request.{words_of, flag_of}
 use Rattle.required_indices.proofs.Loops.{Filled}
@@ -10,6 +9,3 @@ use Rattle.required_indices.proofs.RequiredIndices.append.Given as goal
 
 abbrev pub invariant-loop-k : goal.invariant-loop-k
 invariant-loop-k l = Filled (or_w (wide l.n (words_of l.self)) (wide l.n (words_of l.other))) l.out.indices l.k × (l.out.used ≡ l.n) × (flag_of l.out ≡ flag_of l.self) × (Whole l.self × Whole l.other)
-
-abbrev pub decreases-loop-k : goal.decreases-loop-k
-decreases-loop-k l = l.n - l.k

@@ -16,38 +16,34 @@ pub loop-k-init : goal.loop-k-init
 loop-k-init c =
     let long : length c.args.self.indices ≡ words_n = search rules in
     let e = c.words_for.ensures in
-    (below_start c.smaller-last.result c.args.n (words_of c.args.self) c.args.self.indices (omega (arith, c.smaller-last.ensures)), omega arith, refl, refl)
-
-pub loop-k-smaller : goal.loop-k-smaller
-loop-k-smaller c = omega arith
+    (below_start c.min-last.result c.args.n (words_of c.args.self) c.args.self.indices (omega (arith, c.min-last.ensures)), refl, refl)
 
 pub loop-k-preserved : goal.loop-k-preserved
 loop-k-preserved c =
     let r = c.args.self in
-    let e = c.smaller-last.ensures in
+    let e = c.min-last.ensures in
     let d = c.words_for.ensures in
     let long : length r.indices ≡ words_n = search rules in
     let few = length-take r.used r.indices in (
-      below_turn c.smaller-last.result c.args.n (words_of r) c.loop-k.out.indices c.loop-k.k c.loop-k.invariant.0 c.loop-k.left _ c.low_bits.result (omega arith) (omega arith) c.loop-k.invariant.1
+      below_turn c.min-last.result c.args.n (words_of r) c.loop-k.out.indices c.loop-k.k c.loop-k.invariant.0 c.saturating_sub.result _ c.low_bits.result (omega arith) (omega arith) c.saturating_sub.ensures
           (sym (get_or-take r.used r.indices c.loop-k.k 0 (omega arith))) c.low_bits.ensures,
-      omega (arith, c.less-left.ensures),
+      c.loop-k.invariant.1,
       c.loop-k.invariant.2,
-      c.loop-k.invariant.3,
     )
 
 pub returns : goal.returns
 returns c =
     let r = c.args.self in
     let n = c.args.n in
-    let last = c.smaller-last.result in
-    let e = c.smaller-last.ensures in
+    let last = c.min-last.result in
+    let e = c.min-last.ensures in
     let d = c.words_for.ensures in
     let long : length r.indices ≡ words_n = search rules in
     let few = length-take r.used r.indices in
     let hs = words_take r.used (words r.indices (λ i. search rules)) in
     record {
       set =
-          ap (λ (x : ℕ). number (take x c.loop-k.out.indices)) c.loop-k.invariant.2
+          ap (λ (x : ℕ). number (take x c.loop-k.out.indices)) c.loop-k.invariant.1
           ∙ below_end last n (words_of r) c.loop-k.out.indices c.loop-k.k c.loop-k.invariant.0 (omega arith) (λ g. omega arith) hs;
-      flag = c.loop-k.invariant.3;
+      flag = c.loop-k.invariant.2;
     }

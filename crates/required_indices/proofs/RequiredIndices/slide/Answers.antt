@@ -13,47 +13,32 @@ use Rattle.required_indices.proofs.Places.{words}
 use Rattle.required_indices.proofs.Slides.{ahead, slide_start, slide_turn, slide_end, slide_fits}
 use Rattle.required_indices.proofs.RequiredIndices.slide.Goals as goal
 
-pub overflow_add-a : goal.overflow_add-a
-overflow_add-a c = omega (arith, c.smaller-a.ensures, c.requires.up_bound)
-
 pub loop-k-init : goal.loop-k-init
 loop-k-init c =
     let long : length c.args.self.indices ≡ words_n = search rules in
-    (slide_start c.smaller-last.result c.args.n (ahead c.args.up (words_of c.args.self)) c.args.self.indices (omega (arith, c.smaller-last.ensures)), refl)
-
-pub word_behind-w-requires : goal.word_behind-w-requires
-word_behind-w-requires c = omega (arith, c.smaller-a.ensures)
-
-pub word_behind-v-requires : goal.word_behind-v-requires
-word_behind-v-requires c = omega (arith, c.smaller-a.ensures)
-
-pub loop-k-smaller : goal.loop-k-smaller
-loop-k-smaller c = omega arith
+    (slide_start c.min-last.result c.args.n (ahead c.args.up (words_of c.args.self)) c.args.self.indices (omega (arith, c.min-last.ensures)), refl)
 
 pub loop-k-preserved : goal.loop-k-preserved
 loop-k-preserved c =
     let r = c.args.self in
     let k = c.loop-k.k in
-    let e = c.smaller-a.ensures in
+    let e = c.min-a.ensures in
     let long : length r.indices ≡ words_n = search rules in
-    let same = sym (in_use r.used c.smaller-a.result r.indices (omega arith)) in
+    let same = sym (in_use r.used c.min-a.result r.indices (omega arith)) in
     let fits : Fits w64 c.word_behind-w.result = search rules in (
-      slide_turn c.smaller-last.result c.args.n (ahead c.args.up (words_of r)) c.loop-k.out.indices k c.loop-k.invariant.0 c.word_behind-w.result c.word_behind-v.result c.carry.result (omega arith) fits.fits
+      slide_turn c.min-last.result c.args.n (ahead c.args.up (words_of r)) c.loop-k.out.indices k c.loop-k.invariant.0 c.word_behind-w.result c.word_behind-v.result c.carry.result (omega arith) fits.fits
           (c.word_behind-w.ensures ∙ ap (λ (x : List ℕ). get_or (ahead c.args.up x) (c.args.n / 64 + k) 0) same) (c.word_behind-v.ensures ∙ ap (λ (x : List ℕ). get_or (ahead c.args.up x) (c.args.n / 64 + k + 1) 0) same) c.carry.ensures,
       c.loop-k.invariant.1,
     )
 
-pub trimmed-requires : goal.trimmed-requires
-trimmed-requires c = omega (arith, c.smaller-last.ensures)
-
 pub returns : goal.returns
 returns c =
     let r = c.args.self in
-    let last = c.smaller-last.result in
+    let last = c.min-last.result in
     let hs = words_take r.used (words r.indices (λ i. search rules)) in
     let long : length r.indices ≡ words_n = search rules in
     let few = length-take r.used r.indices in
-    let e : last ≡ min (length (words_of r) + c.args.up - c.args.n / 64) words_n = omega (arith, c.smaller-last.ensures, c.less.ensures, c.smaller-a.ensures) in
+    let e : last ≡ min (length (words_of r) + c.args.up - c.args.n / 64) words_n = omega (arith, c.min-last.ensures, c.saturating_sub.ensures, c.min-a.ensures) in
     record {
       set =
           c.trimmed.ensures

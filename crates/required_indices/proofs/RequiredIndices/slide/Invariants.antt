@@ -1,5 +1,4 @@
 -- `required_indices::RequiredIndices::slide` meets its contract.
-use Prim.Native.Nat.{◌-◌}
 use mathlib.Core.Path.{◌≡◌}
 use Rattle.required_indices.specs.Request.{words_of, flag_of}
 use Rattle.required_indices.proofs.Loops.{Filled}
@@ -8,6 +7,3 @@ use Rattle.required_indices.proofs.RequiredIndices.slide.Given as goal
 
 abbrev pub invariant-loop-k : goal.invariant-loop-k
 invariant-loop-k l = Filled (slide_w l.last l.n (ahead l.up (words_of l.self))) l.out.indices l.k × (flag_of l.out ≡ flag_of l.self)
-
-abbrev pub decreases-loop-k : goal.decreases-loop-k
-decreases-loop-k l = l.last - l.k

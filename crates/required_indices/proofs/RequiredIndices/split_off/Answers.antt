@@ -3,7 +3,7 @@ use borrow.Author.Rules.{rules}
 use native.Mathlib.Omega.{arith}
 use Prim.Native.Nat.{ℕ, ◌*◌, ◌^◌, ◌<◌}
 use native.Mathlib.Nat.{lt_of_le_of_lt}
-use mathlib.Core.Path.{sym, subst, ◌∙◌}
+use mathlib.Core.Path.{sym, subst}
 use lib.Pow.{shr_le}
 use Rattle.required_indices.specs.Request.{words_n, set_of}
 use Rattle.required_indices.proofs.Places.{words, set_lt}
@@ -14,6 +14,3 @@ pub slide-rest-requires : goal.slide-rest-requires
 slide-rest-requires c =
     let r = c.args.self in
     let n = c.args.n in record { up_bound = omega arith; n_bound = subst (λ (x : ℕ). x < 2 ^ (words_n * 64)) (sym (slide_rest (set_of r) n)) (lt_of_le_of_lt (shr_le (set_of r) n) (set_lt r (search rules) (words r.indices (λ i. search rules)))) }
-
-pub returns : goal.returns
-returns c = record { holds = c.below-below.ensures; holds_2 = record { set = c.slide-rest.ensures.set ∙ slide_rest (set_of c.args.self) c.args.n; flag = c.slide-rest.ensures.flag } }

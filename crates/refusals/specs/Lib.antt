@@ -1,0 +1,2 @@
+-- The codes of refusals.
+pub mod Codes

@@ -1,6 +1,0 @@
--- `vector_text::list_at` meets its contract. Assumes nothing.
-use Rattle.vector_text.proofs.list_at.Goals as goal
-
-pub returns : goal.returns
-returns c =
-    rw c.field-s.ensures.line_value at c.list.ensures
