@@ -53,6 +53,11 @@ unfoldable pub find_in : (items : List ℕ) (first count : ℕ) → Pair → Opt
 find_in s i zero c = None
 find_in s i (suc n) c = let r = find_in s (suc i) n c in cond (fits c (pair_at s i)) (Some (root_at s i)) r
 
+-- the level of a number
+unfoldable pub level_of : ℕ → Level
+level_of zero = Copy
+level_of (suc k) = Replace
+
 -- what stands for a column: at level Copy the column itself, at level Replace its definition
 unfoldable pub put_for : Level → List Item → Pair → Expr
 put_for Copy is c = col c

@@ -10,7 +10,7 @@ ghost use Rattle.rules.specs.Merge.{replace, replace_item};
 ghost use Rattle.arena.specs.Cells.{expr_at, Wf};
 ghost use Rattle.arena.specs.Lists.{listed, ListOk};
 ghost use Rattle.arena.specs.Rows.{item_at, row_item, RowOk};
-ghost use Rattle.arena_build.specs.Build.{Answer, find_in, Pushed, put_for};
+ghost use Rattle.arena_build.specs.Build.{Answer, find_in, level_of, Pushed, put_for};
 ghost use Rattle.arena_build.specs.Lists.{ItemAnswer, ListAnswer, Marked, put_row};
 
 use arena::{Full, Items, View};
@@ -59,6 +59,19 @@ pub fn find_def(list: &Items, q: u16, n: u16) -> Option<usize>
 pub enum Level {
     Copy,
     Replace,
+}
+
+/// The level of a number: 0 is Copy, any other is Replace.
+impl From<usize> for Level {
+    ghost from_gives = { λ number level. level ≡ level_of number };
+
+    #[tactic(auto, unfolding(crate::specs::Build::level_of))]
+    fn from(number: usize) -> Level {
+        match number {
+            0 => Level::Copy,
+            _ => Level::Replace,
+        }
+    }
 }
 
 /// Builds the expression of node `i` of `src` behind the nodes in use. At level Copy it is a copy; at level Replace each column is

@@ -57,7 +57,7 @@ narrowed {C} w x l f e = record { wf = x.ready.wf; below = x.below; node = l; fi
 
 module _ (C : Catalogue) (a : Arrays) (count : ℕ) (r : Results) (s items cells : List ℕ) (u : Used) (w : rules.Walked) (k : ℕ) {ask : RequiredIndices} {R : Mask} (l : k < count)
     (f : Fit R (fields_of C (plan_at a k))) (asks : Asks ask R) (fk : Fit w.kept (fields_of C (plan_at a k))) (e : fields_of C w.plan ≡ select w.kept (fields_of C (plan_at a k))) where
-  pub topped_walk : (v : Walked) → WalkIs C a count r (results s items cells) u w (Ok v) → (s' : List ℕ) (v' : std.Result Walked Full) (topped : Bool) → ToppedIs s s' k ask v v' topped
+  pub topped_walk : (v : Walked) → WalkIs C a count r (results s items cells) u w (Ok v) → (s' : List ℕ) (v' : std.Result Walked Full) (topped : Bool) → ToppedIs s s' k ask (Ok v) v' topped
       → WalkIs C a count r (results s' items cells) u (record { plan = input C (fields_of C (plan_at a k)) topped R w.plan; kept = cond topped R w.kept; overlong = w.overlong }) v'
   unfolding input
   topped_walk v x s' v' false d = rw (d.0, d.1) x
@@ -71,6 +71,11 @@ module _ (C : Catalogue) (a : Arrays) (count : ℕ) (r : Results) (s items cells
   unfolding input
   topped-large false y = y
   topped-large true y = large_up u (plan_nodes w.plan) _ (plan_tags w.plan) _ (λ o. o) (top-nodes C (fields_of C (plan_at a k)) R w.plan) (top-tags C (fields_of C (plan_at a k)) R w.plan) y
+
+-- over what is too large no projection is put
+nothing_put : {s s' : List ℕ} (k : ℕ) (ask : RequiredIndices) {e : Full} {w : std.Result Walked Full} (topped : Bool) → ToppedIs s s' k ask (Err e) w topped → (s' ≡ s) × (w ≡ Err e)
+nothing_put k ask false d = d
+nothing_put k ask true d = d
 
 -- ── two inputs ──────────────────────────────────────────────────────────────────────────────
 
@@ -135,7 +140,7 @@ module _ {cells rows nodes fields widths keys : List ℕ} {r : Results} {k : ℕ
 
 module _ (s : Settings) {cells rows nodes fields widths keys : List ℕ} where
   module _ {r : Results} {sr items icells : List ℕ} {k : ℕ} {ask : RequiredIndices} {u : Used} (topped : Bool) where
-    pub topped_after : {v : Walked} {sr' : List ℕ} (w : std.Result Walked Full) → After s cells rows nodes fields widths keys r (results sr items icells) k ask u (Ok v) → ToppedIs sr sr' k ask v w topped
+    pub topped_after : {v : Walked} {sr' : List ℕ} (w : std.Result Walked Full) → After s cells rows nodes fields widths keys r (results sr items icells) k ask u (Ok v) → ToppedIs sr sr' k ask (Ok v) w topped
         → InputAfter s cells rows nodes fields widths keys r (results sr' items icells) k ask topped u w
     topped_after {v} {sr'} w x d = record {
       is = λ b.
@@ -152,6 +157,11 @@ module _ (s : Settings) {cells rows nodes fields widths keys : List ℕ} where
           (walk (merge_by s) b.standing.C (plan_at (lent cells rows nodes) k) none (flag_of ask) b.R) k b.within b.fit b.asks
           (node_kept b.standing s k b.within (flag_of ask) b.fit) (node_good b.standing s k b.within (flag_of ask) b.fit).kept.fields topped (x.is b);
     }
+
+    pub topped_put : {sr' : List ℕ} (v w : std.Result Walked Full) → After s cells rows nodes fields widths keys r (results sr items icells) k ask u v → ToppedIs sr sr' k ask v w topped
+        → InputAfter s cells rows nodes fields widths keys r (results sr' items icells) k ask topped u w
+    topped_put (Ok v) w x d = topped_after w x d
+    topped_put (Err e) w x d = let p = nothing_put k ask topped d in rw (p.0, p.1) (topped_large x)
 
   module _ {r : Results} {k : ℕ} {j : Job} {u : Used} where
     module _ (right : ℕ) (e : j.todo ≡ todos.Two right) where

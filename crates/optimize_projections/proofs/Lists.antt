@@ -37,7 +37,7 @@ use Rattle.projections.specs.Tops.{Held, ListIs}
 use Rattle.projections.specs.declared.Selection.{Selection}
 use Rattle.projections.specs.declared.Selection.TheVariants as selection
 use Rattle.projections.proofs.Tops.{copies_held, held_grown, held_more, items_kept, named_differ, select_sum}
-use Rattle.walk_steps.specs.Steps.{Picked, PickedIs, Putting, SelectionIs, kept_pending, pending_items, side}
+use Rattle.walk_steps.specs.Steps.{FieldsFor, ListPut, Picked, PickedIs, Putting, SelectionIs, kept_pending, pending_items, side}
 use Rattle.walk_steps.specs.declared.Chosen.{Chosen}
 use Rattle.walk_steps.specs.declared.Pending.{Pending}
 use Rattle.walk_steps.specs.declared.Used.{Used}
@@ -269,3 +269,21 @@ module _ {cells rows nodes fields widths keys arows acells sr items icells : Lis
               (p.on_top.covers b.standing.C (lent cells rows nodes) b.standing.count items₂ icells₂ w.used.rows w.used.cells k (node_walk s b).kept b.R (pending_items l rows cells arows acells)
               (narrowed (node_walk s b) y.0 b.within (node-fit b) g.kept.fields) y.1 b.asks b.fit (list-is b w.root w.used y.0 c.list (chosen b))) p.over);
         }
+
+      module _ {sr₂ items₂ icells₂ : List ℕ} (w : Result Walked Full) (x : After s cells rows nodes fields widths keys (results sr items₁ icells₁) (results sr₂ items₂ icells₂) k c.ask c.used w) where
+        pub input_fields : BeforeList cells rows nodes fields widths keys arows acells (results sr items icells) k l request u → FieldsFor fields (first_at widths k) (width_at widths k) w
+        input_fields b = by w x
+          where
+            by : (v : Result Walked Full) → After s cells rows nodes fields widths keys (results sr items₁ icells₁) (results sr₂ items₂ icells₂) k c.ask c.used v → FieldsFor fields (first_at widths k) (width_at widths k) v
+            by (Ok v) y = list-fields y b
+            by (Err e) y = tt
+
+        pub list_put : {sr₃ : List ℕ} (v : Result Walked Full) → ListPut sr₂ sr₃ c.list fields l.top (first_at widths l.top) (width_at widths l.top) request (first_at widths k) (width_at widths k) w v
+            → PutAfter s cells rows nodes fields widths keys arows acells (results sr items icells) (results sr₃ items₂ icells₂) k l request u v
+        list_put {sr₃} v p = by w x p
+          where
+            by : (z : Result Walked Full) → After s cells rows nodes fields widths keys (results sr items₁ icells₁) (results sr₂ items₂ icells₂) k c.ask c.used z
+                → ListPut sr₂ sr₃ c.list fields l.top (first_at widths l.top) (width_at widths l.top) request (first_at widths k) (width_at widths k) z v
+                → PutAfter s cells rows nodes fields widths keys arows acells (results sr items icells) (results sr₃ items₂ icells₂) k l request u v
+            by (Ok z) y d = put_after y v d
+            by (Err e) y d = rw (d.0, d.1) (put_large y)

@@ -34,7 +34,7 @@ use Rattle.jobs.specs.Job.{AtLeaf, AtNode, AtOne, AtTwo, InputIs, JobAt, KeptOf}
 use Rattle.jobs.specs.declared.Job.{Job}
 use Rattle.jobs.specs.declared.Todo.{Todo}
 use Rattle.jobs.specs.declared.Todo.TheVariants as todos
-use Rattle.walk_steps.specs.Steps.{LeftFor, NodePut, OnePut, PutAs, SameAs}
+use Rattle.walk_steps.specs.Steps.{DonePut, LeftFor, NodePut, OnePut, PutAs, SameAs}
 use Rattle.walk_steps.specs.declared.Inputs.{Inputs}
 use Rattle.walk_steps.specs.declared.Used.{Used}
 use Rattle.walk_steps.specs.declared.Walked.{Walked}
@@ -193,7 +193,7 @@ module _ (M : Merge) (C : Catalogue) (a : Arrays) (count : ℕ) (r : Results) (s
 
   pub at_node : Ready C a count r u → ((f : Bool) (Q : Mask) → Fit Q (fields_of C (plan_at a (k + 1))) → k + 1 < count → Fit (walk M C (plan_at a (k + 1)) none f Q).kept (fields_of C (plan_at a (k + 1))))
       → (i : Inputs) (t : Todo) (x : AtNode C a count k node b R j t)
-      → InputsIs M C a count r (results s items cells) u k j (wanted C a count k node b R j t x).Q (wanted C a count k node b R j t x).P (Ok i) t → NodePut s s' k j i w t
+      → InputsIs M C a count r (results s items cells) u k j (wanted C a count k node b R j t x).Q (wanted C a count k node b R j t x).P (Ok i) t → DonePut s s' k j i w t
       → WalkIs C a count r (results s' items cells) u (walk M C (plan_at a k) none b R) w
   at_node ready fits i todos.Leaf x y d = at_leaf ready y.1 x (rw (y.0.0, y.0.1, y.0.2) at d)
   at_node ready fits i todos.Nothing x y d = at_nothing ready y.1 x (rw y.0.2 at d)
@@ -251,7 +251,7 @@ module _ {cells rows nodes fields widths keys : List ℕ} {r : Results} {k : ℕ
     inputs-left b = left b.standing.C (lent cells rows nodes) b.standing.count k node (flag_of request) b.R j j.todo (q.is (other-asked b))
 
     pub node-after : {s : Settings} {sr items icells : List ℕ} {i : Inputs} → InputsAfter s cells rows nodes fields widths keys r (results sr items icells) k j u (Ok i) → {sr' : List ℕ} (w : Result Walked Full)
-        → NodePut sr sr' k j i w j.todo → After s cells rows nodes fields widths keys r (results sr' items icells) k request u w
+        → DonePut sr sr' k j i w j.todo → After s cells rows nodes fields widths keys r (results sr' items icells) k request u w
     node-after {s} {sr} {items} {icells} {i} x {sr'} w d = record {
       is = λ b.
           at_node (merge_by s) b.standing.C (lent cells rows nodes) b.standing.count r sr items icells u k b.within node is (flag_of request) b.R j w sr' b.ready
@@ -264,3 +264,8 @@ module _ {cells rows nodes fields widths keys : List ℕ} {r : Results} {k : ℕ
           at_large (merge_by s) b.standing.C (lent cells rows nodes) b.standing.count r [] [] [] u k b.within node is (flag_of request) b.R j (Err h) [] r' g h
           j.todo (q.is (other-asked b)) (x.is (inputs-before b));
     }
+
+    pub node_put : {s : Settings} {sr items icells : List ℕ} (i : Result Inputs Full) → InputsAfter s cells rows nodes fields widths keys r (results sr items icells) k j u i → {sr' : List ℕ} (w : Result Walked Full)
+        → NodePut sr sr' k j i w j.todo → After s cells rows nodes fields widths keys r (results sr' items icells) k request u w
+    node_put (Ok i) x w d = node-after x w d
+    node_put (Err e) x w d = rw (d.0, d.1) (node-large x)

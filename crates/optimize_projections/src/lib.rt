@@ -111,7 +111,7 @@ pub fn optimize_projections(
                 plan.widths,
                 plan.keys,
             );
-            let inputs = optimize_inputs(plan, settings, k, job, a, b, out, used)?;
+            let inputs = optimize_inputs(plan, settings, k, job, a, b, out, used);
             walk_steps::put_node(out.records, k, job, inputs)
         }
     }
@@ -172,7 +172,7 @@ pub fn optimize_input(
     requires { PlanBefore plan.now out.old k ask used }
     ensures { PlanInputAfter settings plan.now out.old out.new k ask topped used result }
 {
-    let w = optimize_projections(plan, settings, k, ask, a, b, out, used)?;
+    let w = optimize_projections(plan, settings, k, ask, a, b, out, used);
     walk_steps::top_up(out.records, topped, k, ask, w)
 }
 
@@ -269,7 +269,7 @@ pub fn rewrite_projection_given_requirements(
         icells,
         used,
     )?;
-    let w = optimize_projections(plan, settings, k, chosen.ask, a, b, out, chosen.used)?;
+    let w = optimize_projections(plan, settings, k, chosen.ask, a, b, out, chosen.used);
     let top = list.top;
     let upper = lookup::first_at(plan.widths, top);
     let wide = lookup::width_at(plan.widths, top);

@@ -2,11 +2,12 @@
 use mathlib.Core.Path.{◌≡◌, sym, subst, ◌∙◌, ap, ap₂}
 use mathlib.Core.Logic.{⊎_elim}
 use mathlib.Core.List.{List, [], ◌∷◌, ◌++◌}
-use Prim.Native.Nat.{ℕ, suc, ◌+◌, ◌-◌, ◌*◌, ◌/◌, ◌%◌, ◌^◌, ◌≤◌, ◌<◌, min}
+use Prim.Native.Nat.{ℕ, zero, suc, ◌+◌, ◌-◌, ◌*◌, ◌/◌, ◌%◌, ◌^◌, ◌≤◌, ◌<◌, min}
 use native.Mathlib.Omega.{arith}
 use lib.Bits.{bit_or}
-use lib.ListN.{length, get_or, set, take, replicate, length-append, length-replicate, length-take}
+use lib.ListN.{length, get_or, set, take, drop, replicate, length-append, length-replicate, length-take}
 use lib.Seq.{take-set-lt, get_or-take}
+use borrow.Rule.Slice.PartMut.{put_mid}
 use mir.Val.{Fits}
 use mir.Syntax.{w64}
 use Rattle.cpl.specs.Lists.{All, a[], ◌a∷◌}
@@ -23,6 +24,39 @@ use Rattle.required_indices.proofs.Shifts.{shifted_one}
 pub words : (ws : List ℕ) → ((i : ℕ) → Fits w64 (get_or ws i 0)) → All Word ws
 words [] f = a[]
 words (w ∷ ws) f = (f 0).fits a∷ words ws (λ i. f (suc i))
+
+-- numbers of 64 digits, among other such numbers
+pub fits_set : (ws : List ℕ) (i : ℕ) (x : ℕ) → x < 2 ^ 64 → ((j : ℕ) → Fits w64 (get_or ws j 0)) → (j : ℕ) → Fits w64 (get_or (set ws i x) j 0)
+fits_set [] i x f h j = h j
+fits_set (w ∷ ws) zero x f h zero = record { fits = f }
+fits_set (w ∷ ws) zero x f h (suc j) = h (suc j)
+fits_set (w ∷ ws) (suc i) x f h zero = h 0
+fits_set (w ∷ ws) (suc i) x f h (suc j) = fits_set ws i x f (λ k. h (suc k)) j
+
+fits_append : (vs ws : List ℕ) → ((j : ℕ) → Fits w64 (get_or vs j 0)) → ((j : ℕ) → Fits w64 (get_or ws j 0)) → (j : ℕ) → Fits w64 (get_or (vs ++ ws) j 0)
+fits_append [] ws h g j = g j
+fits_append (v ∷ vs) ws h g zero = h 0
+fits_append (v ∷ vs) ws h g (suc j) = fits_append vs ws (λ k. h (suc k)) g j
+
+fits_take : (n : ℕ) (ws : List ℕ) → ((j : ℕ) → Fits w64 (get_or ws j 0)) → (j : ℕ) → Fits w64 (get_or (take n ws) j 0)
+fits_take zero ws h j = record { fits = omega arith }
+fits_take (suc n) [] h j = h j
+fits_take (suc n) (w ∷ ws) h zero = h 0
+fits_take (suc n) (w ∷ ws) h (suc j) = fits_take n ws (λ k. h (suc k)) j
+
+fits_drop : (n : ℕ) (ws : List ℕ) → ((j : ℕ) → Fits w64 (get_or ws j 0)) → (j : ℕ) → Fits w64 (get_or (drop n ws) j 0)
+fits_drop zero ws h j = h j
+fits_drop (suc n) [] h j = h j
+fits_drop (suc n) (w ∷ ws) h j = fits_drop n ws (λ k. h (suc k)) j
+
+fits_zeros : (n j : ℕ) → Fits w64 (get_or (replicate n 0) j 0)
+fits_zeros zero j = record { fits = omega arith }
+fits_zeros (suc n) zero = record { fits = omega arith }
+fits_zeros (suc n) (suc j) = fits_zeros n j
+
+-- words of 0 come into use
+pub fits_mid : (a k : ℕ) (ws zs : List ℕ) (n : ℕ) → zs ≡ replicate n 0 → ((j : ℕ) → Fits w64 (get_or ws j 0)) → (j : ℕ) → Fits w64 (get_or (put_mid a k ws zs) j 0)
+fits_mid a k ws zs n e h = rw e (fits_append (take a ws) _ (fits_take a ws h) (fits_append (replicate n 0) _ (fits_zeros n) (fits_drop k _ (fits_drop a ws h))))
 
 -- index i is digit i % 64 of word i / 64
 pub has_at : {ws : List ℕ} → All Word ws → (i : ℕ) → has (number ws) i ≡ has (get_or ws (i / 64) 0) (i % 64)

@@ -1,5 +1,7 @@
 -- What a request means: the set that its words hold, and the mask that it stands for. Every contract says it by `set_of`.
 use Rattle.std.specs.Prelude.{◌≡◌, Bool, true, false, List, ◌∷◌, ℕ, ◌+◌, ◌^◌, ◌≤◌, ◌<◌, min, eqb, length, get_or, take, drop, Option, Some, None}
+use Rattle.std.proofs.Common.{Fits}
+use Rattle.std.specs.Int.{w64}
 use Rattle.rules.specs.Mask.{Mask}
 use Rattle.required_indices.specs.Set.{has, set_mask}
 use Rattle.required_indices.specs.Words.{number}
@@ -12,6 +14,10 @@ words_n = 8
 -- the words that are in use: what the others hold does not matter
 abbrev pub words_of : RequiredIndices → List ℕ
 words_of r = take r.used r.indices
+
+-- words that are lent: as many as there are, each of 64 digits
+abbrev pub Lent : List ℕ → Type 0
+Lent ws = (length ws ≡ words_n) × ((j : ℕ) → Fits w64 (get_or ws j 0))
 
 -- the set that the first `used` of some words hold
 abbrev pub set_in : List ℕ → ℕ → ℕ

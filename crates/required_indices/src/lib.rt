@@ -9,13 +9,15 @@
 //! A function that only reads a set is lent it, as `insert` is to change it in place: a set is not copied where it is looked at.
 #![tactic(auto)]
 
-ghost use Rattle.std.specs.Prelude.{◌≡◌, true, false, ◌++◌, ◌+◌, ◌-◌, ◌*◌, ◌/◌, ◌%◌, ◌^◌, ◌≤◌, ◌<◌, min, eqb, get_or, length, replicate, take};
+ghost use Rattle.std.specs.Prelude.{◌≡◌, ℕ, true, false, ◌++◌, ◌+◌, ◌-◌, ◌*◌, ◌/◌, ◌%◌, ◌^◌, ◌≤◌, ◌<◌, min, eqb, get_or, length, replicate, take};
+ghost use Rattle.std.proofs.Common.{Fits};
+ghost use Rattle.std.specs.Int.{w64};
 ghost use Rattle.std.specs.Int.Bits.{bit_or};
 ghost use Rattle.std.specs.Int.Count.{ones};
 ghost use Rattle.std.proofs.Math.Seq.{paste};
 ghost use Rattle.required_indices.specs.Set.{has};
 ghost use Rattle.required_indices.specs.Words.{number};
-ghost use Rattle.required_indices.specs.Request.{words_n, set_in, set_of, flag_of, Holds, IsNext, stored, stored_n, stored_at};
+ghost use Rattle.required_indices.specs.Request.{words_n, set_in, set_of, flag_of, Holds, IsNext, Lent, stored, stored_n, stored_at};
 
 /// The number of words; `words_n` of specs/Request.antt is the same.
 pub const WORDS: usize = 8;
@@ -130,6 +132,7 @@ fn insert_in(words: &mut [u64], used: usize, i: usize) -> usize
     requires long { length words.old ≡ words_n }
     requires i_bound { i < words_n * 64 }
     ensures kept_long { length words.new ≡ words_n }
+    ensures fits { (j : ℕ) → Fits w64 (get_or words.new j 0) }
     ensures added { set_in words.new result ≡ bit_or (set_in words.old used) (2 ^ i) }
 {
     let k = i / 64;
@@ -202,7 +205,8 @@ impl RequiredIndices {
     /// field's is.
     pub fn insert(&mut self, i: usize)
         requires { i < words_n * 64 }
-        ensures { Holds self.new (bit_or (set_of self.old) (2 ^ i)) (flag_of self.old) }
+        ensures holds { Holds self.new (bit_or (set_of self.old) (2 ^ i)) (flag_of self.old) }
+        ensures lent { Lent self.new.indices }
     {
         self.used = insert_in(&mut self.indices, self.used, i);
     }

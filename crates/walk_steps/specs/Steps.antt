@@ -17,7 +17,7 @@ use Rattle.jobs.specs.Job.{KeptOf, Leftover}
 use Rattle.jobs.specs.declared.Job.{Job}
 use Rattle.jobs.specs.declared.Todo.{Todo}
 use Rattle.jobs.specs.declared.Todo.TheVariants as todos
-use Rattle.projections.specs.Lists.{Copies, is_bare, kept_items}
+use Rattle.projections.specs.Lists.{Copies, FieldsIn, is_bare, kept_items}
 use Rattle.projections.specs.Tops.{ProjectionPut, ToppedUp}
 use Rattle.projections.specs.declared.Selection.{Selection}
 use Rattle.projections.specs.declared.Selection.TheVariants as selection
@@ -99,12 +99,17 @@ pub record OnePut (s s' : List ℕ) (k : ℕ) (j : Job) (i : Inputs) (w : Result
   pub put : PutAs s s' i.used (records.Kept k i.first i.second) (set_of j.set) kept w
 
 -- node k over its inputs, by what its job says is to be done
-abbrev pub NodePut : (s s' : List ℕ) (k : ℕ) (j : Job) (i : Inputs) (w : Result Walked Full) → Todo → Type 0
-NodePut s s' k j i w todos.Leaf = PutAs s s' i.used (records.Kept k i.first i.second) (set_of j.set) j.kept w
-NodePut s s' k j i w todos.Nothing = PutAs s s' i.used records.Nothing (set_of j.set) j.kept w
-NodePut s s' k j i w todos.Same = (s' ≡ s) × SameAs j i w
-NodePut s s' k j i w (todos.One topped) = OnePut s s' k j i w
-NodePut s s' k j i w (todos.Two right) = PutAs s s' i.used (records.Kept k i.first i.second) (set_of j.set) j.kept w
+abbrev pub DonePut : (s s' : List ℕ) (k : ℕ) (j : Job) (i : Inputs) (w : Result Walked Full) → Todo → Type 0
+DonePut s s' k j i w todos.Leaf = PutAs s s' i.used (records.Kept k i.first i.second) (set_of j.set) j.kept w
+DonePut s s' k j i w todos.Nothing = PutAs s s' i.used records.Nothing (set_of j.set) j.kept w
+DonePut s s' k j i w todos.Same = (s' ≡ s) × SameAs j i w
+DonePut s s' k j i w (todos.One topped) = OnePut s s' k j i w
+DonePut s s' k j i w (todos.Two right) = PutAs s s' i.used (records.Kept k i.first i.second) (set_of j.set) j.kept w
+
+-- the same where the inputs are there; else nothing is put
+abbrev pub NodePut : (s s' : List ℕ) (k : ℕ) (j : Job) → Result Inputs Full → (w : Result Walked Full) → Todo → Type 0
+NodePut s s' k j (Ok i) w t = DonePut s s' k j i w t
+NodePut s s' k j (Err e) w t = (s' ≡ s) × (w ≡ Err e)
 
 -- ── projections on top ──────────────────────────────────────────────────────────────────────
 
@@ -123,11 +128,21 @@ pub record Topping (s s' : List ℕ) (k : ℕ) (ask : RequiredIndices) (w : Walk
   pub on_top : ToppedUp s s' w.used.records w.root k ask w.kept t
   pub over : Over t w.used ask v
 
-abbrev pub ToppedIs : (s s' : List ℕ) (k : ℕ) (ask : RequiredIndices) (w : Walked) (v : Result Walked Full) (topped : Bool) → Type 0
-ToppedIs s s' k ask w v false = (s' ≡ s) × (v ≡ Ok w)
-ToppedIs s s' k ask w v true = Topping s s' k ask w v
+abbrev pub ToppedIs : (s s' : List ℕ) (k : ℕ) (ask : RequiredIndices) (w v : Result Walked Full) (topped : Bool) → Type 0
+ToppedIs s s' k ask w v false = (s' ≡ s) × (v ≡ w)
+ToppedIs s s' k ask (Ok w) v true = Topping s s' k ask w v
+ToppedIs s s' k ask (Err e) v true = (s' ≡ s) × (v ≡ Err e)
+
+-- the fields of an input that are left lie in the array
+abbrev pub FieldsFor : (fields : List ℕ) (start width : ℕ) → Result Walked Full → Type 0
+FieldsFor fields start width (Ok w) = FieldsIn fields start width w.kept
+FieldsFor fields start width (Err e) = Unit {0}
 
 pub record Putting (s s' : List ℕ) (list : Selection) (fields : List ℕ) (top start width : ℕ) (r : RequiredIndices) (lower below : ℕ) (w : Walked) (v : Result Walked Full) : Type 0 where
   pub t : Result Topped Full
   pub on_top : ProjectionPut s s' w.used.records w.root list fields top start width r lower below w.kept t
   pub over : Over t w.used r v
+
+abbrev pub ListPut : (s s' : List ℕ) (list : Selection) (fields : List ℕ) (top start width : ℕ) (r : RequiredIndices) (lower below : ℕ) (w v : Result Walked Full) → Type 0
+ListPut s s' list fields top start width r lower below (Ok w) v = Putting s s' list fields top start width r lower below w v
+ListPut s s' list fields top start width r lower below (Err e) v = (s' ≡ s) × (v ≡ Err e)

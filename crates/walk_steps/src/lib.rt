@@ -13,7 +13,7 @@ ghost use Rattle.requests.specs.Asked.{Below};
 ghost use Rattle.result.specs.Result.{record_n};
 ghost use Rattle.merge.specs.Step.{Reads, Stepped};
 ghost use Rattle.projections.specs.Lists.{FieldsIn, Room};
-ghost use Rattle.walk_steps.specs.Steps.{kept_pending, LeftFor, ListOk, NodePut, over, pending_items, Picked, PutAs, Putting, Scratch, side, ToppedIs};
+ghost use Rattle.walk_steps.specs.Steps.{FieldsFor, kept_pending, LeftFor, ListOk, ListPut, NodePut, over, pending_items, Picked, PutAs, Scratch, side, ToppedIs};
 
 use arena::{Full, Items};
 use jobs::{Job, Todo};
@@ -197,12 +197,18 @@ fn put(
     })
 }
 
-/// Node `k` put over its rewritten inputs, as its job says.
-pub fn put_node(records: &mut [u64], k: usize, job: Job, inputs: Inputs) -> Result<Walked, Full>
+/// Node `k` put over its rewritten inputs, as its job says; too large where they are.
+pub fn put_node(
+    records: &mut [u64],
+    k: usize,
+    job: Job,
+    inputs: Result<Inputs, Full>,
+) -> Result<Walked, Full>
     requires record_n_in_bounds { max_nodes * record_n ≤ length records.old }
     requires left_for { LeftFor job job.todo }
     ensures { NodePut records.old records.new k job inputs result job.todo }
 {
+    let inputs = inputs?;
     let node = Record::Kept {
         old: k,
         first: inputs.first,
@@ -239,20 +245,21 @@ fn over(topped: Topped, used: Used, kept: RequiredIndices) -> Walked
     }
 }
 
-/// Top-up of node `k`, which was asked for `ask` and became `w`; where it is not wanted, `w` as it is.
+/// Top-up of node `k`, which was asked for `ask` and became `w`; `w` as it is where it is not wanted or `w` is too large.
 pub fn top_up(
     records: &mut [u64],
     topped: bool,
     k: usize,
     ask: RequiredIndices,
-    w: Walked,
+    w: Result<Walked, Full>,
 ) -> Result<Walked, Full>
     requires { max_nodes * record_n ≤ length records.old }
     ensures { ToppedIs records.old records.new k ask w result topped }
 {
     if !topped {
-        return Ok(w);
+        return w;
     }
+    let w = w?;
     let t = projections::add_projection_on_top_if_helpful(
         records,
         w.used.records,
@@ -265,7 +272,8 @@ pub fn top_up(
 }
 
 /// The kept items of the pending list, whose pairs are the fields of node `top`, `width` from field `start` on, over an input that became `w`. Its
-/// fields are the `input_width` from field `lower` on. Both lie in the array. Rust: the end of `rewrite_projection_given_requirements`.
+/// fields are the `input_width` from field `lower` on. Both lie in the array. Too large where `w` is. Rust: the end of
+/// `rewrite_projection_given_requirements`.
 pub fn put_list(
     records: &mut [u64],
     list: Selection,
@@ -276,13 +284,14 @@ pub fn put_list(
     request: RequiredIndices,
     lower: usize,
     input_width: usize,
-    w: Walked,
+    w: Result<Walked, Full>,
 ) -> Result<Walked, Full>
     requires record_n_in_bounds { max_nodes * record_n ≤ length records.old }
     requires fields_in { FieldsIn fields.now start width request }
-    requires fields_for { FieldsIn fields.now lower input_width w.kept }
-    ensures { Putting records.old records.new list fields.now top start width request lower input_width w result }
+    requires fields_for { FieldsFor fields.now lower input_width w }
+    ensures { ListPut records.old records.new list fields.now top start width request lower input_width w result }
 {
+    let w = w?;
     let t = projections::put_projection(
         records,
         w.used.records,

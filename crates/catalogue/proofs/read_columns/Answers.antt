@@ -22,7 +22,7 @@ returns-in_err-column c =
 pub loop-preserved : goal.loop-preserved
 loop-preserved c =
     let w = c.loop.invariant in
-    one_column w (omega arith) _ (rw c.in_ok-column.was at (c.read_fresh.ensures.by_index w.read w.stands)).0 c.insert.ensures (omega arith)
+    one_column w (omega arith) _ (rw c.in_ok-column.was at (c.read_fresh.ensures.by_index w.read w.stands)).0 c.insert.ensures.holds (omega arith)
 
 pub returns : goal.returns
 returns c = no_column c.loop.invariant (omega arith) c.put_key.ensures

@@ -33,7 +33,7 @@ loop-preserved c =
     record {
       long = c.read_key.auto.keys ∙ c.loop.invariant.long;
       each = λ C wide. let w = c.loop.invariant.each C wide in
-          one_key w (omega arith) room _ c.read_key.new.keys c.in_ok-key.key (rw c.in_ok-key.was at (c.read_key.ensures C w.before wide w.stands)) c.insert.ensures (omega arith);
+          one_key w (omega arith) room _ c.read_key.new.keys c.in_ok-key.key (rw c.in_ok-key.was at (c.read_key.ensures C w.before wide w.stands)) c.insert.ensures.holds (omega arith);
     }
 
 pub returns : goal.returns

@@ -2,10 +2,10 @@
 -- Assumes nothing.
 use mathlib.Core.Path.{refl, sym, ◌∙◌}
 use Rattle.std.proofs.lemmas.Result.{err_from_is_err_and}
-use Rattle.optimize_projections.proofs.Inputs.{first-before, first_too_large, leaf-after, nothing-after, one_after, one-before, one_large, right_above, same_after, same-before, same_large, second-before, second_too_large, topped_after, topped_large, two-after}
-use Rattle.optimize_projections.proofs.Nodes.{inputs-before, inputs-left, node-after, node-large, other, other-asked}
+use Rattle.optimize_projections.proofs.Inputs.{first-before, first_too_large, leaf-after, nothing-after, one_after, one-before, one_large, right_above, same_after, same-before, same_large, second-before, second_too_large, topped_put, two-after}
+use Rattle.optimize_projections.proofs.Nodes.{inputs-before, inputs-left, node_put, other, other-asked}
 use Rattle.optimize_projections.proofs.Merges.{down_after, down_before, file_list, load_after, lower_reads, other_after, over-large, stop_after}
-use Rattle.optimize_projections.proofs.Lists.{copies_large, input-before, list-fields, put_after, put_large, request_within, top-fields}
+use Rattle.optimize_projections.proofs.Lists.{copies_large, input-before, input_fields, list_put, request_within, top-fields}
 use Rattle.requests.proofs.Rows.{row_below}
 use native.Mathlib.Omega.{arith}
 use Rattle.optimize_projections.proofs.+merge_projections_optimize_input_optimize_inputs_optimize_projections_rewrite_projection_given_requirements.Goals as goal
@@ -48,13 +48,9 @@ pub merge_projections-returns-in-Stop : goal.merge_projections-returns-in-Stop
 merge_projections-returns-in-Stop t c =
     stop_after _ _ _ (sym c.in-Projection.is ∙ c.node_at.ensures.is) (rw c.in-Stop.is at c.in_ok-step.ensures) c.rewrite_projection_given_requirements-in-Stop.ensures
 
-pub optimize_input-returns-in_err-w : goal.optimize_input-returns-in_err-w
-optimize_input-returns-in_err-w t c =
-    let p = err_from_is_err_and c.from_residual.result c.from_residual.ensures.1 in rw p.1 (topped_large _ _ c.in_err-w.ensures)
-
 pub optimize_input-returns : goal.optimize_input-returns
 optimize_input-returns t c =
-    topped_after _ _ _ c.in_ok-w.ensures c.top_up.ensures
+    topped_put _ _ _ _ c.optimize_projections-w.ensures c.top_up.ensures
 
 pub optimize_inputs-optimize_input-requires : goal.optimize_inputs-optimize_input-requires
 optimize_inputs-optimize_input-requires t c =
@@ -118,13 +114,9 @@ pub optimize_projections-job_at-job-requires : goal.optimize_projections-job_at-
 optimize_projections-job_at-job-requires t c =
     other-asked c.node_at-node.ensures.is (other c.node_at-node.result c.in_default.not-Projection) c.requires
 
-pub optimize_projections-optimize_inputs-requires : goal.optimize_projections-optimize_inputs-requires
-optimize_projections-optimize_inputs-requires t c =
+pub optimize_projections-optimize_inputs-inputs-requires : goal.optimize_projections-optimize_inputs-inputs-requires
+optimize_projections-optimize_inputs-inputs-requires t c =
     (omega (arith, c.decreases), inputs-before c.node_at-node.ensures.is (other c.node_at-node.result c.in_default.not-Projection) c.job_at-job.ensures c.requires)
-
-pub optimize_projections-returns-in_err-inputs-in_default : goal.optimize_projections-returns-in_err-inputs-in_default
-optimize_projections-returns-in_err-inputs-in_default t c =
-    let p = err_from_is_err_and c.from_residual.result c.from_residual.ensures.1 in rw p.1 (node-large c.node_at-node.ensures.is (other c.node_at-node.result c.in_default.not-Projection) c.job_at-job.ensures c.in_err-inputs-in_default.ensures)
 
 pub optimize_projections-put_node-requires : goal.optimize_projections-put_node-requires
 optimize_projections-put_node-requires t c =
@@ -134,9 +126,9 @@ pub optimize_projections-returns-in-Projection : goal.optimize_projections-retur
 optimize_projections-returns-in-Projection t c =
     load_after _ _ _ _ (sym c.in-Projection.is ∙ c.node_at-node.ensures.is) c.merge_projections.ensures
 
-pub optimize_projections-returns-in_ok-inputs-in_default : goal.optimize_projections-returns-in_ok-inputs-in_default
-optimize_projections-returns-in_ok-inputs-in_default t c =
-    node-after c.node_at-node.ensures.is (other c.node_at-node.result c.in_default.not-Projection) c.job_at-job.ensures c.in_ok-inputs-in_default.ensures _ c.put_node.ensures
+pub optimize_projections-returns-in_default : goal.optimize_projections-returns-in_default
+optimize_projections-returns-in_default t c =
+    node_put c.node_at-node.ensures.is (other c.node_at-node.result c.in_default.not-Projection) c.job_at-job.ensures _ c.optimize_inputs-inputs.ensures _ c.put_node.ensures
 
 pub rewrite_projection_given_requirements-get_at_indices-requires-clause-request_bound : goal.rewrite_projection_given_requirements-get_at_indices-requires-clause-request_bound
 rewrite_projection_given_requirements-get_at_indices-requires-clause-request_bound t c =
@@ -150,13 +142,9 @@ pub rewrite_projection_given_requirements-returns-in_err-chosen : goal.rewrite_p
 rewrite_projection_given_requirements-returns-in_err-chosen t c =
     let p = err_from_is_err_and c.from_residual.result c.from_residual.ensures.1 in rw p.1 (copies_large c.args.out.now.items.now c.args.out.now.icells.now _ c.in_err-chosen.ensures)
 
-pub rewrite_projection_given_requirements-optimize_projections-requires : goal.rewrite_projection_given_requirements-optimize_projections-requires
-rewrite_projection_given_requirements-optimize_projections-requires t c =
+pub rewrite_projection_given_requirements-optimize_projections-w-requires : goal.rewrite_projection_given_requirements-optimize_projections-w-requires
+rewrite_projection_given_requirements-optimize_projections-w-requires t c =
     (omega (arith, c.decreases), input-before _ _ _ (rw (c.first_at-start.ensures, c.width_at-width.ensures) at c.in_ok-chosen.ensures) c.requires)
-
-pub rewrite_projection_given_requirements-returns-in_err-w : goal.rewrite_projection_given_requirements-returns-in_err-w
-rewrite_projection_given_requirements-returns-in_err-w t c =
-    let p = err_from_is_err_and c.from_residual-in_err-w.result c.from_residual-in_err-w.ensures.1 in rw p.1 (put_large _ _ _ (rw (c.first_at-start.ensures, c.width_at-width.ensures) at c.in_ok-chosen.ensures) _ c.in_err-w.ensures)
 
 pub rewrite_projection_given_requirements-put_list-requires-clause-fields_in : goal.rewrite_projection_given_requirements-put_list-requires-clause-fields_in
 rewrite_projection_given_requirements-put_list-requires-clause-fields_in t c =
@@ -164,8 +152,8 @@ rewrite_projection_given_requirements-put_list-requires-clause-fields_in t c =
 
 pub rewrite_projection_given_requirements-put_list-requires-clause-fields_for : goal.rewrite_projection_given_requirements-put_list-requires-clause-fields_for
 rewrite_projection_given_requirements-put_list-requires-clause-fields_for t c =
-    rw (c.first_at-start.ensures, c.width_at-width.ensures) (list-fields _ _ _ (rw (c.first_at-start.ensures, c.width_at-width.ensures) at c.in_ok-chosen.ensures) _ c.in_ok-w.ensures c.requires)
+    rw (c.first_at-start.ensures, c.width_at-width.ensures) (input_fields _ _ _ (rw (c.first_at-start.ensures, c.width_at-width.ensures) at c.in_ok-chosen.ensures) _ _ c.optimize_projections-w.ensures c.requires)
 
 pub rewrite_projection_given_requirements-returns : goal.rewrite_projection_given_requirements-returns
 rewrite_projection_given_requirements-returns t c =
-    put_after _ _ _ (rw (c.first_at-start.ensures, c.width_at-width.ensures) at c.in_ok-chosen.ensures) _ c.in_ok-w.ensures _ (rw (c.first_at-upper.ensures, c.width_at-wide.ensures, c.first_at-start.ensures, c.width_at-width.ensures) at c.put_list.ensures)
+    list_put _ _ _ (rw (c.first_at-start.ensures, c.width_at-width.ensures) at c.in_ok-chosen.ensures) _ _ c.optimize_projections-w.ensures _ (rw (c.first_at-upper.ensures, c.width_at-wide.ensures, c.first_at-start.ensures, c.width_at-width.ensures) at c.put_list.ensures)

@@ -11,7 +11,7 @@ returns-then-x-least c = refused c.args.width c.args.request.now _ c.loop-i.leas
 pub loop-i-preserved : goal.loop-i-preserved
 loop-i-preserved c =
     let e = c.from-x.ensures in
-    rw e (taken_more c.args.width c.args.request.now _ c.loop-i.least c.loop-i.i c.loop-i.invariant _ c.loop-i-test.true (rw e at c.if-x-least.false) (rw e at c.if-width-x.false) (rw e at c.insert.ensures))
+    rw e (taken_more c.args.width c.args.request.now _ c.loop-i.least c.loop-i.i c.loop-i.invariant _ c.loop-i-test.true (rw e at c.if-x-least.false) (rw e at c.if-width-x.false) (rw e at c.insert.ensures.holds))
 
 pub returns : goal.returns
 returns c = taken-all c.args.width c.args.request.now _ c.loop-i.least c.loop-i.i c.loop-i.invariant c.loop-i-test.false

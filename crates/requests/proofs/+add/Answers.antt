@@ -39,7 +39,7 @@ add-requires-in-Two-2 t c =
     (o.0, (o.1, c.requires.below))
 
 pub returns-in-Some : goal.returns-in-Some
-returns-in-Some t c = adds_found _ (rw c.in-Col.is at c.node_at.ensures) _ (sym (rw c.in-Some.is at c.first_fit.ensures)) c.insert.ensures
+returns-in-Some t c = adds_found _ (rw c.in-Col.is at c.node_at.ensures) _ (sym (rw c.in-Some.is at c.first_fit.ensures)) c.insert.ensures.holds
 
 pub returns-in_default : goal.returns-in_default
 returns-in_default t c = adds_absent _ (rw c.in-Col.is at c.node_at.ensures) (sym (rw c.in_default.is at c.first_fit.ensures))
