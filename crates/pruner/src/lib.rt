@@ -100,7 +100,8 @@ pub fn prune_in(
     ))
 }
 
-// The same in arrays that are made here, of ROWS and FIELDS numbers where these go by the file's version. Nothing is made for settings that are refused.
+// The same in arrays that are made here, of ROWS and FIELDS numbers where these go by the file's version. Nothing is made for settings that are refused;
+// but room is taken for it, so the entries test them before.
 fn prune_made<const ROWS: usize, const FIELDS: usize>(
     mode: u8,
     mask: u16,
@@ -151,12 +152,17 @@ fn prune_made<const ROWS: usize, const FIELDS: usize>(
     )
 }
 
+/// The plan file's plan, narrowed to the fields of the request (rising positions of the root's fields) and written to `out`; or a refusal.
+///
 /// The answer and every byte of `out` are those of document 01. In house mode, where nothing is refused, the plan that is written gives the rows of
 /// the plan that was read at each field that it keeps; where the file declares keys, on tables that keep them.
 pub fn prune(mode: u8, mask: u16, file: &[u8], request: &[u16], out: &mut [u8]) -> Answer
     ensures answer_is { AnswerIs (rules.answer mode mask file.now request.now out.old) result out.new }
     ensures promised { Promised mode mask file.now (λ width. request.now) out.old result.code }
 {
+    if let Err(refusal) = settings_of(mode, mask) {
+        return Answer::from(Err(refusal));
+    }
     if acceptance::is_narrow(file) {
         return Answer::from(prune_made::<278656, 65536>(mode, mask, false, file, request, out));
     }
@@ -168,6 +174,9 @@ pub fn prune_all(mode: u8, mask: u16, file: &[u8], out: &mut [u8]) -> Answer
     ensures answer_is { AnswerIs (rules.answer_all mode mask file.now out.old) result out.new }
     ensures promised { Promised mode mask file.now (λ width. iota 0 width) out.old result.code }
 {
+    if let Err(refusal) = settings_of(mode, mask) {
+        return Answer::from(Err(refusal));
+    }
     if acceptance::is_narrow(file) {
         return Answer::from(prune_made::<278656, 65536>(mode, mask, true, file, &[], out));
     }

@@ -364,7 +364,7 @@ pub fn part_size(part: Part, rows: &[u16], cells: &[u64], i: usize) -> Size
     }
 }
 
-// Is thing i taken, where all are, or those of a set?
+/// Is thing i taken, where all are, or those of a set?
 pub fn is_taken(taken: Option<&RequiredIndices>, i: usize) -> bool
     ensures { result ≡ takes (which_of (option_copied taken.entry)) i }
 {
