@@ -2,7 +2,8 @@
 //! differs is written, and then how many vectors of each code are as they should be.
 #![tactic(auto)]
 
-ghost use Rattle.std.specs.Prelude.{◌≡◌, ◌≤◌, length};
+ghost use Rattle.std.specs.Prelude.{IfOk, MatchBool, MatchResult, ◌≡◌, ◌≤◌, ◌⊎◌, length};
+ghost use Rattle.vector_runs.specs.Runs.{wanted_of, Agrees, Holds, Misses, ReadUpTo};
 
 use answers::Answer;
 use std::fmt::Display;
@@ -40,6 +41,7 @@ impl Display for Given {
 /// The code, length and place that stand in a line from field k on, the code below `codes`.
 pub fn wanted_at(line: &[u8], k: usize, codes: usize) -> Option<Wanted>
     requires { k ≤ 9 }
+    ensures { result ≡ wanted_of codes k line.now }
 {
     let code = vector_text::number_at(line, k)?;
     let length = vector_text::number_at(line, k + 1)?;
@@ -57,6 +59,7 @@ pub fn wanted_at(line: &[u8], k: usize, codes: usize) -> Option<Wanted>
 /// Does the buffer hold these letters, and behind them what it held before?
 pub fn holds<L: Fn(u8) -> u8>(out: &[u8], text: &[u8], letter: L) -> bool
     requires { L.IsAlwaysCallable letter }
+    ensures { MatchBool result (Holds (L.post letter) out.now text.now) (Misses (L.post letter) out.now text.now) }
 {
     if out.len() < text.len() {
         return false;
@@ -74,6 +77,7 @@ pub fn judge<L: Fn(u8) -> u8>(
     letter: L,
 ) -> Result<usize, Given>
     requires { L.IsAlwaysCallable letter }
+    ensures { MatchResult result (λ code. (code ≡ a.code) × Agrees a w (length text.now) × Holds (L.post letter) out.now text.now) (λ given. (given.0 ≡ a) × ((Agrees a w (length text.now) → ⊥) ⊎ Misses (L.post letter) out.now text.now)) }
 {
     let code = usize::from(a.code);
     let same = code == w.code && a.length == w.length && a.place == w.place;
@@ -158,14 +162,16 @@ fn input_buffer() -> [u8; INPUT]
 
 /// Runs every line of an input. `run` answers for a line with the code that the vector has and was given, or else with what it was given instead;
 /// with `None` where the line is no vector. `listed` says whether a code is listed of which so many vectors are as they should be.
-pub fn replay<G: Display + Drop, R: Fn(&[u8]) -> Option<Result<usize, G>>, L: Fn(u64) -> bool>(
-    rt: &impl Print,
-    input: &mut impl Read,
-    run: R,
-    listed: L,
-) -> io::Result<()>
+pub fn replay<
+    I: Read,
+    G: Display + Drop,
+    R: Fn(&[u8]) -> Option<Result<usize, G>>,
+    L: Fn(u64) -> bool,
+>(rt: &impl Print, input: &mut I, run: R, listed: L) -> io::Result<()>
     requires any_line { R.IsAlwaysCallable run }
     requires any_number { L.IsAlwaysCallable listed }
+    // The input is read whole, or the first 524,288 bytes of a longer one. What is printed, no clause can say.
+    ensures { IfOk result (λ _. ReadUpTo 524288 (I.remaining input.old) (I.remaining input.new)) }
 {
     let mut buffer = input_buffer();
     let n = input_bytes::read_full(input, &mut buffer)?;
