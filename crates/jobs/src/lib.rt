@@ -114,7 +114,7 @@ fn alias_job(r: RequiredIndices) -> Job
     through(r.with_projection_beneficial(), true)
 }
 
-/// A Distinct's job. The input has `width` fields.
+/// A Distinct's job. `input` has the input's fields.
 fn distinct_job(r: RequiredIndices, input: &Schema) -> Job
     requires { SchemaBelow input.now }
     ensures { (key : List ℕ) → OneJob distinct key (fields_of input.now) r result }
@@ -123,8 +123,8 @@ fn distinct_job(r: RequiredIndices, input: &Schema) -> Job
 }
 
 /// An Aggregate's job. Its `groups` group rows stand from row `first` on, its `aggregates` after them. All groups stay, unless the input's
-/// key is among them: then those that are neither asked for nor a key column go. The aggregates are taken at the request. The input's
-/// fields are the `width` from field `start` on.
+/// key is among them: then those that are neither asked for nor a key column go. The aggregates are taken at the request. `input` has the
+/// input's fields.
 fn aggregate_job(
     r: RequiredIndices,
     key: RequiredIndices,
@@ -233,8 +233,8 @@ fn join_kept(
     }
 }
 
-/// What a join asks of one side, whose fields are the `width` from field `start` on: its part of the request, and the columns that the
-/// references of both halves of the pairs and of the condition find there.
+/// What a join asks of one side, whose fields are those of `input`: its part of the request, and the columns that the references
+/// of both halves of the pairs and of the condition find there.
 fn side_ask(
     part: RequiredIndices,
     j: JoinNode,
@@ -255,7 +255,7 @@ fn side_ask(
     all.with_projection_beneficial()
 }
 
-/// A Join's job. Its left input's fields are the `width` from field `start` on, its right one's the `rwidth` from field `rstart` on.
+/// A Join's job. Its left input's fields are those of `left`, its right one's those of `right`.
 fn join_job(
     r: RequiredIndices,
     j: JoinNode,

@@ -72,8 +72,9 @@ pub struct Copied {
 }
 
 /// Copies the kept items of a list, in order, into the rows of `out_items` from `row` on, their expressions behind the nodes in use of
-/// `out_cells`. Its error is `Full` where there is no room for their expressions. The list's rows are well formed, and no index is past them. There is a row more than there are nodes, and no more rows are
-/// in use than nodes: as each item takes a node, there are always rows enough. Rust: `get_at_indices`.
+/// `out_cells`. Its error is `Full` where there is no room for their expressions. The list's rows are well formed, and no index is past them.
+/// There is a row more than there are nodes, and no more rows are in use than nodes: as each item takes a node, there are always rows enough.
+/// Rust: `get_at_indices`.
 pub fn copy_kept(
     list: &Items,
     kept: RequiredIndices,
