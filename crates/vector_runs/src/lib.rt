@@ -170,7 +170,7 @@ pub fn replay<
 >(rt: &impl Print, input: &mut I, run: R, listed: L) -> io::Result<()>
     requires any_line { R.IsAlwaysCallable run }
     requires any_number { L.IsAlwaysCallable listed }
-    // The input is read whole, or the first 524,288 bytes of a longer one. What is printed, no clause can say.
+    // Of an input of which it is known what it has left: this is read whole, or its first 524,288 bytes. What is printed, no clause can say.
     ensures { IfOk result (λ _. ReadUpTo 524288 (I.remaining input.old) (I.remaining input.new)) }
 {
     let mut buffer = input_buffer();
